@@ -1,0 +1,4 @@
+pub mod Count
+pub mod Rules
+pub mod Scalar
+pub mod formers

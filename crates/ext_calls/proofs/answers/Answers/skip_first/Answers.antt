@@ -1,0 +1,7 @@
+-- Past one more of the list stands what is past the first of what was left.
+use Rattle.std.proofs.Common.{sym}
+use Rattle.std.proofs.lemmas.List.{drop-drop}
+use Rattle.ext_calls.proofs.answers.Answers.skip_first.Goals as goal
+
+pub returns-then-self-len : goal.returns-then-self-len
+returns-then-self-len c = rw (← c.self.view_is) (sym (drop-drop 1 c.self.inside.next c.self.inside.list.items))

@@ -1,0 +1,152 @@
+-- Names that the job doesn't write hold what they held.
+use Rattle.std.proofs.Common.{◌≡◌, ℕ, zero, suc, ◌+◌, ◌⊎◌, inl, inr, Bool, true, false, ◌||◌, cond, List, [], ◌∷◌, ◌++◌, map, take, Option, Some, None, refl, sym, ap, subst, ◌∙◌, slice_get, bytes_eq, codes}
+use Rattle.std.specs.List.{list_any}
+use Rattle.shelf.specs.declared.file.File.{File}
+use Rattle.shelf.specs.Shelf.{ShelfState, with_file, without_file}
+use Rattle.front.specs.declared.tree.Crate.{Crate}
+use Rattle.front.specs.declared.tree.Module.{Module}
+use Rattle.front.specs.Names.{module_name}
+use Rattle.front.specs.Text.{text_of, file_of, module_file}
+use Rattle.front.specs.Program.{Program}
+use Rattle.front.specs.Items.{Outline, outline_of, outlines_from, items_in, items_of, head_of}
+use Rattle.front.specs.Job.{Job, transpile}
+use Rattle.front.specs.Files.{Held, WhereTold, units_of, unit_and, files_in, file_in, name_in, with_files, written_names}
+use Rattle.front.specs.Report.{Ending, done, refused, usage, cannot_read, cannot_write, memory}
+use Rattle.front.specs.Transpile.{Translates, WhereTranslated, IsLeftAt, Leaves}
+use Rattle.front.specs.Run.{KeepsOthers, held_under, names_written}
+use Rattle.front.proofs.RunLaws.{where_map}
+
+-- ---- the names of the files that are written
+
+unit_parts : (name : List ℕ) (o : Option (List ℕ)) (r : Option (List File)) (units : List File) → unit_and name o r ≡ Some units → (bytes : List ℕ) × (others : List File) × (r ≡ Some others) × (units ≡ file_of name bytes ∷ others)
+unit_parts name None r units e = cc
+unit_parts name (Some bytes) None units e = cc
+unit_parts name (Some bytes) (Some others) units e = (bytes, others, refl, cc)
+
+-- units have the names under which they are held
+pub unit_names : (held : List ℕ → Option (List ℕ)) (names : List (List ℕ)) (units : List File) → units_of held names ≡ Some units → map (λ (unit : File). unit.name) units ≡ names
+unit_names held [] units e =
+    let empty : units ≡ [] = cc in
+    ap (map (λ (unit : File). unit.name)) empty
+unit_names held (name ∷ names) units e =
+    let parts = unit_parts name (held name) (units_of held names) units e in
+    ap (map (λ (unit : File). unit.name)) parts.3 ∙ ap (λ ns. name ∷ ns) (unit_names held names parts.1 parts.2)
+
+outline_names : (modules : List Module) → map (λ (o : Outline). o.name) (map (λ (unit : Module). record { name = unit.name; heads = map head_of unit.items }) modules) ≡ map (λ (unit : Module). unit.name) modules
+outline_names [] = refl
+outline_names (unit ∷ units) = ap (λ ns. unit.name ∷ ns) (outline_names units)
+
+outlines_names : (program : Program) (k : ℕ) (names : List (List ℕ)) → map (λ (o : Outline). o.name) (outlines_from program k names) ≡ map module_name names
+outlines_names program k [] = refl
+outlines_names program k (name ∷ names) = ap (λ ns. module_name name ∷ ns) (outlines_names program (k + 1) names)
+
+-- the modules of a right translation are named after the files of their units
+pub module_names : (whole : Crate) (program : Program) (names : List (List ℕ)) → items_in whole ≡ items_of program names → map (λ (unit : Module). unit.name) whole.modules ≡ map module_name names
+module_names whole program names e =
+    sym (outline_names whole.modules) ∙ ap (map (λ (o : Outline). o.name)) e ∙ outlines_names program 0 names
+
+-- the name of a module's file, under a directory
+abbrev rs_name : List ℕ → List ℕ → List ℕ
+rs_name directory name = name_in directory (codes "src/" ++ (name ++ codes ".rs"))
+
+module_file_names : (directory : List ℕ) (modules : List Module) (rest : List File) → map (λ (f : File). f.name) (map (file_in directory) (map module_file modules ++ rest)) ≡ map (rs_name directory) (map (λ (unit : Module). unit.name) modules) ++ map (λ (f : File). f.name) (map (file_in directory) rest)
+module_file_names directory [] rest = refl
+module_file_names directory (unit ∷ units) rest = ap (λ ns. rs_name directory unit.name ∷ ns) (module_file_names directory units rest)
+
+written_map : (directory : List ℕ) (names : List (List ℕ)) → map (rs_name directory) (map module_name names) ≡ map (λ name. rs_name directory (module_name name)) names
+written_map directory [] = refl
+written_map directory (name ∷ names) = ap (λ ns. rs_name directory (module_name name) ∷ ns) (written_map directory names)
+
+-- the files of a right translation have the names that the job writes
+pub file_names : (directory : List ℕ) (names : List (List ℕ)) (units : List File) (whole : Crate) (program : Program) → map (λ (unit : File). unit.name) units ≡ names → items_in whole ≡ items_of program (map (λ (unit : File). unit.name) units) → map (λ (f : File). f.name) (files_in directory (text_of whole)) ≡ written_names directory names
+file_names directory names units whole program named items =
+    let last = name_in directory (codes "src/main.rs") ∷ name_in directory (codes "Cargo.toml") ∷ [] in
+    let modules = module_names whole program names (items ∙ ap (items_of program) named) in
+    module_file_names directory whole.modules (file_of (codes "src/main.rs") _ ∷ file_of (codes "Cargo.toml") _ ∷ [])
+    ∙ ap (λ ns. map (rs_name directory) ns ++ last) modules
+    ∙ ap (λ ns. ns ++ last) (written_map directory names)
+
+-- ---- what is held under another name
+
+or_false : (a b : Bool) → (a || b) ≡ false → (a ≡ false) × (b ≡ false)
+or_false true b e = cc
+or_false false b e = (refl, e)
+
+under_with : (name bytes asked : List ℕ) (h : Held) → bytes_eq name asked ≡ false → held_under asked (with_file name bytes h) ≡ held_under asked h
+under_with name bytes asked None e = refl
+under_with name bytes asked (Some held) e = ap (λ t. cond t (Some bytes) (held asked)) e
+
+under_without : (name asked : List ℕ) (h : Held) → bytes_eq name asked ≡ false → held_under asked (without_file name h) ≡ held_under asked h
+under_without name asked None e = refl
+under_without name asked (Some held) e = ap (λ t. cond t None (held asked)) e
+
+pub under_files : (files : List File) (asked : List ℕ) (h : Held) → list_any (λ name. bytes_eq name asked) (map (λ (f : File). f.name) files) ≡ false → held_under asked (with_files files h) ≡ held_under asked h
+under_files [] asked h e = refl
+under_files (file ∷ files) asked h e =
+    let parts = or_false (bytes_eq file.name asked) (list_any (λ name. bytes_eq name asked) (map (λ (f : File). f.name) files)) e in
+    under_files files asked (with_file file.name file.bytes h) parts.1 ∙ under_with file.name file.bytes asked h parts.0
+
+-- a part of the files has no other names
+take_lacks : (files : List File) (asked : List ℕ) (k : ℕ) → list_any (λ name. bytes_eq name asked) (map (λ (f : File). f.name) files) ≡ false → list_any (λ name. bytes_eq name asked) (map (λ (f : File). f.name) (take k files)) ≡ false
+take_lacks files asked zero e = refl
+take_lacks [] asked (suc k) e = refl
+take_lacks (file ∷ files) asked (suc k) e =
+    let parts = or_false (bytes_eq file.name asked) (list_any (λ name. bytes_eq name asked) (map (λ (f : File). f.name) files)) e in
+    ap (λ t. t || list_any (λ name. bytes_eq name asked) (map (λ (f : File). f.name) (take k files))) parts.0 ∙ take_lacks files asked k parts.1
+
+-- one of the names isn't one that none of them equals
+pub lacks_at : (names : List (List ℕ)) (asked name : List ℕ) (k : ℕ) → list_any (λ other. bytes_eq other asked) names ≡ false → slice_get names k ≡ Some name → bytes_eq name asked ≡ false
+lacks_at [] asked name zero e place = cc
+lacks_at [] asked name (suc k) e place = cc
+lacks_at (first ∷ names) asked name zero e place =
+    let parts = or_false (bytes_eq first asked) (list_any (λ other. bytes_eq other asked) names) e in
+    let same : first ≡ name = cc in
+    ap (λ n. bytes_eq n asked) (sym same) ∙ parts.0
+lacks_at (first ∷ names) asked name (suc k) e place =
+    let parts = or_false (bytes_eq first asked) (list_any (λ other. bytes_eq other asked) names) e in
+    lacks_at names asked name k parts.1 place
+
+-- ---- the clause
+
+abbrev Keeps : List (List ℕ) → Held → (List ℕ → Option (List ℕ)) → Type 0
+Keeps names h held = (asked : List ℕ) → list_any (λ name. bytes_eq name asked) names ≡ false → held_under asked h ≡ held asked
+
+keeps_same : (names : List (List ℕ)) (before after : Held) → after ≡ before → WhereTold before (Keeps names after)
+keeps_same names None after e = tt
+keeps_same names (Some held) after e = λ asked lacking. ap (held_under asked) e
+
+keeps_done : (directory : List ℕ) (names : List (List ℕ)) (s t : ShelfState) → WhereTranslated directory names s (λ files. t.held ≡ with_files files s.held) → WhereTold s.held (Keeps (written_names directory names) t.held)
+keeps_done directory names s t leaves = where_map _ (Keeps (written_names directory names) t.held) s.held (λ held told made asked lacking.
+    let files = files_in directory (text_of made.1) in
+    let named = file_names directory names made.0 made.1 made.3.program (unit_names held names made.0 made.2) made.3.items in
+    let lacks = ap (list_any (λ name. bytes_eq name asked)) named ∙ lacking in
+    ap (held_under asked) made.4 ∙ under_files files asked s.held lacks ∙ ap (held_under asked) told) leaves
+
+keeps_left : (directory : List ℕ) (names : List (List ℕ)) (k : ℕ) (name : List ℕ) (s t : ShelfState) → IsLeftAt directory names k name s t → WhereTold s.held (Keeps (written_names directory names) t.held)
+keeps_left directory names k name s t left = where_map _ (Keeps (written_names directory names) t.held) s.held (λ held told made asked lacking.
+    let files = files_in directory (text_of made.1) in
+    let named = file_names directory names made.0 made.1 made.3.program (unit_names held names made.0 made.2) made.3.items in
+    let lacks = take_lacks files asked k (ap (list_any (λ other. bytes_eq other asked)) named ∙ lacking) in
+    let differs = lacks_at (written_names directory names) asked name k lacking left.named in
+    sym (under_without name asked t.held differs)
+    ∙ ap (held_under asked) made.4
+    ∙ under_without name asked (with_files (take k files) s.held) differs
+    ∙ under_files (take k files) asked s.held lacks
+    ∙ ap (held_under asked) told) left.left
+
+pub keeps_others : (job : Option Job) (ending : Ending) (s t : ShelfState) → Leaves job ending s t → WhereTold s.held (Keeps (names_written job) t.held)
+keeps_others None done s t leaves = absurd leaves
+keeps_others None (refused file refusal) s t leaves = absurd leaves
+keeps_others None usage s t leaves = keeps_same [] s.held t.held (ap (λ (state : ShelfState). state.held) leaves)
+keeps_others None (cannot_read name) s t leaves = absurd leaves
+keeps_others None (cannot_write name) s t leaves = absurd leaves
+keeps_others None memory s t leaves = absurd leaves
+keeps_others (Some (transpile directory names)) done s t leaves = keeps_done directory names s t leaves
+keeps_others (Some (transpile directory names)) (refused file refusal) s t leaves = keeps_same (written_names directory names) s.held t.held leaves.kept
+keeps_others (Some (transpile directory names)) usage s t leaves = absurd leaves
+keeps_others (Some (transpile directory names)) (cannot_read name) s t leaves = keeps_same (written_names directory names) s.held t.held leaves.kept
+keeps_others (Some (transpile directory names)) (cannot_write name) s t leaves = keeps_left directory names leaves.left.0 name s t leaves.left.1
+keeps_others (Some (transpile directory names)) memory s t leaves = elim leaves [
+  | inl kept ↦ keeps_same (written_names directory names) s.held t.held kept
+  | inr left ↦ keeps_left directory names left.0 left.1 s t left.2
+]

@@ -1,0 +1,47 @@
+-- The first rule of the profile that a list of units breaks.
+use Rattle.std.specs.Prelude.{◌≡◌, ℕ, ◌<◌, ◌≤◌, ◌⊎◌, List, [], ◌∷◌, take, length, Option, Some, None, All, slice_get}
+use Rattle.cr_base.specs.declared.refusal.Refusal.{Refusal}
+use Rattle.cr_base.specs.declared.rule.Rule.{Rule}
+use Rattle.cr_base.specs.declared.rule.Rule.TheVariants.{M1, N1}
+use Rattle.shelf.specs.declared.file.File.{File}
+use Rattle.front.specs.Names.{module_name, stem_of}
+use Rattle.front.specs.Unit.{IsReturnUnit}
+use Rattle.front.specs.Program.{Program, program_returning}
+
+-- a unit has at most 1,048,576 bytes
+abbrev pub IsSmall : File → Type 0
+IsSmall unit = length unit.bytes ≤ 1048576
+
+-- a unit that is translated today: its text returns a number, and its module is named by the stem of its
+-- file alone
+abbrev pub IsBuiltUnit : File → Type 0
+IsBuiltUnit unit = (module_name unit.name ≡ stem_of unit.name) × ((n : ℕ) × IsReturnUnit unit.bytes n)
+
+-- the lists of units that are translated today
+abbrev pub IsBuilt : List File → Type 0
+IsBuilt (unit ∷ []) = IsBuiltUnit unit
+IsBuilt [] = ⊥
+IsBuilt (unit ∷ other ∷ others) = ⊥
+
+-- M1: unit k is the first that is too large
+pub record BreaksM1 (units : List File) (refusal : Refusal) : Type 0 where
+  pub rule : refusal.rule ≡ M1
+  pub unit : (file : File) × (slice_get units refusal.unit ≡ Some file) × (1048576 < length file.bytes)
+  pub before : All IsSmall (take refusal.unit units)
+
+-- N1, which stands for what isn't built yet: it comes after every other rule, with the first unit and line 1
+pub record BreaksN1 (units : List File) (refusal : Refusal) : Type 0 where
+  pub refused : refusal ≡ record { rule = N1; unit = 0; line = 1 }
+  pub small : All IsSmall units
+  pub not_built : ¬ IsBuilt units
+
+-- the first rule that the units break, with its unit and line: units come in the order given, and inside
+-- a unit M1 comes first
+abbrev pub FirstBroken : List File → Refusal → Type 0
+FirstBroken units refusal = BreaksM1 units refusal ⊎ BreaksN1 units refusal
+
+-- the units break no rule, and this is their typed and linked program
+pub record CoreOf (units : List File) (program : Program) : Type 0 where
+  pub small : All IsSmall units
+  pub built : IsBuilt units
+  pub core : (n : ℕ) × All (λ unit. IsReturnUnit unit.bytes n) units × (program ≡ program_returning n)

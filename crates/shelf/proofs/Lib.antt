@@ -1,0 +1,4 @@
+pub mod FaultLemmas
+mod FileLemmas
+pub mod HeldLemmas
+pub mod SinkLemmas

@@ -1,0 +1,11 @@
+pub mod DiskShelf
+pub mod Fault
+pub mod Files
+pub mod MemShelf
+pub mod MemSink
+pub mod Reading
+pub mod Shelf
+pub mod Sink
+pub mod StdSink
+pub mod SureShelf
+pub mod SureSink

@@ -1,0 +1,132 @@
+#!/usr/bin/env bash
+# Tests that need tools from outside the proof kit: gcc, and cargo or rustc. Each skips by name what isn't
+# there. The program is run on the first unit in a fresh folder, the crate that it writes is built and run,
+# and its exit status is compared with that of gcc's build of the same unit.
+set -u
+top=$(cd "$(dirname "$0")/.." && pwd)
+work=$(mktemp -d) || exit 1
+trap 'rm -rf "$work"' EXIT
+passed=0
+failed=0
+skipped=0
+
+ok() { passed=$((passed + 1)); echo "ok: $1"; }
+bad() { failed=$((failed + 1)); echo "FAILED: $1"; }
+skip() { skipped=$((skipped + 1)); echo "skipped: $1"; }
+
+# The program, built by the kit over what it has proved.
+program="$top/crates/c2rs/out/c2rs"
+(cd "$top/crates/c2rs" && rt run -- >"$work/build.log" 2>&1)
+if [ ! -x "$program" ]; then
+  echo "FAILED: the program wasn't built"
+  tail -5 "$work/build.log"
+  exit 1
+fi
+
+# The exit status of a unit, as gcc builds it.
+status_by_gcc() {
+  gcc -std=c99 -o "$work/by_gcc" "$1" || return 255
+  "$work/by_gcc"
+}
+
+# Builds the crate in a folder, by cargo or by rustc, and says where the program is.
+build_crate() {
+  if command -v cargo >/dev/null 2>&1; then
+    (cd "$1" && cargo build --offline --quiet >/dev/null 2>&1) || return 1
+    built="$1/target/debug/translated"
+  else
+    rustc --edition 2021 -o "$1/translated" "$1/src/main.rs" || return 1
+    built="$1/translated"
+  fi
+}
+
+# one NAME: translates examples/NAME.c and compares the two exit statuses.
+one() {
+  local name=$1
+  local out="$work/$name"
+  cp "$top/examples/$name.c" "$work/"
+  if ! (cd "$work" && "$program" transpile -o "$name" "$name.c"); then
+    bad "$name.c is translated"
+    return
+  fi
+  ok "$name.c is translated"
+  if ! command -v cargo >/dev/null 2>&1 && ! command -v rustc >/dev/null 2>&1; then
+    skip "the crate of $name.c is built (neither cargo nor rustc is there)"
+    return
+  fi
+  if ! build_crate "$out"; then
+    bad "the crate of $name.c is built"
+    return
+  fi
+  ok "the crate of $name.c is built"
+  "$built"
+  local got=$?
+  if ! command -v gcc >/dev/null 2>&1; then
+    skip "the status of $name.c by gcc (gcc isn't there)"
+    return
+  fi
+  status_by_gcc "$work/$name.c"
+  local want=$?
+  if [ "$got" -eq "$want" ]; then
+    ok "the crate of $name.c ends with $want, as gcc's program does"
+  else
+    bad "the crate of $name.c ends with $got, and gcc's program with $want"
+  fi
+}
+
+# report STATUS TEXT WORD..: the program ends with this status and this line on standard error.
+report() {
+  local status=$1 text=$2
+  shift 2
+  (cd "$work" && "$program" "$@" >"$work/stdout" 2>"$work/stderr")
+  local got=$?
+  if [ "$got" -eq "$status" ] && [ ! -s "$work/stdout" ] && [ "$(cat "$work/stderr")" = "$text" ]; then
+    ok "status $status: $text"
+  else
+    bad "status $status: $text (got $got: $(cat "$work/stderr"))"
+  fi
+}
+
+# Each request for memory of a translation is refused in turn: the answer is that with ample memory, or want of
+# memory, and then `Cargo.toml` wasn't put.
+refused_in_turn() {
+  if ! command -v gcc >/dev/null 2>&1; then
+    skip "requests for memory refused in turn (gcc isn't there)"
+    return
+  fi
+  gcc -shared -fPIC -o "$work/refused.so" "$top/tests/refuse_memory.c" -ldl || { bad "the refusing allocator is built"; return; }
+  local number wanting=0
+  for number in $(seq 1 100); do
+    rm -rf "$work/turn"
+    (cd "$work" && REFUSED=$number LD_PRELOAD="$work/refused.so" "$program" transpile -o turn answer.c >"$work/stdout" 2>"$work/stderr")
+    local got=$?
+    if [ "$got" -eq 10 ] && [ "$(cat "$work/stderr")" = 'c2rs: out of memory' ] && [ ! -e "$work/turn/Cargo.toml" ]; then
+      wanting=$((wanting + 1))
+    elif [ "$got" -ne 0 ] || ! diff -r -x target -x Cargo.lock "$work/answer" "$work/turn" >/dev/null; then
+      bad "request $number for memory is refused (got $got: $(cat "$work/stderr"))"
+      return
+    fi
+  done
+  if [ "$wanting" -eq 0 ]; then
+    bad "no refused request for memory was noticed"
+  else
+    ok "100 requests for memory are refused in turn, of which $wanting end the job"
+  fi
+}
+
+one answer
+refused_in_turn
+usage='c2rs: usage: transpile -o DIR FILE..'
+report 2 "$usage"
+report 2 "$usage" transpile -o out -o out answer.c
+report 2 "$usage" transpile -o out "$(printf '\377.c')"
+report 3 'c2rs: cannot read no.c' transpile -o out no.c
+printf 'int main(void) { return 2147483648; }' >"$work/a.c"
+report 1 'a.c:1: N1: not built' transpile -o out a.c
+head -c 1048577 /dev/zero | tr '\0' ' ' >"$work/large.c"
+report 1 'large.c: M1: unit too large' transpile -o out large.c
+touch "$work/file"
+report 4 'c2rs: cannot write file/src/answer.rs' transpile -o file answer.c
+
+echo "outside: $passed passed, $failed failed, $skipped skipped"
+[ "$failed" -eq 0 ]
