@@ -1,15 +1,14 @@
 -- The crate that is written for one return is a right translation of it.
-use Rattle.std.proofs.Common.{◌≡◌, ℕ, zero, suc, ◌+◌, ◌<◌, ◌≤◌, ◌^◌, Bool, true, false, ◌&&◌, ◌⊎◌, inl, inr, IsTrue, ℤ, pos, List, [], ◌∷◌, Option, Some, None, refl, sym, ap, subst, ◌∙◌, arith, cond, codes, lit≤, lit<}
-use Rattle.std.proofs.lemmas.Int.{ints}
+use Rattle.std.proofs.Common.{◌≡◌, ℕ, zero, suc, ◌≤◌, true, ◌&&◌, inr, pos, List, [], ◌∷◌, Some, None, refl, sym, ap, subst, arith, cond, codes, lit≤, lit<}
 use Rattle.std.proofs.lemmas.Bool.Decides.{nat_tests}
-use Rattle.front.specs.Names.{module_name, stem_of}
-use Rattle.front.specs.Program.{Program, program_returning}
+use Rattle.front.specs.Names.{module_name}
+use Rattle.front.specs.Program.{program_returning}
 use Rattle.front.specs.Outside.{Outside}
-use Rattle.front.specs.CRun.{c_run, c_state, c_step, CState, at_end, progress_at, leftmost}
+use Rattle.front.specs.CRun.{c_state, c_step, CState, at_end, progress_at, leftmost}
 use Rattle.front.specs.RustRun.{rs_run}
-use Rattle.front.specs.Same.{IsSafe, GetsAsFar, BehavesAs, IsUndefined, IsWrong, Agrees, Reaches}
+use Rattle.front.specs.Same.{IsSafe, GetsAsFar, BehavesAs, Reaches}
 use Rattle.front.specs.Translation.{crate_of}
-use Rattle.front.specs.Typing.{IsValid, WellTyped, is_module_name, literal_fits, placed_in}
+use Rattle.front.specs.Typing.{WellTyped, is_module_name, literal_fits, placed_in}
 use Rattle.front.specs.Items.{Outline, function, items_in, items_of}
 use Rattle.front.specs.declared.tree.RTy.TheVariants.{I32}
 

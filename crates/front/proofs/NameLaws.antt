@@ -1,11 +1,11 @@
 -- What stands behind the last byte of a kind, and when a stem names its module.
-use Rattle.std.proofs.Common.{◌≡◌, ◌≢◌, ℕ, zero, suc, ◌+◌, ◌-◌, ◌<◌, ◌≤◌, Bool, true, false, not, cond, ◌&&◌, ◌||◌, ◌==◌, nat_lt, IsTrue, List, [], ◌∷◌, ◌++◌, map, length, get_or, take, drop, Option, Some, None, ◌↔◌, refl, sym, ap, subst, ◌∙◌, arith, rules, length-append}
+use Rattle.std.proofs.Common.{◌≡◌, ◌≢◌, ℕ, suc, ◌+◌, ◌-◌, ◌<◌, ◌≤◌, Bool, true, false, not, cond, ◌&&◌, ◌==◌, nat_lt, List, [], ◌∷◌, ◌++◌, length, get_or, take, drop, Option, Some, None, refl, sym, ap, subst, ◌∙◌, arith, length-append}
 use Rattle.std.specs.Option.{MatchOption}
-use Rattle.std.specs.List.{suffix_len, after_last, list_all, list_any}
-use Rattle.std.proofs.lemmas.List.Sums.{suffix_len_is, suffix_len-le-length}
+use Rattle.std.specs.List.{suffix_len, after_last, list_all}
+use Rattle.std.proofs.lemmas.List.Sums.{suffix_len_is}
 use Rattle.std.proofs.lemmas.Bool.Decides.{nat_tests}
 use Rattle.std.proofs.lemmas.Grind.{common_steps}
-use Rattle.front.specs.Names.{is_word_byte, is_digit, is_identifier, is_kept_word, lacks_start, word_bytes_of, identifier_of, named_by, up_to_dot, without_extension}
+use Rattle.front.specs.Names.{is_word_byte, is_identifier, is_kept_word, lacks_start, word_bytes_of, identifier_of, named_by, up_to_dot, without_extension}
 
 -- where the last byte equal to c stands at k, as many bytes follow it as differ from c at the end
 pub suffix_at : (c : ℕ) (bs : List ℕ) (k : ℕ) → (k < length bs) × (get_or bs k 0 ≡ c) × ((i : ℕ) → k < i → i < length bs → get_or bs i 0 ≢ c) → suffix_len (λ b. not (b == c)) bs ≡ length bs - (k + 1)

@@ -1,5 +1,5 @@
 -- Names that the job doesn't write hold what they held.
-use Rattle.std.proofs.Common.{◌≡◌, ℕ, zero, suc, ◌+◌, ◌⊎◌, inl, inr, Bool, true, false, ◌||◌, cond, List, [], ◌∷◌, ◌++◌, map, take, Option, Some, None, refl, sym, ap, subst, ◌∙◌, slice_get, bytes_eq, codes}
+use Rattle.std.proofs.Common.{◌≡◌, ℕ, zero, suc, ◌+◌, inl, inr, Bool, true, false, ◌||◌, cond, List, [], ◌∷◌, ◌++◌, map, take, Option, Some, None, refl, sym, ap, ◌∙◌, slice_get, bytes_eq, codes}
 use Rattle.std.specs.List.{list_any}
 use Rattle.shelf.specs.declared.file.File.{File}
 use Rattle.shelf.specs.Shelf.{ShelfState, with_file, without_file}
@@ -8,12 +8,12 @@ use Rattle.front.specs.declared.tree.Module.{Module}
 use Rattle.front.specs.Names.{module_name}
 use Rattle.front.specs.Text.{text_of, file_of, module_file}
 use Rattle.front.specs.Program.{Program}
-use Rattle.front.specs.Items.{Outline, outline_of, outlines_from, items_in, items_of, head_of}
+use Rattle.front.specs.Items.{Outline, outlines_from, items_in, items_of, head_of}
 use Rattle.front.specs.Job.{Job, transpile}
 use Rattle.front.specs.Files.{Held, WhereTold, units_of, unit_and, files_in, file_in, name_in, with_files, written_names}
 use Rattle.front.specs.Report.{Ending, done, refused, usage, cannot_read, cannot_write, memory}
-use Rattle.front.specs.Transpile.{Translates, WhereTranslated, IsLeftAt, Leaves}
-use Rattle.front.specs.Run.{KeepsOthers, held_under, names_written}
+use Rattle.front.specs.Transpile.{WhereTranslated, IsLeftAt, Leaves}
+use Rattle.front.specs.Run.{held_under, names_written}
 use Rattle.front.proofs.RunLaws.{where_map}
 
 -- ---- the names of the files that are written

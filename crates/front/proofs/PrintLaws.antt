@@ -1,5 +1,5 @@
 -- Two files behind those of the modules.
-use Rattle.std.proofs.Common.{◌≡◌, List, [], ◌∷◌, ◌++◌, sym, ap, ◌∙◌, append_assoc}
+use Rattle.std.proofs.Common.{◌≡◌, List, [], ◌∷◌, ◌++◌, ap, ◌∙◌, append_assoc}
 
 pub two_more : {X : Type 0} → (all some files : List X) (f g f' g' : X) → all ≡ some ++ g ∷ [] → some ≡ files ++ f ∷ [] → f ≡ f' → g ≡ g' → all ≡ files ++ (f' ∷ g' ∷ [])
 two_more all some files f g f' g' a s e d =

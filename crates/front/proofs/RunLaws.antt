@@ -1,7 +1,5 @@
 -- Each clause of the top call, from how the job ended and how that was told.
-use Rattle.std.proofs.Common.{◌≡◌, ◌≢◌, ℕ, zero, suc, ◌+◌, ◌<◌, ◌≤◌, ◌⊎◌, inl, inr, Bool, true, false, ◌&&◌, ◌||◌, IsTrue, List, [], ◌∷◌, ◌++◌, map, take, length, get_or, Option, Some, None, refl, sym, ap, subst, ◌∙◌, arith, slice_get, bytes_eq, codes}
-use Rattle.std.specs.List.{list_any}
-use Rattle.std.proofs.lemmas.Bool.Decides.{nat_tests}
+use Rattle.std.proofs.Common.{◌≡◌, ◌≢◌, ℕ, ◌≤◌, ◌⊎◌, inl, inr, true, List, take, length, get_or, Option, Some, None, refl, sym, ap, subst, ◌∙◌, arith}
 use Rattle.std.proofs.lemmas.Option.{slice_get_within, get_or_from_slice_get}
 use Rattle.cr_base.specs.Count.{Rose}
 use Rattle.cr_base.specs.declared.refusal.Refusal.{Refusal}
@@ -14,11 +12,11 @@ use Rattle.front.specs.Text.{text_of}
 use Rattle.front.specs.declared.tree.Crate.{Crate}
 use Rattle.front.specs.Text.{text_of}
 use Rattle.front.specs.Program.{Program}
-use Rattle.front.specs.Refusals.{FirstBroken, BreaksM1, BreaksN1, CoreOf, IsSmall}
-use Rattle.front.specs.Files.{Held, WhereTold, units_of, files_in, with_files, written_names}
+use Rattle.front.specs.Refusals.{FirstBroken, CoreOf}
+use Rattle.front.specs.Files.{Held, WhereTold, units_of, files_in, with_files}
 use Rattle.front.specs.Report.{Ending, done, refused, usage, cannot_read, cannot_write, memory, IsTold, IsReported, WriteFailed, ReportsMemory, report_of, status_of, refusal_report, usage_report, unread_report, unwritten_report}
 use Rattle.front.specs.Transpile.{IsDone, IsRefused, IsUnread, IsUnwritten, Translates, Leaves}
-use Rattle.front.specs.Run.{is_status, ForJob, Ran, Translated, RefusedUnits, RefusedWords, CannotRead, CannotWrite, Unreported, OutOfMemory, Yields, HoldsUnits, BreaksRule, BreaksNone, LacksFile, KeepsOthers}
+use Rattle.front.specs.Run.{is_status, ForJob, Yields}
 
 four_ten : ◌≢◌ {A = ℕ} 4 10
 four_ten e = omega arith

@@ -1,28 +1,24 @@
 -- What the job leaves, from what its steps leave.
-use Rattle.std.proofs.Common.{◌≡◌, ℕ, zero, suc, ◌+◌, ◌<◌, ◌≤◌, ◌⊎◌, inl, inr, true, ◌&&◌, not, List, [], ◌∷◌, ◌++◌, map, take, length, Option, Some, None, refl, sym, ap, subst, ◌∙◌, arith, IsSome, slice_get, codes, option_map}
+use Rattle.std.proofs.Common.{◌≡◌, ℕ, zero, suc, ◌≤◌, inl, inr, List, [], ◌∷◌, ◌++◌, map, take, length, Option, Some, None, refl, sym, ap, subst, ◌∙◌, arith, slice_get, codes, option_map}
 use Rattle.std.specs.Prelude.{All}
 use Rattle.std.specs.Option.{MatchOption}
 use Rattle.std.proofs.lemmas.Option.{slice_get-map}
-use Rattle.cr_base.specs.Count.{Rose}
 use Rattle.cr_base.specs.declared.refusal.Refusal.{Refusal}
 use Rattle.cr_base.specs.declared.rule.Rule.TheVariants.{M1, N1}
-use Rattle.shelf.specs.declared.called.Kind.TheVariants.{Get, Put}
-use Rattle.shelf.specs.declared.fault.ShelfFault.TheVariants.{Failed, Memory}
 use Rattle.shelf.specs.declared.file.File.{File}
-use Rattle.shelf.specs.declared.file.Got.{Got}
 use Rattle.shelf.specs.declared.file.Got.TheVariants.{Bytes, TooLarge}
-use Rattle.shelf.specs.Shelf.{ShelfState, IsGot, IsGotOf, without_file, call_of}
+use Rattle.shelf.specs.Shelf.{ShelfState, IsGot, IsGotOf, without_file}
 use Rattle.shelf.proofs.FaultLemmas.{rose_after}
-use Rattle.front.specs.Names.{module_name, stem_of, named_by, is_identifier, is_kept_word}
+use Rattle.front.specs.Names.{module_name, stem_of, named_by}
 use Rattle.front.specs.Unit.{IsReturnUnit}
 use Rattle.front.specs.Program.{program_returning}
-use Rattle.front.specs.Refusals.{IsSmall, IsBuiltUnit, IsBuilt, FirstBroken, CoreOf}
+use Rattle.front.specs.Refusals.{IsSmall, IsBuiltUnit, FirstBroken}
 use Rattle.front.specs.Files.{Held, WhereTold, units_of, unit_and, files_in, name_in, with_files, written_names}
 use Rattle.front.specs.Text.{file_of, text_of}
 use Rattle.front.specs.Translation.{crate_of}
 use Rattle.front.specs.Report.{Ending, done, refused, usage, cannot_read, cannot_write, memory}
-use Rattle.front.specs.Puts.{Puts, PutsAll, StopsIn}
-use Rattle.front.specs.Transpile.{Translates, WhereTranslated, IsTranspiled, IsRefused, IsUnwritten, IsLeftAt}
+use Rattle.front.specs.Puts.{Puts}
+use Rattle.front.specs.Transpile.{Translates, IsTranspiled, IsRefused, IsUnwritten, IsLeftAt}
 use Rattle.front.specs.declared.tree.Crate.{Crate}
 use Rattle.front.proofs.NameLaws.{named_only}
 use Rattle.front.proofs.MeaningLaws.{behaves, well_typed, has_items}

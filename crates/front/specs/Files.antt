@@ -1,7 +1,7 @@
 -- The files that a job reads and writes.
-use Rattle.std.specs.Prelude.{◌≡◌, ℕ, ◌+◌, List, [], ◌∷◌, ◌++◌, map, Option, Some, None, codes, ⊤}
+use Rattle.std.specs.Prelude.{ℕ, List, [], ◌∷◌, ◌++◌, map, Option, Some, None, codes, ⊤}
 use Rattle.shelf.specs.declared.file.File.{File}
-use Rattle.shelf.specs.Shelf.{with_file, without_file}
+use Rattle.shelf.specs.Shelf.{with_file}
 use Rattle.front.specs.Names.{module_name}
 use Rattle.front.specs.Text.{file_of}
 

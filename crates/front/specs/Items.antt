@@ -1,11 +1,10 @@
 -- The items that a program's crate has.
-use Rattle.std.specs.Prelude.{◌≡◌, ℕ, ◌+◌, ◌==◌, List, [], ◌∷◌, ◌++◌, map, if◌then◌else◌, bytes_eq, codes}
+use Rattle.std.specs.Prelude.{ℕ, ◌+◌, ◌==◌, List, [], ◌∷◌, ◌++◌, map, if◌then◌else◌, bytes_eq, codes}
 use Rattle.std.specs.List.{filter}
 use Rattle.front.specs.declared.tree.Crate.{Crate}
-use Rattle.front.specs.declared.tree.Module.{Module}
 use Rattle.front.specs.declared.tree.Item.{Item}
 use Rattle.front.specs.declared.tree.Item.TheVariants.{Function}
-use Rattle.front.specs.Program.{Program, Fun}
+use Rattle.front.specs.Program.{Program}
 use Rattle.front.specs.Names.{module_name}
 
 -- what an item is, without its body

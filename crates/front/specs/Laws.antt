@@ -1,5 +1,5 @@
 -- Laws of the definitions, which functions with empty bodies carry.
-use Rattle.std.specs.Prelude.{◌≡◌, ℕ, ◌≤◌, ℤ, pos, List, [], ◌∷◌, codes}
+use Rattle.std.specs.Prelude.{◌≡◌, ℕ, pos, []}
 use Rattle.front.specs.declared.tree.Crate.{Crate}
 use Rattle.front.specs.Program.{program_returning}
 use Rattle.front.specs.Outside.{Outside}
@@ -7,8 +7,6 @@ use Rattle.front.specs.CRun.{c_run, leftmost}
 use Rattle.front.specs.CRun as c
 use Rattle.front.specs.RustRun.{rs_run}
 use Rattle.front.specs.RustRun as rust
-use Rattle.front.specs.Text.{text_of}
-use Rattle.front.specs.Tokens.{ReadsAs}
 
 -- whatever the outside answers, the program whose `main` returns n has ended with n after four steps, and the
 -- crate has ended with n within two units; before that both go on, and neither makes a call

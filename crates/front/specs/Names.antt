@@ -1,6 +1,6 @@
 -- The names of the modules of a written crate.
-use Rattle.std.specs.Prelude.{ℕ, ◌+◌, ◌-◌, Bool, true, false, not, ◌==◌, ◌&&◌, ◌||◌, nat_le, nat_lt, List, [], ◌∷◌, ◌++◌, map, length, take, if◌then◌else◌, bytes_eq, codes}
-use Rattle.std.specs.List.{after_last, before_last, suffix_len, list_any, list_all}
+use Rattle.std.specs.Prelude.{ℕ, ◌-◌, Bool, true, not, ◌==◌, ◌&&◌, ◌||◌, nat_le, nat_lt, List, [], ◌∷◌, ◌++◌, map, length, take, if◌then◌else◌, bytes_eq, codes}
+use Rattle.std.specs.List.{after_last, suffix_len, list_any, list_all}
 
 -- a digit of ASCII
 abbrev pub is_digit : ℕ → Bool

@@ -1,7 +1,6 @@
 -- What putting files one behind another leaves.
-use Rattle.std.specs.Prelude.{◌≡◌, ℕ, ◌<◌, ◌≤◌, List, take, length, Option, Some, slice_get, ⊤}
+use Rattle.std.specs.Prelude.{◌≡◌, ℕ, ◌<◌, ◌≤◌, List, take, length, Some, slice_get, ⊤}
 use Rattle.cr_base.specs.Count.{Rose}
-use Rattle.cr_base.specs.declared.refusal.Refusal.{Refusal}
 use Rattle.shelf.specs.declared.called.Kind.TheVariants.{Put}
 use Rattle.shelf.specs.declared.fault.ShelfFault.{ShelfFault}
 use Rattle.shelf.specs.declared.fault.ShelfFault.TheVariants.{Failed, Memory}

@@ -1,7 +1,6 @@
 -- The first rule of the profile that a list of units breaks.
-use Rattle.std.specs.Prelude.{◌≡◌, ℕ, ◌<◌, ◌≤◌, ◌⊎◌, List, [], ◌∷◌, take, length, Option, Some, None, All, slice_get}
+use Rattle.std.specs.Prelude.{◌≡◌, ℕ, ◌<◌, ◌≤◌, ◌⊎◌, List, [], ◌∷◌, take, length, Some, All, slice_get}
 use Rattle.cr_base.specs.declared.refusal.Refusal.{Refusal}
-use Rattle.cr_base.specs.declared.rule.Rule.{Rule}
 use Rattle.cr_base.specs.declared.rule.Rule.TheVariants.{M1, N1}
 use Rattle.shelf.specs.declared.file.File.{File}
 use Rattle.front.specs.Names.{module_name, stem_of}

@@ -1,5 +1,5 @@
 -- How a job ends: its exit status, and the line that it reports.
-use Rattle.std.specs.Prelude.{◌≡◌, ℕ, ◌≤◌, ◌⊎◌, List, [], ◌∷◌, ◌++◌, take, length, codes, decimal, Bool, true, false, if◌then◌else◌}
+use Rattle.std.specs.Prelude.{◌≡◌, ℕ, ◌≤◌, ◌⊎◌, List, [], ◌++◌, take, length, codes, decimal, Bool, true, false, if◌then◌else◌}
 use Rattle.cr_base.specs.Count.{Rose}
 use Rattle.cr_base.specs.Rules.{code_of, text_of}
 use Rattle.cr_base.specs.declared.refusal.Refusal.{Refusal}

@@ -1,5 +1,5 @@
 -- What the top call answers, and what it leaves: one word for each status, one for each cause.
-use Rattle.std.specs.Prelude.{◌≡◌, ℕ, ◌==◌, ◌||◌, Bool, true, false, ◌⊎◌, List, [], ◌∷◌, Option, Some, None, bytes_eq, ⊤}
+use Rattle.std.specs.Prelude.{◌≡◌, ℕ, ◌==◌, ◌||◌, Bool, false, ◌⊎◌, List, [], Option, Some, None, bytes_eq}
 use Rattle.std.specs.List.{list_any}
 use Rattle.cr_base.specs.Count.{Rose}
 use Rattle.cr_base.specs.declared.refusal.Refusal.{Refusal}

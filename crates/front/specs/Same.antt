@@ -1,6 +1,6 @@
 -- When a crate behaves as a C program: whatever the outside answers, and up to the first undefined step
 -- of the program's leftmost execution.
-use Rattle.std.specs.Prelude.{◌≡◌, ℕ, ℤ, ◌⊎◌, ⊤}
+use Rattle.std.specs.Prelude.{◌≡◌, ℕ, ◌⊎◌, ⊤}
 use Rattle.front.specs.declared.tree.Crate.{Crate}
 use Rattle.front.specs.Program.{Program}
 use Rattle.front.specs.Outside.{Outside}

@@ -1,10 +1,8 @@
 -- The crate that is written for the program whose `main` returns n.
 use Rattle.std.specs.Prelude.{ℕ, pos, List, [], ◌∷◌, Some, None, codes}
 use Rattle.front.specs.declared.tree.Crate.{Crate}
-use Rattle.front.specs.declared.tree.Module.{Module}
 use Rattle.front.specs.declared.tree.Function.{Function as FunctionItem}
 use Rattle.front.specs.declared.tree.Item.TheVariants.{Function}
-use Rattle.front.specs.declared.tree.RStmt.{RStmt}
 use Rattle.front.specs.declared.tree.RStmt.TheVariants.{Return}
 use Rattle.front.specs.declared.tree.RExpr.TheVariants.{Literal}
 use Rattle.front.specs.declared.tree.RTy.TheVariants.{I32}

@@ -1,10 +1,10 @@
 -- What the job to translate units leaves on the shelf, by how it ended.
-use Rattle.std.specs.Prelude.{◌≡◌, ℕ, ◌+◌, ◌<◌, ◌⊎◌, List, [], ◌∷◌, ◌++◌, map, take, Option, Some, None, IsSome, slice_get}
+use Rattle.std.specs.Prelude.{◌≡◌, ℕ, ◌⊎◌, List, map, take, Option, Some, None, IsSome, slice_get}
 use Rattle.cr_base.specs.Count.{Rose}
 use Rattle.cr_base.specs.declared.refusal.Refusal.{Refusal}
 use Rattle.shelf.specs.declared.called.Kind.TheVariants.{Get, Put}
 use Rattle.shelf.specs.declared.file.File.{File}
-use Rattle.shelf.specs.Shelf.{ShelfState, with_file, without_file, call_of}
+use Rattle.shelf.specs.Shelf.{ShelfState, without_file, call_of}
 use Rattle.front.specs.declared.tree.Crate.{Crate}
 use Rattle.front.specs.Program.{Program}
 use Rattle.front.specs.Refusals.{FirstBroken, CoreOf}
@@ -12,7 +12,7 @@ use Rattle.front.specs.Typing.{WellTyped}
 use Rattle.front.specs.Items.{items_in, items_of}
 use Rattle.front.specs.Same.{BehavesAs}
 use Rattle.front.specs.Text.{text_of}
-use Rattle.front.specs.Files.{Held, WhereTold, units_of, files_in, with_files, written_names}
+use Rattle.front.specs.Files.{WhereTold, units_of, files_in, with_files, written_names}
 use Rattle.front.specs.Job.{Job, transpile}
 use Rattle.front.specs.Report.{Ending, done, refused, usage, cannot_read, cannot_write, memory}
 

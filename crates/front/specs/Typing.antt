@@ -1,6 +1,6 @@
 -- Which trees are crates of the subset, and which of these are well typed (the Rust Reference, "Items",
 -- "Statements and expressions" and "Type system", as far as the subset goes).
-use Rattle.std.specs.Prelude.{◌≡◌, ℕ, ◌+◌, ◌<◌, ◌≤◌, Bool, true, false, not, ◌&&◌, ◌||◌, ℤ, pos, neg_ℤ, int_le, int_lt, ◌^◌, List, [], ◌∷◌, map, length, Option, Some, None, if◌then◌else◌, bytes_eq, codes, slice_get, IsTrue}
+use Rattle.std.specs.Prelude.{◌≡◌, ℕ, ◌+◌, ◌<◌, ◌≤◌, Bool, true, false, not, ◌&&◌, ℤ, pos, neg_ℤ, int_le, int_lt, ◌^◌, List, [], ◌∷◌, map, length, Option, Some, None, if◌then◌else◌, bytes_eq, codes, slice_get, IsTrue}
 use Rattle.std.specs.List.{list_all, list_any}
 use Rattle.front.specs.declared.tree.Crate.{Crate}
 use Rattle.front.specs.declared.tree.Module.{Module}

@@ -34,6 +34,11 @@ abbrev pub IsGot : Held → List ℕ → ℕ → Got → Type 0
 IsGot None name limit got = ⊤
 IsGot (Some held) name limit got = IsGotOf (held name) limit got
 
+-- what `get` gives is no more than it was asked for at most, whether the shelf tells what it holds or not
+abbrev pub IsWithin : ℕ → Got → Type 0
+IsWithin limit (Bytes given) = length given ≤ limit
+IsWithin limit TooLarge = ⊤
+
 -- what is held once these bytes stand under a name, and under every other name what stood there
 abbrev pub with_file : List ℕ → List ℕ → Held → Held
 with_file name bytes held =

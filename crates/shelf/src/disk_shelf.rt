@@ -1,4 +1,5 @@
-ghost use Rattle.std.specs.Prelude.{◌≡◌};
+ghost use Rattle.std.specs.Prelude.{◌≡◌, IfOk};
+ghost use Rattle.shelf.specs.Shelf.{IsWithin};
 ghost use Rattle.shelf.specs.DiskShelf.{state_of};
 
 use crate::called::{Called, Kind};
@@ -67,7 +68,9 @@ impl<R: Files> Shelf for DiskShelf<R> {
 }
 
 // The bytes of the file at a path, if they are at most `limit`.
-fn read_file<R: Files>(alloc: Global, rt: &R, path: &str, limit: usize) -> Result<Got, ShelfFault> {
+fn read_file<R: Files>(alloc: Global, rt: &R, path: &str, limit: usize) -> Result<Got, ShelfFault>
+    ensures { IfOk result (IsWithin limit) }
+{
     let mut file = fs::open(rt, path)?;
     read_at_most(alloc, &mut file, limit)
 }

@@ -1,5 +1,5 @@
 ghost use Rattle.std.specs.Prelude.{◌≡◌, Some, IfOk};
-ghost use Rattle.shelf.specs.Shelf.{IsGotOf};
+ghost use Rattle.shelf.specs.Shelf.{IsGotOf, IsWithin};
 
 use cr_base::{Items, Memory, Text};
 use std::alloc::Global;
@@ -34,7 +34,8 @@ pub enum Got {
 impl Got {
     // A copy of the bytes of a file, if they are at most `limit`. Refused only for want of memory.
     pub(crate) fn of(alloc: Global, bytes: &[u8], limit: usize) -> Result<Got, Memory>
-        ensures { IfOk result (IsGotOf (Some bytes.now) limit) }
+        ensures bytes { IfOk result (IsGotOf (Some bytes.now) limit) }
+        ensures within { IfOk result (IsWithin limit) }
     {
         if bytes.len() > limit {
             return Ok(Got::TooLarge);

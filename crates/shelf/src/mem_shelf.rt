@@ -1,7 +1,7 @@
 ghost use Rattle.std.specs.Prelude.{◌≡◌, ◌⊎◌, ◌+◌, ◌-◌, ◌^◌, min, OnErr, Some, IfOk, OnOk, IsErrOf, Contains};
 ghost use Rattle.shelf.specs.Files.{bytes_of};
 ghost use Rattle.shelf.specs.MemShelf.{state_of};
-ghost use Rattle.shelf.specs.Shelf.{IsGot, with_file, without_file, HasCause};
+ghost use Rattle.shelf.specs.Shelf.{IsGot, IsWithin, with_file, without_file, HasCause};
 
 use crate::called::{Called, Kind};
 use crate::fault::ShelfFault;
@@ -66,6 +66,7 @@ impl Shelf for MemShelf {
 
     fn get(&mut self, name: &str, limit: usize) -> Result<Got, ShelfFault>
         ensures bytes { IfOk result (IsGot (state_of self.old).held name.now limit) }
+        ensures within { IfOk result (IsWithin limit) }
         ensures kept { (state_of self.new).held ≡ (state_of self.old).held }
         ensures cause { HasCause name.now Kind.Get (state_of self.old) (state_of self.new) result }
 
@@ -117,6 +118,7 @@ impl MemShelf {
     // A copy of a file, in the call of this number.
     fn read(&self, call: u64, name: &str, limit: usize) -> Result<Got, ShelfFault>
         ensures bytes { IfOk result (IsGot (state_of self.now).held name.now limit) }
+        ensures within { IfOk result (IsWithin limit) }
         ensures listed { OnOk result (¬ Contains self.now.fails call) }
         ensures failed { IsErrOf result ShelfFault.Failed → Contains self.now.fails call
             ⊎ (bytes_of self.now.files name.now ≡ None) }

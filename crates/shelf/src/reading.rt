@@ -2,7 +2,7 @@ ghost use Rattle.std.specs.Prelude.{◌≡◌, ℕ, ◌+◌, ◌<◌, ◌≤◌,
 ghost use Rattle.std.specs.Io.{ReadsAtMost};
 ghost use Rattle.std.specs.Io.KnownBytes.{Keeps, Consumes, IsAtEnd};
 ghost use Rattle.shelf.specs.Reading.{Moves};
-ghost use Rattle.shelf.specs.Shelf.{IsGotOf};
+ghost use Rattle.shelf.specs.Shelf.{IsGotOf, IsWithin};
 
 use crate::fault::ShelfFault;
 use crate::file::Got;
@@ -25,6 +25,7 @@ pub(crate) fn read_at_most<F: Read>(
 ) -> Result<Got, ShelfFault>
     ensures bytes { IfSome (F.remaining file.old)
         (λ bytes. IfOk result (IsGotOf (Some bytes) limit)) }
+    ensures within { IfOk result (IsWithin limit) }
     ensures sparing { OnOk result ((taken : List ℕ) × (length taken ≤ limit + 1)
         × Consumes (F.remaining file.old) (F.remaining file.new) taken) }
 {

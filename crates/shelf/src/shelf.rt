@@ -1,5 +1,5 @@
 ghost use Rattle.std.specs.Prelude.{◌≡◌, IfOk, OnOk};
-ghost use Rattle.shelf.specs.Shelf.{ShelfState, IsGot, with_file, without_file, HasCause};
+ghost use Rattle.shelf.specs.Shelf.{ShelfState, IsGot, IsWithin, with_file, without_file, HasCause};
 
 use crate::called::Kind;
 use crate::fault::ShelfFault;
@@ -16,6 +16,7 @@ pub trait Shelf {
     /// and otherwise all its bytes. A name that isn't held is a failed call. Nothing held changes.
     fn get(&mut self, name: &str, limit: usize) -> Result<Got, ShelfFault>
         ensures bytes { IfOk result (IsGot (state self.old).held name.now limit) }
+        ensures within { IfOk result (IsWithin limit) }
         ensures kept { (state self.new).held ≡ (state self.old).held }
         ensures cause { HasCause name.now Kind.Get (state self.old) (state self.new) result };
 

@@ -1,6 +1,6 @@
 ghost use Rattle.std.specs.Prelude.{◌≡◌, Some, IfOk, OnOk, IsOkUnless};
 ghost use Rattle.shelf.specs.Files.{bytes_or_empty};
-ghost use Rattle.shelf.specs.Shelf.{IsGot, with_file, without_file, HasCause};
+ghost use Rattle.shelf.specs.Shelf.{IsGot, IsWithin, with_file, without_file, HasCause};
 ghost use Rattle.shelf.specs.SureShelf.{state_of};
 
 use crate::called::Kind;
@@ -43,6 +43,7 @@ impl Shelf for SureShelf {
 
     fn get(&mut self, name: &str, limit: usize) -> Result<Got, ShelfFault>
         ensures bytes { IfOk result (IsGot (state_of self.old).held name.now limit) }
+        ensures within { IfOk result (IsWithin limit) }
         ensures kept { (state_of self.new).held ≡ (state_of self.old).held }
         ensures cause { HasCause name.now Kind.Get (state_of self.old) (state_of self.new) result }
         ensures sure { IsOkUnless result ShelfFault.Memory }

@@ -1,4 +1,4 @@
-use Rattle.std.proofs.Common.{refl, ◌++◌, ◌∷◌, [], codes, lit<, lit≤}
+use Rattle.std.proofs.Common.{refl, codes, lit<, lit≤}
 use Rattle.std.specs.Fmt.{digits}
 use Rattle.front.specs.Names.{kept_words}
 use Rattle.front.specs.Text.{file_of, main_text, main_of, initialiser_text, cargo_text}

@@ -1,4 +1,4 @@
-use Rattle.std.proofs.Common.{◌≡◌, Bool, not, ◌&&◌, sym, ◌∙◌, ap}
+use Rattle.std.proofs.Common.{◌≡◌, not, ◌&&◌, sym, ◌∙◌, ap}
 use Rattle.front.specs.Names.{is_identifier, is_kept_word}
 use Rattle.front.proofs.NameLaws.{named_same, named_only}
 use Rattle.front.proofs.names.is_plain.Goals as goal

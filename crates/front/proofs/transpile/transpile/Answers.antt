@@ -1,4 +1,4 @@
-use Rattle.std.proofs.Common.{◌≡◌, [], ◌∷◌, ap, sym, ◌∙◌, subst}
+use Rattle.std.proofs.Common.{[], ◌∷◌, ap, sym, ◌∙◌, subst}
 use Rattle.shelf.specs.declared.file.Got.{Got}
 use Rattle.shelf.specs.declared.file.Got.TheVariants.{Bytes}
 use Rattle.shelf.specs.Shelf.{IsGot}
