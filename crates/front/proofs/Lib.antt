@@ -6,3 +6,4 @@ pub mod MeaningLaws
 pub mod TranspileLaws
 pub mod RunLaws
 pub mod OthersLaws
+pub mod TokenLaws

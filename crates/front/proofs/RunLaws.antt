@@ -1,5 +1,6 @@
 -- Each clause of the top call, from how the job ended and how that was told.
-use Rattle.std.proofs.Common.{◌≡◌, ◌≢◌, ℕ, ◌≤◌, ◌⊎◌, inl, inr, true, List, take, length, get_or, Option, Some, None, refl, sym, ap, subst, ◌∙◌, arith}
+use Rattle.std.specs.Prelude.{All, slice_get}
+use Rattle.std.proofs.Common.{◌≡◌, ◌≢◌, ℕ, ◌⊎◌, inl, inr, true, List, take, Option, Some, None, refl, sym, ap, subst, ◌∙◌, arith}
 use Rattle.std.proofs.lemmas.Option.{slice_get_within, get_or_from_slice_get}
 use Rattle.cr_base.specs.Count.{Rose}
 use Rattle.cr_base.specs.declared.refusal.Refusal.{Refusal}
@@ -12,7 +13,7 @@ use Rattle.front.specs.Text.{text_of}
 use Rattle.front.specs.declared.tree.Crate.{Crate}
 use Rattle.front.specs.Text.{text_of}
 use Rattle.front.specs.Program.{Program}
-use Rattle.front.specs.Refusals.{FirstBroken, CoreOf}
+use Rattle.front.specs.Refusals.{IsRead, FirstBroken, CoreOf}
 use Rattle.front.specs.Files.{Held, WhereTold, units_of, files_in, with_files}
 use Rattle.front.specs.Report.{Ending, done, refused, usage, cannot_read, cannot_write, memory, IsTold, IsReported, WriteFailed, ReportsMemory, report_of, status_of, refusal_report, usage_report, unread_report, unwritten_report}
 use Rattle.front.specs.Transpile.{IsDone, IsRefused, IsUnread, IsUnwritten, Translates, Leaves}
@@ -203,18 +204,23 @@ when_no_job (cannot_read name) s t a b r leaves told = absurd leaves
 when_no_job (cannot_write name) s t a b r leaves told = absurd leaves
 when_no_job memory s t a b r leaves told = absurd leaves
 
+-- a unit at a place, of units that all are read
+read_at : (units : List File) (k : ℕ) (file : File) → All IsRead units → slice_get units k ≡ Some file → IsRead file
+read_at units k file read at = subst IsRead (get_or_from_slice_get units k file file at) (read k file (slice_get_within units k file at))
+
+none_not_some : {X : Type 0} {x : X} {o : Option X} → o ≡ None → o ≡ Some x → ⊥
+none_not_some e d = cc
+
 -- units that make a program break no rule
 pub core_unbroken : (units : List File) (program : Program) (refusal : Refusal) → CoreOf units program → FirstBroken units refusal → ⊥
 core_unbroken units program refusal core broken = elim broken [
   | inl m1 ↦
-      let k = refusal.unit in
-      let file = m1.unit.0 in
-      let within = slice_get_within units k file m1.unit.1 in
-      let same : get_or units k file ≡ file = get_or_from_slice_get units k file file m1.unit.1 in
-      let small : length (get_or units k file).bytes ≤ 1048576 = core.small k file within in
-      let small' : length file.bytes ≤ 1048576 = subst (λ (f : File). length f.bytes ≤ 1048576) same small in
-      omega (arith, m1.unit.2)
-  | inr n1 ↦ n1.not_built core.built
+      let small = (read_at units refusal.unit m1.unit.0 core.read m1.unit.1).0 in
+      omega (arith, small, m1.unit.2)
+  | inr other ↦ elim other [
+    | inl token ↦ none_not_some (read_at units refusal.unit token.unit.0 core.read token.unit.1).1 token.unit.3
+    | inr n1 ↦ n1.not_built core.built
+  ]
 ]
 
 -- the same, where the words are known to be none

@@ -4,6 +4,8 @@ use Rattle.std.specs.Prelude.{All}
 use Rattle.std.specs.Option.{MatchOption}
 use Rattle.std.proofs.lemmas.Option.{slice_get-map}
 use Rattle.cr_base.specs.declared.refusal.Refusal.{Refusal}
+use Rattle.cr_base.specs.declared.refusal.Stop.{Stop}
+use Rattle.cr_base.specs.declared.refusal.Stop.TheVariants.{Refused, Memory}
 use Rattle.cr_base.specs.declared.rule.Rule.TheVariants.{M1, N1}
 use Rattle.shelf.specs.declared.file.File.{File}
 use Rattle.shelf.specs.declared.file.Got.TheVariants.{Bytes, TooLarge}
@@ -12,7 +14,11 @@ use Rattle.shelf.proofs.FaultLemmas.{rose_after}
 use Rattle.front.specs.Names.{module_name, stem_of, named_by}
 use Rattle.front.specs.Unit.{IsReturnUnit}
 use Rattle.front.specs.Program.{program_returning}
-use Rattle.front.specs.Refusals.{IsSmall, IsBuiltUnit, FirstBroken}
+use Rattle.cx_lex.specs.declared.token.Token.{Token}
+use Rattle.cx_lex.specs.Lexed.{IsFirstFault}
+use Rattle.cx_lex.specs.Tokens.{Spells, token_fault}
+use Rattle.cx_lex.proofs.SpellLemmas.{spell_or_break}
+use Rattle.front.specs.Refusals.{IsSmall, IsRead, IsBuiltUnit, FirstBroken, StopsUnit}
 use Rattle.front.specs.Files.{Held, WhereTold, units_of, unit_and, files_in, name_in, with_files, written_names}
 use Rattle.front.specs.Text.{file_of, text_of}
 use Rattle.front.specs.Translation.{crate_of}
@@ -21,6 +27,7 @@ use Rattle.front.specs.Puts.{Puts}
 use Rattle.front.specs.Transpile.{Translates, IsTranspiled, IsRefused, IsUnwritten, IsLeftAt}
 use Rattle.front.specs.declared.tree.Crate.{Crate}
 use Rattle.front.proofs.NameLaws.{named_only}
+use Rattle.front.proofs.TokenLaws.{unit_unbroken}
 use Rattle.front.proofs.MeaningLaws.{behaves, well_typed, has_items}
 
 -- a unit is translated where its name is plain and its text returns a number
@@ -44,6 +51,25 @@ m1 = record { rule = M1; unit = 0; line = 1 }
 abbrev n1 : Refusal
 n1 = record { rule = N1; unit = 0; line = 1 }
 
+-- ---- what stops the only unit
+
+-- the first rule of tokens that its bytes break
+stopped_at : (unit : File) (refusal : Refusal) → IsSmall unit → token_fault unit.bytes ≡ Some (refusal.rule, refusal.line) → refusal.unit ≡ 0 → StopsUnit unit (Refused refusal)
+stopped_at unit refusal small fault first =
+    let at : slice_get (unit ∷ []) refusal.unit ≡ Some unit = ap (slice_get (unit ∷ [])) first in
+    let before : All IsRead (take refusal.unit (unit ∷ [])) = subst (λ (k : ℕ). All IsRead (take k (unit ∷ []))) (sym first) (all_none IsRead) in
+    (first, inr (inl (record { unit = (unit, at, small, fault); before = before })))
+
+pub token_stops : (unit : File) (stop : Stop) → IsSmall unit → IsFirstFault unit.bytes 0 stop → StopsUnit unit stop
+token_stops unit (Refused refusal) small fault = stopped_at unit refusal small fault.0 fault.1
+token_stops unit Memory small fault = tt
+
+-- a form that isn't translated today
+pub other_stops : (unit : File) (tokens : List Token) → IsSmall unit → Spells unit.bytes tokens → ¬ IsBuiltUnit unit → StopsUnit unit (Refused n1)
+other_stops unit tokens small spells other =
+    let none : token_fault unit.bytes ≡ None = (spell_or_break unit.bytes).0 (tokens, spells) in
+    (refl, inr (inr (record { refused = refl; read = all_one IsRead unit (small, none); not_built = other })))
+
 -- one unit of one file
 one_unit : (held : List ℕ → Option (List ℕ)) (name bytes : List ℕ) → held name ≡ Some bytes → units_of held (name ∷ []) ≡ Some (file_of name bytes ∷ [])
 one_unit held name bytes e = ap (λ o. unit_and name o (Some [])) e
@@ -51,7 +77,7 @@ one_unit held name bytes e = ap (λ o. unit_and name o (Some [])) e
 large_by : (held : List ℕ → Option (List ℕ)) (name : List ℕ) (o : Option (List ℕ)) → held name ≡ o → IsGotOf o 1048576 TooLarge → refusal_by m1 held name
 large_by held name None e h = absurd h
 large_by held name (Some bytes) e h =
-    (file_of name bytes ∷ [], one_unit held name bytes e, inl (record { rule = refl; unit = (file_of name bytes, refl, h); before = all_none IsSmall }))
+    (file_of name bytes ∷ [], one_unit held name bytes e, inl (record { refused = (refl, refl); unit = (file_of name bytes, refl, h); before = all_none IsRead }))
 
 large_told : (held : Held) (name : List ℕ) → IsGot held name 1048576 TooLarge → WhereTold held (λ h. refusal_by m1 h name)
 large_told None name h = tt
@@ -61,25 +87,29 @@ large_told (Some held) name h = large_by held name (held name) refl h
 pub refused_large : (name : List ℕ) (before after : ShelfState) → after.held ≡ before.held → IsGot before.held name 1048576 TooLarge → IsRefused (name ∷ []) name m1 before after
 refused_large name before after kept h = record { kept = kept; named = refl; broken = large_told before.held name h }
 
-other_by : (held : List ℕ → Option (List ℕ)) (name given : List ℕ) (o : Option (List ℕ)) → held name ≡ o → IsGotOf o 1048576 (Bytes given) → ¬ IsBuiltUnit (file_of name given) → refusal_by n1 held name
-other_by held name given None e h other = absurd h
-other_by held name given (Some bytes) e h other =
-    (file_of name given ∷ [], one_unit held name given (e ∙ ap (λ bs. Some bs) (sym h.0)), inr (record { refused = refl; small = all_one IsSmall (file_of name given) (subst (λ (bs : List ℕ). length bs ≤ 1048576) (sym h.0) h.1); not_built = other }))
+stopped_by : (held : List ℕ → Option (List ℕ)) (name given : List ℕ) (refusal : Refusal) (o : Option (List ℕ)) → held name ≡ o → IsGotOf o 1048576 (Bytes given) → FirstBroken (file_of name given ∷ []) refusal → refusal_by refusal held name
+stopped_by held name given refusal None e h broken = absurd h
+stopped_by held name given refusal (Some bytes) e h broken =
+    (file_of name given ∷ [], one_unit held name given (e ∙ ap (λ bs. Some bs) (sym h.0)), broken)
 
-other_told : (held : Held) (name given : List ℕ) → IsGot held name 1048576 (Bytes given) → ¬ IsBuiltUnit (file_of name given) → WhereTold held (λ h. refusal_by n1 h name)
-other_told None name given h other = tt
-other_told (Some held) name given h other = other_by held name given (held name) refl h other
+stopped_told : (held : Held) (name given : List ℕ) (refusal : Refusal) → IsGot held name 1048576 (Bytes given) → FirstBroken (file_of name given ∷ []) refusal → WhereTold held (λ h. refusal_by refusal h name)
+stopped_told None name given refusal h broken = tt
+stopped_told (Some held) name given refusal h broken = stopped_by held name given refusal (held name) refl h broken
 
--- N1, where the unit isn't translated today
-pub refused_other : (name given : List ℕ) (before after : ShelfState) → after.held ≡ before.held → IsGot before.held name 1048576 (Bytes given) → ¬ IsBuiltUnit (file_of name given) → IsRefused (name ∷ []) name n1 before after
-refused_other name given before after kept h other = record { kept = kept; named = refl; broken = other_told before.held name given h other }
+-- the first rule that the unit breaks
+pub refused_unit : (name given : List ℕ) (refusal : Refusal) (before after : ShelfState) → after.held ≡ before.held → IsGot before.held name 1048576 (Bytes given) → StopsUnit (file_of name given) (Refused refusal) → IsRefused (name ∷ []) name refusal before after
+refused_unit name given refusal before after kept h stops = record {
+  kept = kept;
+  named = ap (slice_get (name ∷ [])) stops.0;
+  broken = stopped_told before.held name given refusal h stops.1;
+}
 
 -- the crate of the unit is a right translation
 translates : (name bytes : List ℕ) (n : ℕ) → length bytes ≤ 1048576 → module_name name ≡ stem_of name → IsReturnUnit bytes n → Translates (file_of name bytes ∷ []) (crate_of n (stem_of name))
 translates name bytes n small plain unit = record {
   program = program_returning n;
   core = record {
-    small = all_one IsSmall (file_of name bytes) small;
+    read = all_one IsRead (file_of name bytes) (small, unit_unbroken bytes n unit);
     built = (plain, (n, unit));
     core = (n, all_one (λ (file : File). IsReturnUnit file.bytes n) (file_of name bytes) unit, refl);
   };

@@ -1,8 +1,11 @@
 -- The first rule of the profile that a list of units breaks.
-use Rattle.std.specs.Prelude.{◌≡◌, ℕ, ◌<◌, ◌≤◌, ◌⊎◌, List, [], ◌∷◌, take, length, Some, All, slice_get}
+use Rattle.std.specs.Prelude.{◌≡◌, ℕ, ◌<◌, ◌≤◌, ◌⊎◌, List, [], ◌∷◌, take, length, Some, None, All, slice_get, ⊤}
 use Rattle.cr_base.specs.declared.refusal.Refusal.{Refusal}
+use Rattle.cr_base.specs.declared.refusal.Stop.{Stop}
+use Rattle.cr_base.specs.declared.refusal.Stop.TheVariants.{Refused, Memory}
 use Rattle.cr_base.specs.declared.rule.Rule.TheVariants.{M1, N1}
 use Rattle.shelf.specs.declared.file.File.{File}
+use Rattle.cx_lex.specs.Tokens.{token_fault}
 use Rattle.front.specs.Names.{module_name, stem_of}
 use Rattle.front.specs.Unit.{IsReturnUnit}
 use Rattle.front.specs.Program.{Program, program_returning}
@@ -22,25 +25,40 @@ IsBuilt (unit ∷ []) = IsBuiltUnit unit
 IsBuilt [] = ⊥
 IsBuilt (unit ∷ other ∷ others) = ⊥
 
--- M1: unit k is the first that is too large
+-- a unit that breaks no rule of its own: it is small, and its bytes spell tokens
+abbrev pub IsRead : File → Type 0
+IsRead unit = IsSmall unit × (token_fault unit.bytes ≡ None)
+
+-- M1: unit k is the first that breaks a rule of its own, and it is too large
 pub record BreaksM1 (units : List File) (refusal : Refusal) : Type 0 where
-  pub rule : refusal.rule ≡ M1
+  pub refused : (refusal.rule ≡ M1) × (refusal.line ≡ 1)
   pub unit : (file : File) × (slice_get units refusal.unit ≡ Some file) × (1048576 < length file.bytes)
-  pub before : All IsSmall (take refusal.unit units)
+  pub before : All IsRead (take refusal.unit units)
+
+-- a rule of tokens: unit k is the first that breaks a rule of its own, and this is the first rule of tokens
+-- that its bytes break, with its line
+pub record BreaksToken (units : List File) (refusal : Refusal) : Type 0 where
+  pub unit : (file : File) × (slice_get units refusal.unit ≡ Some file) × IsSmall file × (token_fault file.bytes ≡ Some (refusal.rule, refusal.line))
+  pub before : All IsRead (take refusal.unit units)
 
 -- N1, which stands for what isn't built yet: it comes after every other rule, with the first unit and line 1
 pub record BreaksN1 (units : List File) (refusal : Refusal) : Type 0 where
   pub refused : refusal ≡ record { rule = N1; unit = 0; line = 1 }
-  pub small : All IsSmall units
+  pub read : All IsRead units
   pub not_built : ¬ IsBuilt units
 
 -- the first rule that the units break, with its unit and line: units come in the order given, and inside
--- a unit M1 comes first
+-- a unit M1 comes first, then the rules of tokens
 abbrev pub FirstBroken : List File → Refusal → Type 0
-FirstBroken units refusal = BreaksM1 units refusal ⊎ BreaksN1 units refusal
+FirstBroken units refusal = BreaksM1 units refusal ⊎ (BreaksToken units refusal ⊎ BreaksN1 units refusal)
+
+-- why the only unit of a job is stopped: by the first rule that it breaks, or for want of memory
+abbrev pub StopsUnit : File → Stop → Type 0
+StopsUnit unit (Refused refusal) = (refusal.unit ≡ 0) × FirstBroken (unit ∷ []) refusal
+StopsUnit unit Memory = ⊤
 
 -- the units break no rule, and this is their typed and linked program
 pub record CoreOf (units : List File) (program : Program) : Type 0 where
-  pub small : All IsSmall units
+  pub read : All IsRead units
   pub built : IsBuilt units
   pub core : (n : ℕ) × All (λ unit. IsReturnUnit unit.bytes n) units × (program ≡ program_returning n)

@@ -79,6 +79,9 @@ pub fn run_surely<O: Sink, H: Host>(
 ) -> u8
     ensures no_unread { result ≢ 3 }
     ensures no_unwritten { result ≢ 4 }
+    ensures ran { Ran (map string_bytes words.now)
+        (⟦<SureShelf as Shelf>⟧.state shelf.old) (⟦<SureShelf as Shelf>⟧.state shelf.new)
+        (⟦<SureSink as Sink>⟧.state err.old) (⟦<SureSink as Sink>⟧.state err.new) result }
 {
     run(alloc, words, shelf, out, err, host)
 }

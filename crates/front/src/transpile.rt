@@ -1,10 +1,9 @@
-ghost use Rattle.std.specs.Prelude.{◌≡◌, ◌<◌, [], ◌∷◌, length, IfOk, MatchOption};
+ghost use Rattle.std.specs.Prelude.{◌≡◌, ◌<◌, ◌≤◌, [], ◌∷◌, length, IfOk, IfErr, MatchOption};
 ghost use Rattle.front.specs.Files.{file_in, files_in};
 ghost use Rattle.front.specs.Names.{module_name, stem_of};
 ghost use Rattle.front.specs.Outcome.{ending_of};
 ghost use Rattle.front.specs.Puts.{Puts, PutFaultAt};
-ghost use Rattle.front.specs.Refusals.{IsBuiltUnit};
-ghost use Rattle.front.specs.Report.{refused as refused_ending};
+ghost use Rattle.front.specs.Refusals.{IsBuiltUnit, StopsUnit};
 ghost use Rattle.front.specs.Text.{file_of, text_of};
 ghost use Rattle.front.specs.Translation.{crate_of};
 ghost use Rattle.front.specs.Transpile.{IsTranspiled};
@@ -16,7 +15,8 @@ use crate::outcome::Outcome;
 use crate::print::print;
 use crate::translate::translate;
 use crate::unit::returned_number;
-use cr_base::{Items, Memory, Refusal, Rule};
+use cr_base::{Items, Memory, Refusal, Rule, Stop};
+use cx_lex::lex;
 use shelf::{File, Got, Shelf, ShelfFault};
 use std::alloc::Global;
 
@@ -36,12 +36,17 @@ pub(crate) fn transpile<'a, F: Shelf>(
 {
     let bytes = match shelf.get(file, UNIT_LIMIT) {
         Ok(Got::Bytes(bytes)) => bytes,
-        Ok(Got::TooLarge) => return refused(file, Rule::M1),
+        Ok(Got::TooLarge) => return Outcome::Refused {
+            file,
+            refusal: of_unit(Rule::M1),
+        },
         Err(ShelfFault::Failed) => return Outcome::CannotRead(file),
         Err(ShelfFault::Memory) => return Outcome::Memory,
     };
-    let Some(number) = built(file, bytes.as_slice()) else {
-        return refused(file, Rule::N1);
+    let number = match unbroken(alloc, file, bytes.as_slice()) {
+        Ok(number) => number,
+        Err(Stop::Refused(refusal)) => return Outcome::Refused { file, refusal },
+        Err(Stop::Memory) => return Outcome::Memory,
     };
     match crate_files(alloc, directory, file, number) {
         Ok(files) => put_crate(shelf, files),
@@ -49,17 +54,27 @@ pub(crate) fn transpile<'a, F: Shelf>(
     }
 }
 
-// The refusal of the first unit by a rule that is reported with line 1.
-fn refused(file: &str, rule: Rule) -> Outcome<'_>
-    ensures { ending_of result ≡ refused_ending file.now (record { rule = rule; unit = 0; line = 1 }) }
+// The refusal of the first unit by a rule that is told with line 1.
+fn of_unit(rule: Rule) -> Refusal
+    ensures { result ≡ record { rule = rule; unit = 0; line = 1 } }
 {
-    Outcome::Refused {
-        file,
-        refusal: Refusal {
-            rule,
-            unit: 0,
-            line: 1,
-        },
+    Refusal {
+        rule,
+        unit: 0,
+        line: 1,
+    }
+}
+
+// The number that the unit returns, or the first rule that the unit breaks.
+fn unbroken(alloc: Global, file: &str, bytes: &[u8]) -> Result<u32, Stop>
+    requires { length bytes.now ≤ 1048576 }
+    ensures built { IfOk result (λ n. (module_name file.now ≡ stem_of file.now) × IsReturnUnit bytes.now n) }
+    ensures stopped { IfErr result (StopsUnit (file_of file.now bytes.now)) }
+{
+    let _tokens = lex(alloc, bytes, 0)?;
+    match built(file, bytes) {
+        Some(number) => Ok(number),
+        None => Err(Stop::Refused(of_unit(Rule::N1))),
     }
 }
 

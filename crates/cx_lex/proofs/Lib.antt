@@ -1,0 +1,16 @@
+pub mod EscapeLemmas
+pub mod Examples
+pub mod FrontLemmas
+pub mod ItemLemmas
+pub mod LexLemmas
+pub mod LiteralLemmas
+pub mod MarkLemmas
+pub mod NumberLemmas
+pub mod PieceLemmas
+pub mod PlaceLemmas
+pub mod SpaceLemmas
+pub mod SpellLemmas
+pub mod SpelledLemmas
+pub mod TextLemmas
+pub mod TokenLemmas
+pub mod WordLemmas

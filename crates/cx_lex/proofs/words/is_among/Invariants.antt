@@ -1,0 +1,7 @@
+use Rattle.std.proofs.Common.{◌≡◌, drop, map}
+use Rattle.cx_lex.specs.Words.{is_among}
+use Rattle.cx_lex.proofs.words.is_among.Given as goal
+
+abbrev pub invariant-loop-entry : goal.invariant-loop-entry
+invariant-loop-entry l =
+    is_among (map (λ entry. entry.now) (drop l.entry-index l.words)) l.word ≡ is_among (map (λ entry. entry.now) l.words) l.word

@@ -1,0 +1,13 @@
+pub mod Bytes
+pub mod Escapes
+pub mod Fronts
+pub mod Lexed
+pub mod Literals
+pub mod Marks
+pub mod Mirror
+pub mod Numbers
+pub mod Place
+pub mod Reading
+pub mod Space
+pub mod Tokens
+pub mod Words
