@@ -1,0 +1,11 @@
+pub mod Beside
+pub mod Bytes
+pub mod Coded
+pub mod Examples
+pub mod Fields
+pub mod Held
+pub mod Numbered
+pub mod Reached
+pub mod Slots
+pub mod Windows
+pub mod Written

@@ -1,0 +1,11 @@
+use Rattle.mem_bytes.proofs.Written.{put_writes, put_bits_writes, fill_writes, put_cell_writes, copy_writes}
+use Rattle.mem_bytes.proofs.laws.calls_write.Goals as goal
+
+pub returns : goal.returns
+returns c = record {
+  put = put_writes;
+  put_bits = put_bits_writes;
+  fill = fill_writes;
+  put_cell = put_cell_writes;
+  copy = copy_writes;
+}

@@ -1,0 +1,5 @@
+use Rattle.mem_bytes.proofs.Written.{cells_stay, values_stay}
+use Rattle.mem_bytes.proofs.laws.writes_nothing_else.Goals as goal
+
+pub returns : goal.returns
+returns c = record { cells = cells_stay; values = values_stay }
