@@ -123,6 +123,8 @@ report 2 "$usage" transpile -o out "$(printf '\377.c')"
 report 3 'c2rs: cannot read no.c' transpile -o out no.c
 printf 'int main(void) { return 2147483648; }' >"$work/a.c"
 report 1 'a.c:1: N1: not built' transpile -o out a.c
+printf 'int x;\ndouble y;\n' >"$work/b.c"
+report 1 'b.c:2: O1: floating word' transpile -o out b.c
 head -c 1048577 /dev/zero | tr '\0' ' ' >"$work/large.c"
 report 1 'large.c: M1: unit too large' transpile -o out large.c
 touch "$work/file"
