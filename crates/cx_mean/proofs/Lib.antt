@@ -1,0 +1,11 @@
+pub mod Ended
+pub mod Examples
+pub mod Holes
+pub mod Programs
+pub mod Ranges
+pub mod Reached
+pub mod Sound
+pub mod SoundCalls
+pub mod SoundValues
+pub mod Statics
+pub mod Values

@@ -1,0 +1,9 @@
+pub mod Laws
+pub mod Leftmost
+pub mod Marks
+pub mod Nodes
+pub mod Operands
+pub mod Run
+pub mod Sound
+pub mod State
+pub mod Work
