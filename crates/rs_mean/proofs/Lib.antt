@@ -1,0 +1,4 @@
+pub mod Budget
+pub mod Examples
+pub mod Pieces
+pub mod Whole

@@ -1,0 +1,12 @@
+//! The bytes of a written crate.
+#![tactic(auto)]
+
+mod bytes;
+mod files;
+mod laws;
+
+pub use files::print;
+pub use laws::valid_crates_are_printable;
+
+#[cfg(test)]
+mod tests;

@@ -1,0 +1,10 @@
+pub mod Laws
+pub mod Lines
+pub mod Names
+pub mod Reads
+pub mod Spelling
+pub mod Text
+pub mod Tokens
+pub mod Tree
+pub mod Valid
+pub mod View
