@@ -56,7 +56,7 @@ listed_ints (more_types type types) variadic (more_exprs first others) scalars a
   listed_ints types variadic others (All-tail IsScalarType type (types_in types) scalars) are.1,
 )
 
-args_ints : (params : CParams) (variadic : Bool) (args : CExprs) → AreOpaqueParams params → AreArgumentsOf params variadic args → AreIntArgs args
+pub args_ints : (params : CParams) (variadic : Bool) (args : CExprs) → AreOpaqueParams params → AreArgumentsOf params variadic args → AreIntArgs args
 args_ints unlisted variadic args opaque are = rw are tt
 args_ints (listed types) variadic args opaque are = listed_ints types variadic args opaque are
 
@@ -86,7 +86,7 @@ found_typed true first one rest typed others found =
     rw same at typed
 found_typed false first one rest typed others found = others found
 
-outer_typed : (list : List COuter) (number : ℕ) (one : COuter) → All IsTypedOuter list → outer_with number list ≡ Some one → IsTypedOuter one
+pub outer_typed : (list : List COuter) (number : ℕ) (one : COuter) → All IsTypedOuter list → outer_with number list ≡ Some one → IsTypedOuter one
 outer_typed [] number one all found = absurd (cc)
 outer_typed (first ∷ others) number one all found =
     found_typed (first.function == number) first one (outer_with number others) (All-head IsTypedOuter first others all)

@@ -42,7 +42,7 @@ constant_sound (ty void is_const) value is = absurd (let none = is.scalar in sea
 constant_sound (ty (function result params variadic) is_const) value is = absurd (let none = is.scalar in search rules)
 
 -- an operand that designates an object
-abbrev Designates : COperand → Type 0
+abbrev pub Designates : COperand → Type 0
 Designates operand = (at : Ptr) × (operand.value ≡ designates at)
 
 object_sound : (program : CProgram) (frame : Frame) → AreInScope program frame → (type : CTy) (number : ℕ) (found : Option CObject) →
@@ -50,7 +50,7 @@ object_sound : (program : CProgram) (frame : Frame) → AreInScope program frame
 object_sound program frame scope type number None same some is = absurd (search rules)
 object_sound program frame scope type number (Some one) same some is = scope number one same is.defined
 
-lvalue_sound : (program : CProgram) (frame : Frame) → AreInScope program frame → (type : CTy) (place : Place) (form : CForm) (world : CWorld) (steps : ℕ) →
+pub lvalue_sound : (program : CProgram) (frame : Frame) → AreInScope program frame → (type : CTy) (place : Place) (form : CForm) (world : CWorld) (steps : ℕ) →
     IsLvalueForm program type form → IsSound Designates (c_form program frame type place form world steps)
 lvalue_sound program frame scope type place (object number) world steps is =
     object_sound program frame scope type number (object_with number program.objects) refl is.0 is.1
@@ -74,7 +74,7 @@ conversion_sound from (ty (function result params variadic) is_const) operand wo
 -- ---- expressions
 
 mutual
-  value_sound : (program : CProgram) (frame : Frame) → IsLinked program → AreInScope program frame →
+  pub value_sound : (program : CProgram) (frame : Frame) → IsLinked program → AreInScope program frame →
       (type : CTy) (place : Place) (form : CForm) (world : CWorld) (steps : ℕ) → IsTypedForm program type form →
       IsSound (IsOperandOf type) (c_form program frame type place form world steps)
   value_sound program frame linked scope type place (whole value) world steps is = constant_sound type value is

@@ -1,0 +1,7 @@
+pub mod Depth
+pub mod Derives
+pub mod Levels
+pub mod Tokens
+pub mod Trees
+pub mod Valid
+pub mod Views

@@ -1,0 +1,30 @@
+-- How the names of temporaries are looked for. Private contracts name these, and proofs/ shows that they are what
+-- Temporaries says.
+use Rattle.std.specs.Prelude.{◌≡◌, ℕ, ◌-◌, ◌<◌, Bool, true, false, ◌||◌, ◌==◌, List, ◌++◌, codes, if◌then◌else◌}
+use Rattle.std.specs.Fmt.{decimal}
+use Rattle.rs_items.specs.Temporaries.{AreApart}
+use Rattle.rs_tree.specs.Names.{is_among}
+
+-- a candidate for the name of a temporary, by its number
+abbrev pub temporary : ℕ → List ℕ
+temporary number = if number == 0 then codes "t" else codes "t_" ++ decimal (number - 1)
+
+-- a name that is taken by others or by a temporary
+abbrev pub is_used : List (List ℕ) → List (List ℕ) → List ℕ → Bool
+is_used taken names name = is_among taken name || is_among names name
+
+-- the candidates before a number are used
+abbrev pub AreUsed : List (List ℕ) → List (List ℕ) → ℕ → Type 0
+AreUsed taken names above = (k : ℕ) → k < above → is_used taken names (temporary k) ≡ true
+
+-- a candidate that is free, the first one
+pub record IsFirstFree (taken names : List (List ℕ)) (name : List ℕ) (number : ℕ) : Type 0 where
+  pub is : name ≡ temporary number
+  pub free : is_used taken names name ≡ false
+  pub used : AreUsed taken names number
+  pub small : number < 4294967295
+
+-- names of temporaries, with a number before which the candidates are used
+pub record HoldsNames (taken names : List (List ℕ)) (next : ℕ) : Type 0 where
+  pub apart : AreApart taken names
+  pub used : AreUsed taken names next
