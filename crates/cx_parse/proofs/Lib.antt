@@ -1,0 +1,13 @@
+pub mod Commas
+pub mod Declared
+pub mod DeclaratorReads
+pub mod DeclaratorSound
+pub mod ExprReads
+pub mod ExprSound
+pub mod Many
+pub mod Marks
+pub mod Parsed
+pub mod Readers
+pub mod Specifiers
+pub mod Statements
+pub mod Turns

@@ -1,0 +1,10 @@
+pub mod Continuations
+pub mod Declarations
+pub mod Declarators
+pub mod Exprs
+pub mod Lists
+pub mod Parsed
+pub mod Reading
+pub mod Sights
+pub mod Stmts
+pub mod Units

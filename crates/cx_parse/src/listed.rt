@@ -1,0 +1,53 @@
+//! What is read of a list.
+
+ghost use Rattle.std.specs.Prelude.{◌≡◌, OnOk, [], ◌∷◌, ◌++◌, max};
+
+use crate::measured::Measured;
+use cr_base::{Items, Memory};
+use std::alloc::Global;
+
+/// What was read of a list: the items, the depth of the deepest of them, and the lines of the list's
+/// own tokens.
+#[derive(Drop)]
+pub struct Listed<T> {
+    pub list: Items<T>,
+    pub depth: u32,
+    pub lines: Items<u32>,
+}
+
+impl<T: Drop> Listed<T> {
+    /// The list of no item, with the lines of the tokens in front of it.
+    pub fn new(alloc: Global, lines: Items<u32>) -> Listed<T>
+        ensures list { result.list ≡ [] }
+        ensures depth { result.depth ≡ 0 }
+        ensures lines { result.lines ≡ lines }
+    {
+        Listed {
+            list: Items::new(alloc),
+            depth: 0,
+            lines,
+        }
+    }
+
+    /// Takes in an item. Refused only for want of memory.
+    pub fn push(&mut self, item: Measured<T>) -> Result<(), Memory>
+        ensures list { OnOk result (self.new.list ≡ self.old.list ++ item.tree ∷ []) }
+        ensures depth { OnOk result (self.new.depth ≡ max self.old.depth item.depth) }
+        ensures lines { OnOk result (self.new.lines ≡ self.old.lines) }
+    {
+        let Measured { tree, depth } = item;
+        self.list.push(tree)?;
+        self.depth = self.depth.max(depth);
+        Ok(())
+    }
+
+    /// Takes in the line of a token. Refused only for want of memory.
+    pub fn push_line(&mut self, line: u32) -> Result<(), Memory>
+        ensures list { OnOk result (self.new.list ≡ self.old.list) }
+        ensures depth { OnOk result (self.new.depth ≡ self.old.depth) }
+        ensures lines { OnOk result (self.new.lines ≡ self.old.lines ++ line ∷ []) }
+    {
+        self.lines.push(line)?;
+        Ok(())
+    }
+}

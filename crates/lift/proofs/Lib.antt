@@ -1,0 +1,12 @@
+pub mod Bodies
+pub mod Returns
+pub mod Shown
+pub mod Induction
+pub mod Numbers
+pub mod Pieces
+pub mod Silent
+pub mod StandsLemmas
+pub mod Bodywise
+pub mod Steps
+pub mod Storing
+pub mod Wrapping
