@@ -1,7 +1,8 @@
 #!/usr/bin/env bash
 # How long the tokens of a unit take: nanoseconds a byte at 64 KiB and at 1 MiB, and their ratio, which is near
-# 1 where the time grows with the length alone. The program is run on units of ordinary C that end in N1, so it
-# reads the file and its tokens and no more; the time of an empty unit is taken off. It asserts nothing.
+# 1 where the time grows with the length alone. The program is run on units of ordinary C that end in N1 at their
+# first declaration, so the time is that of the file and its tokens; that of an empty unit is taken off. It asserts
+# nothing.
 set -u
 top=$(cd "$(dirname "$0")/.." && pwd)
 work=$(mktemp -d) || exit 1

@@ -59,18 +59,18 @@ one() {
     return
   fi
   ok "the crate of $name.c is built"
-  "$built"
+  "$built" >"$work/written"
   local got=$?
   if ! command -v gcc >/dev/null 2>&1; then
     skip "the status of $name.c by gcc (gcc isn't there)"
     return
   fi
-  status_by_gcc "$work/$name.c"
+  status_by_gcc "$work/$name.c" >"$work/wanted"
   local want=$?
-  if [ "$got" -eq "$want" ]; then
-    ok "the crate of $name.c ends with $want, as gcc's program does"
+  if [ "$got" -eq "$want" ] && cmp -s "$work/written" "$work/wanted"; then
+    ok "the crate of $name.c writes and ends with $want as gcc's program does"
   else
-    bad "the crate of $name.c ends with $got, and gcc's program with $want"
+    bad "the crate of $name.c ends with $got, and gcc's program with $want, or they write different bytes"
   fi
 }
 
@@ -114,14 +114,40 @@ refused_in_turn() {
   fi
 }
 
+# Random straight `int` units: what the programs of their crates show is compared with an evaluator of C99 that
+# shares nothing with the program, and this with gcc's programs.
+straight_units() {
+  local tool
+  for tool in python3 rustc gcc stdbuf; do
+    if ! command -v "$tool" >/dev/null 2>&1; then
+      skip "random straight units ($tool isn't there)"
+      return
+    fi
+  done
+  if ! python3 -c 'import sys; sys.exit(sys.version_info < (3, 10))'; then
+    skip "random straight units (python3 is older than 3.10)"
+    return
+  fi
+  local said
+  if ! said=$(python3 "$top/tests/straight_units.py" --self-test 2>&1); then
+    bad "the evaluator of straight units: $said"
+  elif ! said=$(python3 "$top/tests/straight_units.py" --c2rs "$program" --folder "$work/straight" 2>&1); then
+    bad "random straight units: $said"
+  else
+    ok "random straight units: $said"
+  fi
+}
+
 one answer
+one letter
 refused_in_turn
+straight_units
 usage='c2rs: usage: transpile -o DIR FILE..'
 report 2 "$usage"
 report 2 "$usage" transpile -o out -o out answer.c
 report 2 "$usage" transpile -o out "$(printf '\377.c')"
 report 3 'c2rs: cannot read no.c' transpile -o out no.c
-printf 'int main(void) { return 2147483648; }' >"$work/a.c"
+printf 'int main(void) { return 1u; }' >"$work/a.c"
 report 1 'a.c:1: N1: not built' transpile -o out a.c
 printf 'int x;\ndouble y;\n' >"$work/b.c"
 report 1 'b.c:2: O1: floating word' transpile -o out b.c

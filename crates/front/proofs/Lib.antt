@@ -1,9 +1,7 @@
-pub mod NameLaws
-pub mod UnitLaws
-pub mod PrintLaws
 pub mod FileLaws
-pub mod MeaningLaws
-pub mod TranspileLaws
-pub mod RunLaws
+pub mod KeptLaws
 pub mod OthersLaws
-pub mod TokenLaws
+pub mod RunLaws
+pub mod StraightLaws
+pub mod TranspileLaws
+pub mod UnitLaws

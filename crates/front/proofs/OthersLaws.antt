@@ -3,12 +3,11 @@ use Rattle.std.proofs.Common.{◌≡◌, ℕ, zero, suc, ◌+◌, inl, inr, Bool
 use Rattle.std.specs.List.{list_any}
 use Rattle.shelf.specs.declared.file.File.{File}
 use Rattle.shelf.specs.Shelf.{ShelfState, with_file, without_file}
-use Rattle.front.specs.declared.tree.Crate.{Crate}
-use Rattle.front.specs.declared.tree.Module.{Module}
-use Rattle.front.specs.Names.{module_name}
-use Rattle.front.specs.Text.{text_of, file_of, module_file}
-use Rattle.front.specs.Program.{Program}
-use Rattle.front.specs.Items.{Outline, outlines_from, items_in, items_of, head_of}
+use Rattle.cx_core.specs.Trees.{CProgram}
+use Rattle.rs_items.specs.Modules.{module_name}
+use Rattle.rs_tree.specs.Text.{text_of, file_of, module_file}
+use Rattle.rs_tree.specs.Tree.{ModuleTree, CrateTree}
+use Rattle.whole.specs.Items.{Outline, outlines_from, items_in, items_of, head_of}
 use Rattle.front.specs.Job.{Job, transpile}
 use Rattle.front.specs.Files.{Held, WhereTold, units_of, unit_and, files_in, file_in, name_in, with_files, written_names}
 use Rattle.front.specs.Report.{Ending, done, refused, usage, cannot_read, cannot_write, memory}
@@ -32,16 +31,16 @@ unit_names held (name ∷ names) units e =
     let parts = unit_parts name (held name) (units_of held names) units e in
     ap (map (λ (unit : File). unit.name)) parts.3 ∙ ap (λ ns. name ∷ ns) (unit_names held names parts.1 parts.2)
 
-outline_names : (modules : List Module) → map (λ (o : Outline). o.name) (map (λ (unit : Module). record { name = unit.name; heads = map head_of unit.items }) modules) ≡ map (λ (unit : Module). unit.name) modules
+outline_names : (modules : List ModuleTree) → map (λ (o : Outline). o.name) (map (λ (unit : ModuleTree). record { name = unit.name; heads = map head_of unit.items }) modules) ≡ map (λ (unit : ModuleTree). unit.name) modules
 outline_names [] = refl
 outline_names (unit ∷ units) = ap (λ ns. unit.name ∷ ns) (outline_names units)
 
-outlines_names : (program : Program) (k : ℕ) (names : List (List ℕ)) → map (λ (o : Outline). o.name) (outlines_from program k names) ≡ map module_name names
+outlines_names : (program : CProgram) (k : ℕ) (names : List (List ℕ)) → map (λ (o : Outline). o.name) (outlines_from program k names) ≡ names
 outlines_names program k [] = refl
-outlines_names program k (name ∷ names) = ap (λ ns. module_name name ∷ ns) (outlines_names program (k + 1) names)
+outlines_names program k (name ∷ names) = ap (λ ns. name ∷ ns) (outlines_names program (k + 1) names)
 
 -- the modules of a right translation are named after the files of their units
-pub module_names : (whole : Crate) (program : Program) (names : List (List ℕ)) → items_in whole ≡ items_of program names → map (λ (unit : Module). unit.name) whole.modules ≡ map module_name names
+pub module_names : (whole : CrateTree) (program : CProgram) (names : List (List ℕ)) → items_in whole ≡ items_of program names → map (λ (unit : ModuleTree). unit.name) whole.modules ≡ names
 module_names whole program names e =
     sym (outline_names whole.modules) ∙ ap (map (λ (o : Outline). o.name)) e ∙ outlines_names program 0 names
 
@@ -49,7 +48,7 @@ module_names whole program names e =
 abbrev rs_name : List ℕ → List ℕ → List ℕ
 rs_name directory name = name_in directory (codes "src/" ++ (name ++ codes ".rs"))
 
-module_file_names : (directory : List ℕ) (modules : List Module) (rest : List File) → map (λ (f : File). f.name) (map (file_in directory) (map module_file modules ++ rest)) ≡ map (rs_name directory) (map (λ (unit : Module). unit.name) modules) ++ map (λ (f : File). f.name) (map (file_in directory) rest)
+module_file_names : (directory : List ℕ) (modules : List ModuleTree) (rest : List File) → map (λ (f : File). f.name) (map (file_in directory) (map module_file modules ++ rest)) ≡ map (rs_name directory) (map (λ (unit : ModuleTree). unit.name) modules) ++ map (λ (f : File). f.name) (map (file_in directory) rest)
 module_file_names directory [] rest = refl
 module_file_names directory (unit ∷ units) rest = ap (λ ns. rs_name directory unit.name ∷ ns) (module_file_names directory units rest)
 
@@ -57,11 +56,15 @@ written_map : (directory : List ℕ) (names : List (List ℕ)) → map (rs_name 
 written_map directory [] = refl
 written_map directory (name ∷ names) = ap (λ ns. rs_name directory (module_name name) ∷ ns) (written_map directory names)
 
+names_by : (units : List File) → map (λ (unit : File). module_name unit.name) units ≡ map module_name (map (λ (unit : File). unit.name) units)
+names_by [] = refl
+names_by (unit ∷ units) = ap (λ ns. module_name unit.name ∷ ns) (names_by units)
+
 -- the files of a right translation have the names that the job writes
-pub file_names : (directory : List ℕ) (names : List (List ℕ)) (units : List File) (whole : Crate) (program : Program) → map (λ (unit : File). unit.name) units ≡ names → items_in whole ≡ items_of program (map (λ (unit : File). unit.name) units) → map (λ (f : File). f.name) (files_in directory (text_of whole)) ≡ written_names directory names
+pub file_names : (directory : List ℕ) (names : List (List ℕ)) (units : List File) (whole : CrateTree) (program : CProgram) → map (λ (unit : File). unit.name) units ≡ names → items_in whole ≡ items_of program (map (λ (unit : File). module_name unit.name) units) → map (λ (f : File). f.name) (files_in directory (text_of whole)) ≡ written_names directory names
 file_names directory names units whole program named items =
     let last = name_in directory (codes "src/main.rs") ∷ name_in directory (codes "Cargo.toml") ∷ [] in
-    let modules = module_names whole program names (items ∙ ap (items_of program) named) in
+    let modules = module_names whole program (map (λ (unit : File). module_name unit.name) units) items ∙ names_by units ∙ ap (map module_name) named in
     module_file_names directory whole.modules (file_of (codes "src/main.rs") _ ∷ file_of (codes "Cargo.toml") _ ∷ [])
     ∙ ap (λ ns. map (rs_name directory) ns ++ last) modules
     ∙ ap (λ ns. ns ++ last) (written_map directory names)
@@ -118,14 +121,14 @@ keeps_same names (Some held) after e = λ asked lacking. ap (held_under asked) e
 keeps_done : (directory : List ℕ) (names : List (List ℕ)) (s t : ShelfState) → WhereTranslated directory names s (λ files. t.held ≡ with_files files s.held) → WhereTold s.held (Keeps (written_names directory names) t.held)
 keeps_done directory names s t leaves = where_map _ (Keeps (written_names directory names) t.held) s.held (λ held told made asked lacking.
     let files = files_in directory (text_of made.1) in
-    let named = file_names directory names made.0 made.1 made.3.program (unit_names held names made.0 made.2) made.3.items in
+    let named = file_names directory names made.0 made.1 made.3.program (unit_names held names made.0 made.2) made.3.right.items in
     let lacks = ap (list_any (λ name. bytes_eq name asked)) named ∙ lacking in
     ap (held_under asked) made.4 ∙ under_files files asked s.held lacks ∙ ap (held_under asked) told) leaves
 
 keeps_left : (directory : List ℕ) (names : List (List ℕ)) (k : ℕ) (name : List ℕ) (s t : ShelfState) → IsLeftAt directory names k name s t → WhereTold s.held (Keeps (written_names directory names) t.held)
 keeps_left directory names k name s t left = where_map _ (Keeps (written_names directory names) t.held) s.held (λ held told made asked lacking.
     let files = files_in directory (text_of made.1) in
-    let named = file_names directory names made.0 made.1 made.3.program (unit_names held names made.0 made.2) made.3.items in
+    let named = file_names directory names made.0 made.1 made.3.program (unit_names held names made.0 made.2) made.3.right.items in
     let lacks = take_lacks files asked k (ap (list_any (λ other. bytes_eq other asked)) named ∙ lacking) in
     let differs = lacks_at (written_names directory names) asked name k lacking left.named in
     sym (under_without name asked t.held differs)

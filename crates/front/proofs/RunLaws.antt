@@ -8,11 +8,9 @@ use Rattle.shelf.specs.declared.file.File.{File}
 use Rattle.shelf.specs.Shelf.{ShelfState, without_file}
 use Rattle.shelf.specs.Sink.{SinkState, Appended}
 use Rattle.front.specs.Job.{Job, transpile}
-use Rattle.front.specs.declared.tree.Crate.{Crate}
-use Rattle.front.specs.Text.{text_of}
-use Rattle.front.specs.declared.tree.Crate.{Crate}
-use Rattle.front.specs.Text.{text_of}
-use Rattle.front.specs.Program.{Program}
+use Rattle.cx_core.specs.Trees.{CProgram}
+use Rattle.rs_tree.specs.Text.{text_of}
+use Rattle.rs_tree.specs.Tree.{CrateTree}
 use Rattle.front.specs.Refusals.{IsRead, FirstBroken, CoreOf}
 use Rattle.front.specs.Files.{Held, WhereTold, units_of, files_in, with_files}
 use Rattle.front.specs.Report.{Ending, done, refused, usage, cannot_read, cannot_write, memory, IsTold, IsReported, WriteFailed, ReportsMemory, report_of, status_of, refusal_report, usage_report, unread_report, unwritten_report}
@@ -212,14 +210,14 @@ none_not_some : {X : Type 0} {x : X} {o : Option X} → o ≡ None → o ≡ Som
 none_not_some e d = cc
 
 -- units that make a program break no rule
-pub core_unbroken : (units : List File) (program : Program) (refusal : Refusal) → CoreOf units program → FirstBroken units refusal → ⊥
+pub core_unbroken : (units : List File) (program : CProgram) (refusal : Refusal) → CoreOf units program → FirstBroken units refusal → ⊥
 core_unbroken units program refusal core broken = elim broken [
   | inl m1 ↦
       let small = (read_at units refusal.unit m1.unit.0 core.read m1.unit.1).0 in
       omega (arith, small, m1.unit.2)
   | inr other ↦ elim other [
     | inl token ↦ none_not_some (read_at units refusal.unit token.unit.0 core.read token.unit.1).1 token.unit.3
-    | inr n1 ↦ n1.not_built core.built
+    | inr n1 ↦ n1.not_built program core.built
   ]
 ]
 
@@ -242,7 +240,7 @@ same_units held names units others e d = cc
 
 -- a right translation of the units that are held, and no others
 abbrev translation : List ℕ → List (List ℕ) → (List File → Type 0) → (List ℕ → Option (List ℕ)) → Type 0
-translation directory names P held = (units : List File) × (whole : Crate) × (units_of held names ≡ Some units) × Translates units whole × P (files_in directory (text_of whole))
+translation directory names P held = (units : List File) × (crate : CrateTree) × (units_of held names ≡ Some units) × Translates units crate × P (files_in directory (text_of crate))
 
 translated_unbroken : (directory : List ℕ) (names : List (List ℕ)) (P : List File → Type 0) (h : Held) (held : List ℕ → Option (List ℕ)) (units : List File) (refusal : Refusal) → h ≡ Some held → units_of held names ≡ Some units → FirstBroken units refusal → WhereTold h (translation directory names P) → ⊥
 translated_unbroken directory names P h held units refusal e found broken told =
@@ -293,7 +291,7 @@ when_missing (Some (transpile directory names)) (cannot_write name) s t a b r le
 when_missing (Some (transpile directory names)) memory s t a b r leaves told lacks = inr (inl told.0)
 
 -- units that break no rule
-pub when_sound : (job : Option Job) (ending : Ending) (s t : ShelfState) (a b : SinkState) (r : ℕ) → Leaves job ending s t → IsTold ending a b r → (units : List File) (program : Program) → ForJob job (λ directory names. (held : List ℕ → Option (List ℕ)) × (s.held ≡ Some held) × (units_of held names ≡ Some units)) → CoreOf units program → (r ≡ 0) ⊎ ((r ≡ 10) ⊎ Rose s.faults t.faults)
+pub when_sound : (job : Option Job) (ending : Ending) (s t : ShelfState) (a b : SinkState) (r : ℕ) → Leaves job ending s t → IsTold ending a b r → (units : List File) (program : CProgram) → ForJob job (λ directory names. (held : List ℕ → Option (List ℕ)) × (s.held ≡ Some held) × (units_of held names ≡ Some units)) → CoreOf units program → (r ≡ 0) ⊎ ((r ≡ 10) ⊎ Rose s.faults t.faults)
 when_sound None ending s t a b r leaves told units program holds core = absurd holds
 when_sound (Some (transpile directory names)) done s t a b r leaves told units program holds core = inl told.0
 when_sound (Some (transpile directory names)) (refused file cause) s t a b r leaves told units program holds core =

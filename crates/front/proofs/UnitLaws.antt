@@ -1,79 +1,72 @@
--- Reading the one form of unit that is translated today.
-use Rattle.std.proofs.Common.{◌≡◌, ◌≢◌, ℕ, ◌+◌, ◌≤◌, List, [], ◌∷◌, ◌++◌, length, get_or, Bor, Option, Some, None, Result, Ok, inl, inr, refl, sym, ap, subst, ◌∙◌, arith, length-append, append_assoc}
-use Rattle.std.specs.Prelude.{decimal}
-use Rattle.std.specs.Option.{MatchOption}
-use Rattle.std.specs.Str.{IsUtf8}
-use Rattle.std.proofs.lemmas.Str.{IsUtf8-from_ascii}
-use Rattle.std.proofs.lemmas.Fmt.{IsAscii-decimal, parse-decimal}
-use Rattle.std.specs.Str.Parse.{ParsesUnsigned}
-use Rattle.std.proofs.lemmas.List.{append_cancel_left, append_cancel_right}
-use Rattle.std.proofs.lemmas.Grind.{common_steps}
-use Rattle.front.specs.Unit.{before_number, after_number, IsReturnUnit, EndsWith}
+-- What stops a unit, from what its steps find.
+use Rattle.std.proofs.Common.{◌≡◌, ℕ, inl, inr, List, [], ◌∷◌, take, length, Option, Some, None, Result, Ok, Err, IfOk, IfErr, refl, sym, ap, subst, ◌∙◌, arith, slice_get, ◌≤◌, zero, suc}
+use Rattle.std.specs.Prelude.{All}
+use Rattle.std.specs.Result.{IsErrAnd}
+use Rattle.cr_base.specs.declared.refusal.Refusal.{Refusal}
+use Rattle.cr_base.specs.declared.refusal.Stop.{Stop}
+use Rattle.cr_base.specs.declared.refusal.Stop.TheVariants.{Refused, Memory}
+use Rattle.cx_core.specs.Trees.{CProgram}
+use Rattle.cx_lex.specs.declared.token.Token.{Token}
+use Rattle.cx_lex.specs.Lexed.{IsFirstFault}
+use Rattle.cx_lex.specs.Tokens.{Spells, token_fault}
+use Rattle.cx_lex.proofs.SpellLemmas.{spell_once, spell_or_break}
+use Rattle.cx_tree.specs.Derives.{Derives}
+use Rattle.shelf.specs.declared.file.File.{File}
+use Rattle.front.specs.Kept.{KeepsNames}
+use Rattle.front.specs.Refusals.{IsSmall, IsRead, IsBuiltAs, ProgramOf, FirstBroken, StopsUnit}
+use Rattle.front.specs.Steps.{HasProgram, BuildsAs, StopsAs, not_built}
+use Rattle.front.proofs.TranspileLaws.{all_one, all_none}
 
-pub decimal_is_text : (n : ℕ) (bs : List ℕ) → n ≤ 2147483647 → bs ≡ decimal n → IsUtf8 bs
-decimal_is_text n bs small e = subst IsUtf8 (sym e) (IsUtf8-from_ascii (decimal n) (IsAscii-decimal n (omega arith)))
+-- an error that is this one keeps what is known of this one
+pub kept_error : {X : Type 0} (P : Stop → Type 0) (stop : Stop) (r : Result X Stop) → IsErrAnd r (λ e. e ≡ stop) → P stop → IfErr r P
+kept_error P stop (Ok found) same known = tt
+kept_error P stop (Err e) same known = subst P (sym same) known
 
-pub decimal_is_parsed : {E : Type 0} (n : ℕ) (bs : List ℕ) (r : Result ℕ E) → n ≤ 2147483647 → bs ≡ decimal n → ParsesUnsigned 32 10 bs r → r ≡ Ok n
-decimal_is_parsed n bs r small e h = parse-decimal 32 n bs r (omega arith) (omega arith) e h
+-- the first rule of tokens that its bytes break
+stopped_at : (unit : File) (refusal : Refusal) → IsSmall unit → token_fault unit.bytes ≡ Some (refusal.rule, refusal.line) → refusal.unit ≡ 0 → StopsUnit unit (Refused refusal)
+stopped_at unit refusal small fault first =
+    let at : slice_get (unit ∷ []) refusal.unit ≡ Some unit = ap (slice_get (unit ∷ [])) first in
+    let before : All IsRead (take refusal.unit (unit ∷ [])) = subst (λ (k : ℕ). All IsRead (take k (unit ∷ []))) (sym first) (all_none IsRead) in
+    (first, inr (inl (record { unit = (unit, at, small, fault); before = before })))
 
--- the number that was parsed is the one in the digits
-pub parsed_same : {E : Type 0} (n m : ℕ) (bs : List ℕ) (r : Result ℕ E) → n ≤ 2147483647 → bs ≡ decimal n → ParsesUnsigned 32 10 bs r → r ≡ Ok m → m ≡ n
-parsed_same n m bs r small e h is =
-    let same : r ≡ Ok n = decimal_is_parsed n bs r small e h in
-    cc
+pub token_stops : (unit : File) (stop : Stop) → IsSmall unit → IsFirstFault unit.bytes 0 stop → StopsUnit unit stop
+token_stops unit (Refused refusal) small fault = stopped_at unit refusal small fault.0 fault.1
+token_stops unit Memory small fault = tt
 
--- the second end is tried where the first doesn't fit
-pub ends_other : (rest : List ℕ) (r : Option (Bor (List ℕ))) → ((digits : List ℕ) → rest ≢ digits ++ after_number) → MatchOption r ((digits : List ℕ) → rest ≢ digits ++ (after_number ++ 10 ∷ [])) (λ x. rest ≡ x.now ++ (after_number ++ 10 ∷ [])) → MatchOption r ((digits : List ℕ) → ¬ EndsWith rest digits) (λ x. EndsWith rest x.now)
-ends_other rest None other h = λ digits e. elim e [ inl a ↦ other digits a | inr b ↦ h digits b ]
-ends_other rest (Some x) other h = inr h
+-- tokens of which there is no program that is translated today
+pub built_stops : (unit : File) (tokens : List Token) (stop : Stop) → IsSmall unit → Spells unit.bytes tokens → StopsAs (BuildsAs unit.name tokens) stop → StopsUnit unit stop
+built_stops unit tokens Memory small spells stops = tt
+built_stops unit tokens (Refused refusal) small spells stops =
+    let none : token_fault unit.bytes ≡ None = (spell_or_break unit.bytes).0 (tokens, spells) in (
+      ap (λ (r : Refusal). r.unit) stops.0,
+      inr (inr (record {
+        refused = stops.0;
+        read = all_one IsRead unit (small, none);
+        not_built = λ program built. stops.1 program (record {
+          plain = built.plain;
+          has = record {
+            tree = built.program_is.tree;
+            derived = subst (λ list. Derives list built.program_is.tree) (spell_once unit.bytes built.program_is.tokens tokens built.program_is.spelled spells) built.program_is.derived;
+            typed = built.program_is.typed;
+          };
+          kept = built.kept;
+        });
+      })),
+    )
 
--- the two ends can't both stand: one ends in `}`, the other in a newline
-last_differs : (a b : List ℕ) → a ++ after_number ≡ b ++ (after_number ++ 10 ∷ []) → ⊥
-last_differs a b e =
-    let l : length a ≡ length b + 1 = omega (arith, ap length e, length-append a after_number, length-append b (after_number ++ 10 ∷ [])) in
-    let left : get_or (a ++ after_number) (length a + 2) 0 ≡ 125 = grind (arith, common_steps) in
-    let right : get_or (b ++ (after_number ++ 10 ∷ [])) (length b + 3) 0 ≡ 10 = grind (arith, common_steps) in
-    let place : get_or (a ++ after_number) (length a + 2) 0 ≡ get_or (b ++ (after_number ++ 10 ∷ [])) (length b + 3) 0 =
-    ap (λ xs. get_or xs (length a + 2) 0) e ∙ ap (λ i. get_or (b ++ (after_number ++ 10 ∷ [])) i 0) (omega arith) in
-    let clash : ◌≡◌ {A = ℕ} 125 10 = sym left ∙ place ∙ right in
-    omega arith
-
-pub ends_once : (rest a b : List ℕ) → EndsWith rest a → EndsWith rest b → a ≡ b
-ends_once rest a b x y = elim x [
-  | inl p ↦ elim y [
-    | inl q ↦ append_cancel_right a b after_number (sym p ∙ q)
-    | inr q ↦ absurd (last_differs a b (sym p ∙ q))
-  ]
-  | inr p ↦ elim y [
-    | inl q ↦ absurd (last_differs b a (sym q ∙ p))
-    | inr q ↦ append_cancel_right a b (after_number ++ 10 ∷ []) (sym p ∙ q)
-  ]
-]
-
--- what a unit of the form has behind its first words
-pub unit_begins : (bytes : List ℕ) (n : ℕ) → IsReturnUnit bytes n → (rest : List ℕ) × (bytes ≡ before_number ++ rest) × EndsWith rest (decimal n)
-unit_begins bytes n unit = elim unit.spelled [
-  | inl e ↦ (decimal n ++ after_number, e, inl refl)
-  | inr e ↦ ((decimal n ++ after_number) ++ 10 ∷ [], e ∙ append_assoc before_number (decimal n ++ after_number) (10 ∷ []), inr (append_assoc (decimal n) after_number (10 ∷ [])))
-]
-
-pub unit_rest : (bytes rest : List ℕ) (n : ℕ) → bytes ≡ before_number ++ rest → IsReturnUnit bytes n → EndsWith rest (decimal n)
-unit_rest bytes rest n e unit =
-    let found = unit_begins bytes n unit in
-    let Ends : List ℕ → Type 0 = λ r. EndsWith r (decimal n) in
-    subst Ends (append_cancel_left before_number found.0 rest (sym found.1 ∙ e)) found.2
-
--- a unit of the form, from what stands behind its first words
-pub unit_from : (bytes rest digits : List ℕ) (n : ℕ) → bytes ≡ before_number ++ rest → EndsWith rest digits → n ≤ 2147483647 → digits ≡ decimal n → IsReturnUnit bytes n
-unit_from bytes rest digits n e ends small is = record {
-  in_range = small;
-  spelled = elim ends [
-    | inl p ↦ inl (e ∙ ap (λ r. before_number ++ r) (p ∙ ap (λ d. d ++ after_number) is))
-    | inr p ↦ inr (e ∙ ap (λ r. before_number ++ r) (p ∙ ap (λ d. d ++ (after_number ++ 10 ∷ [])) is ∙ sym (append_assoc (decimal n) after_number (10 ∷ []))) ∙ sym (append_assoc before_number (decimal n ++ after_number) (10 ∷ [])))
-  ];
+-- the program of the unit
+pub built_found : (unit : File) (tokens : List Token) (program : CProgram) → Spells unit.bytes tokens → BuildsAs unit.name tokens program → IsBuiltAs unit program
+built_found unit tokens program spells builds = record {
+  plain = builds.plain;
+  program_is = record { tokens = tokens; tree = builds.has.tree; spelled = spells; derived = builds.has.derived; typed = builds.has.typed };
+  kept = builds.kept;
 }
 
--- the unit's number is that of its digits
-pub unit_read : (bytes rest digits : List ℕ) (r : Option ℕ) → bytes ≡ before_number ++ rest → EndsWith rest digits → MatchOption r ((n : ℕ) → n ≤ 2147483647 → digits ≢ decimal n) (λ n. (n ≤ 2147483647) × (digits ≡ decimal n)) → MatchOption r ((n : ℕ) → ¬ IsReturnUnit bytes n) (IsReturnUnit bytes)
-unit_read bytes rest digits None e ends h = λ n unit. h n unit.in_range (ends_once rest digits (decimal n) ends (unit_rest bytes rest n e unit))
-unit_read bytes rest digits (Some n) e ends h = unit_from bytes rest digits n e ends h.0 h.1
+-- there is no program where there is none of the tokens, or where it isn't kept
+pub no_program : (file : List ℕ) (tokens : List Token) (stop : Stop) → StopsAs (HasProgram tokens) stop → StopsAs (BuildsAs file tokens) stop
+no_program file tokens Memory stops = tt
+no_program file tokens (Refused refusal) stops = (stops.0, λ program builds. stops.1 program builds.has)
+
+-- there is none where the names of the one program aren't kept
+pub not_kept : (file : List ℕ) (tokens : List Token) (found : CProgram) (stop : Stop) → ¬ KeepsNames found → ((other : CProgram) → HasProgram tokens other → found ≡ other) → stop ≡ Refused not_built → StopsAs (BuildsAs file tokens) stop
+not_kept file tokens found stop lacks only e = subst (StopsAs (BuildsAs file tokens)) (sym e) (refl, λ program builds. lacks (subst KeepsNames (sym (only program builds.has)) builds.kept))

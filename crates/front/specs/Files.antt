@@ -2,8 +2,8 @@
 use Rattle.std.specs.Prelude.{ℕ, List, [], ◌∷◌, ◌++◌, map, Option, Some, None, codes, ⊤}
 use Rattle.shelf.specs.declared.file.File.{File}
 use Rattle.shelf.specs.Shelf.{with_file}
-use Rattle.front.specs.Names.{module_name}
-use Rattle.front.specs.Text.{file_of}
+use Rattle.rs_items.specs.Modules.{module_name}
+use Rattle.rs_tree.specs.Text.{file_of}
 
 -- what a shelf holds: where told, for each name its bytes, or none
 abbrev pub Held : Type 0

@@ -1,29 +1,43 @@
--- The first rule of the profile that a list of units breaks.
+-- The first rule of the profile that a list of units breaks, and the program of one that breaks none.
 use Rattle.std.specs.Prelude.{◌≡◌, ℕ, ◌<◌, ◌≤◌, ◌⊎◌, List, [], ◌∷◌, take, length, Some, None, All, slice_get, ⊤}
 use Rattle.cr_base.specs.declared.refusal.Refusal.{Refusal}
 use Rattle.cr_base.specs.declared.refusal.Stop.{Stop}
 use Rattle.cr_base.specs.declared.refusal.Stop.TheVariants.{Refused, Memory}
 use Rattle.cr_base.specs.declared.rule.Rule.TheVariants.{M1, N1}
+use Rattle.cx_core.specs.Trees.{CProgram}
+use Rattle.cx_decl.specs.CoreOf.{core_of}
+use Rattle.cx_lex.specs.declared.token.Token.{Token}
+use Rattle.cx_lex.specs.Tokens.{Spells, token_fault}
+use Rattle.cx_tree.specs.Derives.{Derives}
+use Rattle.cx_tree.specs.Trees.{UnitTree}
+use Rattle.rs_items.specs.Modules.{module_name, stem_of}
 use Rattle.shelf.specs.declared.file.File.{File}
-use Rattle.cx_lex.specs.Tokens.{token_fault}
-use Rattle.front.specs.Names.{module_name, stem_of}
-use Rattle.front.specs.Unit.{IsReturnUnit}
-use Rattle.front.specs.Program.{Program, program_returning}
+use Rattle.front.specs.Kept.{KeepsNames}
 
 -- a unit has at most 1,048,576 bytes
 abbrev pub IsSmall : File → Type 0
 IsSmall unit = length unit.bytes ≤ 1048576
 
--- a unit that is translated today: its text returns a number, and its module is named by the stem of its
--- file alone
-abbrev pub IsBuiltUnit : File → Type 0
-IsBuiltUnit unit = (module_name unit.name ≡ stem_of unit.name) × ((n : ℕ) × IsReturnUnit unit.bytes n)
+-- the typed program of a unit, by its tokens and its tree
+pub record ProgramOf (unit : File) (program : CProgram) : Type 0 where
+  pub tokens : List Token
+  pub tree : UnitTree
+  pub spelled : Spells unit.bytes tokens
+  pub derived : Derives tokens tree
+  pub typed : core_of 0 tree ≡ Some program
 
--- the lists of units that are translated today
-abbrev pub IsBuilt : List File → Type 0
-IsBuilt (unit ∷ []) = IsBuiltUnit unit
-IsBuilt [] = ⊥
-IsBuilt (unit ∷ other ∷ others) = ⊥
+-- a unit that is translated today, with its program: a straight `int` program whose declared names are their own Rust
+-- names, and whose module is named by the stem of its file alone
+pub record IsBuiltAs (unit : File) (program : CProgram) : Type 0 where
+  pub plain : module_name unit.name ≡ stem_of unit.name
+  pub program_is : ProgramOf unit program
+  pub kept : KeepsNames program
+
+-- the program of a list of units that are translated today: one unit
+abbrev pub AreBuiltAs : List File → CProgram → Type 0
+AreBuiltAs (unit ∷ []) program = IsBuiltAs unit program
+AreBuiltAs [] program = ⊥
+AreBuiltAs (unit ∷ other ∷ others) program = ⊥
 
 -- a unit that breaks no rule of its own: it is small, and its bytes spell tokens
 abbrev pub IsRead : File → Type 0
@@ -45,7 +59,7 @@ pub record BreaksToken (units : List File) (refusal : Refusal) : Type 0 where
 pub record BreaksN1 (units : List File) (refusal : Refusal) : Type 0 where
   pub refused : refusal ≡ record { rule = N1; unit = 0; line = 1 }
   pub read : All IsRead units
-  pub not_built : ¬ IsBuilt units
+  pub not_built : (program : CProgram) → ¬ AreBuiltAs units program
 
 -- the first rule that the units break, with its unit and line: units come in the order given, and inside
 -- a unit M1 comes first, then the rules of tokens
@@ -58,7 +72,6 @@ StopsUnit unit (Refused refusal) = (refusal.unit ≡ 0) × FirstBroken (unit ∷
 StopsUnit unit Memory = ⊤
 
 -- the units break no rule, and this is their typed and linked program
-pub record CoreOf (units : List File) (program : Program) : Type 0 where
+pub record CoreOf (units : List File) (program : CProgram) : Type 0 where
   pub read : All IsRead units
-  pub built : IsBuilt units
-  pub core : (n : ℕ) × All (λ unit. IsReturnUnit unit.bytes n) units × (program ≡ program_returning n)
+  pub built : AreBuiltAs units program

@@ -7,7 +7,7 @@ use Rattle.shelf.specs.declared.file.File.{File}
 use Rattle.shelf.specs.Shelf.{ShelfState}
 use Rattle.shelf.specs.Sink.{SinkState, Appended}
 use Rattle.front.specs.Job.{Job, transpile, job_of}
-use Rattle.front.specs.Program.{Program}
+use Rattle.cx_core.specs.Trees.{CProgram}
 use Rattle.front.specs.Refusals.{FirstBroken, CoreOf}
 use Rattle.front.specs.Files.{Held, WhereTold, units_of, written_names}
 use Rattle.front.specs.Report.{Ending, IsTold, WriteFailed, ReportsMemory, report_of, refusal_report, usage_report, unread_report, unwritten_report}
@@ -81,7 +81,7 @@ BreaksRule words before = (units : List File) × (refusal : Refusal) × HoldsUni
 
 -- the units that are held break no rule
 abbrev pub BreaksNone : List (List ℕ) → ShelfState → Type 0
-BreaksNone words before = (units : List File) × (program : Program) × HoldsUnits words before units × CoreOf units program
+BreaksNone words before = (units : List File) × (program : CProgram) × HoldsUnits words before units × CoreOf units program
 
 -- the shelf tells what it holds, the words are a job, and one of its files isn't held
 abbrev pub LacksFile : List (List ℕ) → ShelfState → Type 0

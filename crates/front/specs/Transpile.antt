@@ -5,31 +5,28 @@ use Rattle.cr_base.specs.declared.refusal.Refusal.{Refusal}
 use Rattle.shelf.specs.declared.called.Kind.TheVariants.{Get, Put}
 use Rattle.shelf.specs.declared.file.File.{File}
 use Rattle.shelf.specs.Shelf.{ShelfState, without_file, call_of}
-use Rattle.front.specs.declared.tree.Crate.{Crate}
-use Rattle.front.specs.Program.{Program}
+use Rattle.cx_core.specs.Trees.{CProgram}
+use Rattle.rs_items.specs.Modules.{module_name}
+use Rattle.rs_tree.specs.Text.{text_of}
+use Rattle.rs_tree.specs.Tree.{CrateTree}
+use Rattle.whole.specs.Right.{IsRight}
 use Rattle.front.specs.Refusals.{FirstBroken, CoreOf}
-use Rattle.front.specs.Typing.{WellTyped}
-use Rattle.front.specs.Items.{items_in, items_of}
-use Rattle.front.specs.Same.{BehavesAs}
-use Rattle.front.specs.Text.{text_of}
 use Rattle.front.specs.Files.{WhereTold, units_of, files_in, with_files, written_names}
 use Rattle.front.specs.Job.{Job, transpile}
 use Rattle.front.specs.Report.{Ending, done, refused, usage, cannot_read, cannot_write, memory}
 
--- a crate is a right translation of units: it is well typed, has the items of their program, and behaves
--- as that program
-pub record Translates (units : List File) (whole : Crate) : Type 0 where
-  pub program : Program
+-- a crate is a right translation of units: it is well typed, has the items of their program in modules that are
+-- named after their files, and behaves as that program
+pub record Translates (units : List File) (crate : CrateTree) : Type 0 where
+  pub program : CProgram
   pub core : CoreOf units program
-  pub well_typed : WellTyped whole
-  pub items : items_in whole ≡ items_of program (map (λ unit. unit.name) units)
-  pub behaves : BehavesAs program whole
+  pub right : IsRight program (map (λ unit. module_name unit.name) units) crate
 
 -- the units that the shelf held have a right translation, and the shelf was left as P says of its files,
 -- put under the directory
 abbrev pub WhereTranslated : List ℕ → List (List ℕ) → ShelfState → (List File → Type 0) → Type 0
 WhereTranslated directory names before P = WhereTold before.held (λ held.
-    (units : List File) × (whole : Crate) × (units_of held names ≡ Some units) × Translates units whole × P (files_in directory (text_of whole)))
+    (units : List File) × (crate : CrateTree) × (units_of held names ≡ Some units) × Translates units crate × P (files_in directory (text_of crate)))
 
 -- the job was done: the files are those of a right translation, and every other name holds what it held
 abbrev pub IsDone : List ℕ → List (List ℕ) → ShelfState → ShelfState → Type 0

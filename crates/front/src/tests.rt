@@ -1,8 +1,9 @@
 use crate::{out_of_memory, run, run_surely};
 use cr_base::{Items, Memory, Text};
 use ext_calls::SureHost;
-use shelf::{File, Got, MemShelf, MemSink, Shelf, SureShelf, SureSink};
+use shelf::{File, Got, MemShelf, MemSink, Shelf, ShelfFault, SureShelf, SureSink};
 use std::alloc::{AllocError, Global};
+use std::process::Abort;
 use std::test::Fail;
 
 const UNIT: &str = "int main(void) { return 42; }";
@@ -11,6 +12,76 @@ const USAGE: &str = "c2rs: usage: transpile -o DIR FILE..\n";
 
 const MODULE: &str = "pub unsafe extern \"C\" fn main_0() -> i32 {
     return 42i32;
+}
+pub unsafe extern \"C\" fn run_static_initializers() {
+}
+";
+
+// The module of a unit that calls `putchar`: a static object that begins as zero, the external function, a
+// temporary for each operand, and the initial value in `run_static_initializers`.
+const CALLING: &str = "#[no_mangle]
+pub static mut x: i32 = unsafe { core::mem::zeroed() };
+extern \"C\" {
+    pub fn putchar(a0: i32) -> i32;
+}
+pub unsafe extern \"C\" fn main_0() -> i32 {
+    let mut t: i32 = core::mem::zeroed();
+    let mut t_0: i32 = core::mem::zeroed();
+    let mut t_1: i32 = core::mem::zeroed();
+    let mut t_2: i32 = core::mem::zeroed();
+    let mut t_3: i32 = core::mem::zeroed();
+    let mut t_4: i32 = core::mem::zeroed();
+    let mut t_5: i32 = core::mem::zeroed();
+    t = crate::a::x;
+    t_0 = crate::a::x;
+    t_1 = t_0 + 5i32;
+    t_2 = crate::a::putchar(t_1);
+    t_3 = t + t_2;
+    crate::a::x = t_3;
+    t_4 = crate::a::x;
+    t_5 = t_4 - 125i32;
+    return t_5;
+}
+pub unsafe extern \"C\" fn run_static_initializers() {
+    crate::a::x = 60i32;
+}
+";
+
+// The module of `int x; int main(void) { return x + (x = 1); }`.
+const CONFLICT: &str = "#[no_mangle]
+pub static mut x: i32 = unsafe { core::mem::zeroed() };
+pub unsafe extern \"C\" fn main_0() -> i32 {
+    let mut t: i32 = core::mem::zeroed();
+    let mut t_0: i32 = core::mem::zeroed();
+    t = crate::a::x;
+    crate::a::x = 1i32;
+    t_0 = t + 1i32;
+    return t_0;
+}
+pub unsafe extern \"C\" fn run_static_initializers() {
+}
+";
+
+// The module of `int t = 7; int main(void) { return -t * 2; }`: no temporary has the name of an object.
+const TAKEN: &str = "#[no_mangle]
+pub static mut t: i32 = unsafe { core::mem::zeroed() };
+pub unsafe extern \"C\" fn main_0() -> i32 {
+    let mut t_0: i32 = core::mem::zeroed();
+    let mut t_1: i32 = core::mem::zeroed();
+    let mut t_2: i32 = core::mem::zeroed();
+    t_0 = crate::a::t;
+    t_1 = -t_0;
+    t_2 = t_1 * 2i32;
+    return t_2;
+}
+pub unsafe extern \"C\" fn run_static_initializers() {
+    crate::a::t = 7i32;
+}
+";
+
+// The module of a unit whose `main` returns 1.
+const ONE: &str = "pub unsafe extern \"C\" fn main_0() -> i32 {
+    return 1i32;
 }
 pub unsafe extern \"C\" fn run_static_initializers() {
 }
@@ -54,11 +125,12 @@ impl<T: Drop> From<std::alloc::AllocFailed<T>> for SetUp {
     }
 }
 
-// A job and what it left: the status, the report, and the shelf.
+// A job and what it left: the status, the report, whether nothing was written to `out`, and the shelf.
 #[derive(Drop)]
 struct Seen {
     status: u8,
     report: Option<Vec<u8>>,
+    quiet: bool,
     shelf: MemShelf,
 }
 
@@ -108,9 +180,11 @@ fn done(
         Some(bytes) => Some(Vec::from_slice(alloc, bytes)?),
         None => None,
     };
+    let quiet = matches!(out.written(), Some(bytes) if bytes.is_empty());
     Ok(Seen {
         status,
         report,
+        quiet,
         shelf,
     })
 }
@@ -122,7 +196,7 @@ fn transpiled(alloc: Global, name: &str, bytes: &[u8], fails: &[u64]) -> Result<
 
 // The bytes that a shelf holds under a name, or None where it holds none.
 fn held(shelf: &mut MemShelf, name: &str) -> Option<Items<u8>> {
-    match shelf.get(name, 1000) {
+    match shelf.get(name, 4000) {
         Ok(Got::Bytes(bytes)) => Some(bytes),
         _ => None,
     }
@@ -142,43 +216,224 @@ fn reports(seen: &Seen, text: &str) -> bool {
     }
 }
 
+// The status, the report and the bytes of the three files of a unit that is translated.
+fn is_translated(rt: &(impl Abort + AllocGlobal), text: &str, module: &str) -> Result<(), SetUp> {
+    let mut seen = transpiled(rt.alloc(), "a.c", text.as_bytes(), &[])?;
+    assert_eq!(rt; seen.status, 0, "{text}");
+    assert!(rt; reports(&seen, ""), "{text}");
+    assert!(rt; seen.quiet, "{text}");
+    assert!(rt; holds(&mut seen.shelf, "out/src/a.rs", module), "{text}");
+    assert!(rt; holds(&mut seen.shelf, "out/src/main.rs", MAIN), "{text}");
+    assert!(rt; holds(&mut seen.shelf, "out/Cargo.toml", CARGO), "{text}");
+    assert!(rt; holds(&mut seen.shelf, "a.c", text), "{text}");
+    Ok(())
+}
+
+// The unit is refused with this report, and nothing is put.
+fn is_refused(rt: &(impl Abort + AllocGlobal), text: &str, report: &str) -> Result<(), SetUp> {
+    let mut seen = transpiled(rt.alloc(), "a.c", text.as_bytes(), &[])?;
+    assert_eq!(rt; seen.status, 1, "{text}");
+    assert!(rt; reports(&seen, report), "{text}");
+    assert!(rt; seen.quiet, "{text}");
+    for name in ["out/src/a.rs", "out/src/main.rs", "out/Cargo.toml"] {
+        assert!(rt; held(&mut seen.shelf, name).is_none(), "{text}");
+    }
+    assert!(rt; holds(&mut seen.shelf, "a.c", text), "{text}");
+    Ok(())
+}
+
+const NOT_BUILT: &str = "a.c:1: N1: not built\n";
+
 #[test]
 fn first_unit_is_translated(rt: HostRuntime) -> Result<(), Fail> {
     assert_eq!(rt; (MODULE.len(), MAIN.len(), CARGO.len()), (118, 185, 65));
-    for text in [UNIT, "int main(void) { return 42; }\n"] {
-        let mut seen = transpiled(rt.alloc(), "a.c", text.as_bytes(), &[])?;
-        assert_eq!(rt; seen.status, 0);
-        assert!(rt; reports(&seen, ""));
-        assert!(rt; holds(&mut seen.shelf, "out/src/a.rs", MODULE));
-        assert!(rt; holds(&mut seen.shelf, "out/src/main.rs", MAIN));
-        assert!(rt; holds(&mut seen.shelf, "out/Cargo.toml", CARGO));
-        assert!(rt; holds(&mut seen.shelf, "a.c", text));
+    is_translated(&rt, UNIT, MODULE)?;
+    is_translated(&rt, "int main(void) { return 42; }\n", MODULE)?;
+    Ok(())
+}
+
+#[test]
+fn straight_units_are_translated(rt: HostRuntime) -> Result<(), Fail> {
+    let rows = [
+        (
+            "int putchar(int); int x = 60; int main(void) { x = x + putchar(x + 5); return x - 125; }",
+            CALLING,
+        ),
+        ("int x; int main(void) { return x + (x = 1); }", CONFLICT),
+        ("int t = 7; int main(void) { return -t * 2; }", TAKEN),
+        ("int putchar(int); int main(void) { return 42; }", MODULE),
+        ("int main(void) { return (42); }", MODULE),
+        ("int main(void) { 1; 2; return 42; }", MODULE),
+    ];
+    for (text, module) in rows {
+        is_translated(&rt, text, module)?;
+    }
+    Ok(())
+}
+
+// White space, comments and linemarkers separate tokens, and a constant is spelled in any base (ISO C99, 5.1.1.2,
+// 6.4.4.1).
+#[test]
+fn spelling_changes_no_file(rt: HostRuntime) -> Result<(), Fail> {
+    let rows = [
+        "int main(void){return 42;}",
+        "int main(void) { return 42; }\n\n",
+        "\tint\nmain(\nvoid )\r\n{ return\x0b42\x0c; } ",
+        "/* a */ int main(void) { return /**/ 42; } // b",
+        "# 1 \"a.c\"\nint main(void) { return 42; }",
+        "int main(void) <% return 42; %>",
+        "int main(void) { return 052; }",
+        "int main(void) { return 0x2a; }",
+    ];
+    for text in rows {
+        is_translated(&rt, text, MODULE)?;
     }
     Ok(())
 }
 
 #[test]
-fn numbers_of_type_int_are_returned(rt: HostRuntime) -> Result<(), Fail> {
+fn constants_are_of_type_int(rt: HostRuntime) -> Result<(), Fail> {
     let rows = [
         ("int main(void) { return 0; }", 0),
         ("int main(void) { return 2147483647; }", 0),
+        ("int main(void) { return 0x7fffffff; }", 0),
         ("int main(void) { return 2147483648; }", 1),
-        ("int main(void) { return 042; }", 1),
-        ("int main(void) { return +42; }", 1),
-        ("int main(void) { return ; }", 1),
-        ("int main(void) { return 42; } ", 1),
-        ("int main(void) { return 42; }\n\n", 1),
-        ("int main(void) {return 42; }", 1),
-        ("", 1),
+        ("int main(void) { return 0x80000000; }", 1),
+        ("int main(void) { return 1u; }", 1),
+        ("int main(void) { return 1l; }", 1),
+        ("int main(void) { return 'a'; }", 1),
     ];
     for (text, status) in rows {
-        let mut seen = transpiled(rt.alloc(), "a.c", text.as_bytes(), &[])?;
+        let seen = transpiled(rt.alloc(), "a.c", text.as_bytes(), &[])?;
         assert_eq!(rt; seen.status, status, "{text}");
-        if status == 1 {
-            assert!(rt; reports(&seen, "a.c:1: N1: not built\n"));
-            assert!(rt; held(&mut seen.shelf, "out/src/a.rs").is_none());
-        }
     }
+    Ok(())
+}
+
+// Units with a rule of tokens unbroken that aren't straight programs: the report names the file, line 1 and N1.
+#[test]
+fn other_units_are_not_built(rt: HostRuntime) -> Result<(), Fail> {
+    let rows = [
+        "",
+        "int main(void) { return 1u; }",
+        "int main(void) { return 2147483648; }",
+        "int main(void) { return +42; }",
+        "int main(void) { return ; }",
+        "int main(void) { return 1 }",
+        "int main(void) { return 1;",
+        "int main(void) { return 7 / 2; }",
+        "int main() { return 0; }",
+        "void main(void) { return 0; }",
+        "x + ;",
+        "int x;\nint main(void) {\n    x + ;\n    return 0;\n}\n",
+        "int x; int main(void) { 1 = x; return x; }",
+        "int x; int main(void) { (x) = 1; return x; }",
+        "int main(void) { ; return 0; }",
+        "int main(void) { { return 0; } }",
+    ];
+    for text in rows {
+        is_refused(&rt, text, NOT_BUILT)?;
+    }
+    Ok(())
+}
+
+// A body's last statement, and no other, is a `return` with a value.
+#[test]
+fn bodies_end_with_a_return(rt: HostRuntime) -> Result<(), Fail> {
+    let rows = [
+        "int main(void) { }",
+        "int x; int main(void) { x = 1; }",
+        "int main(void) { return 1; return 2; }",
+        "int x; int main(void) { return x; x = 1; }",
+    ];
+    for text in rows {
+        is_refused(&rt, text, NOT_BUILT)?;
+    }
+    Ok(())
+}
+
+// Each name is declared once, and before its use; `putchar`, the objects and `main` are declared in this order, and
+// nothing else is.
+#[test]
+fn other_declarations_are_not_built(rt: HostRuntime) -> Result<(), Fail> {
+    let rows = [
+        "int x;",
+        "int x; int x; int main(void) { return 0; }",
+        "int x = 1; int x; int main(void) { return x; }",
+        "int putchar(int); int putchar(int); int main(void) { return 0; }",
+        "int putchar(int); int putchar; int main(void) { return 0; }",
+        "int main; int main(void) { return 0; }",
+        "int main(void) { return 0; } int main(void) { return 0; }",
+        "int main(void) { return x; }",
+        "int main(void) { return x; } int x;",
+        "int main(void) { return putchar(65); }",
+        "int main(void) { return putchar(65); } int putchar(int);",
+        "int x; int putchar(int); int main(void) { return 0; }",
+        "int f(int); int main(void) { return 0; }",
+        "int putchar(void); int main(void) { return 0; }",
+        "int putchar(int c); int main(void) { return 0; }",
+        "int putchar(int); int main(void) { return putchar(1, 2); }",
+        "int putchar(int); int main(void) { return putchar; }",
+        "int x; int main(void) { return x(1); }",
+        "int x = -1; int main(void) { return x; }",
+        "int x = (1); int main(void) { return x; }",
+        "int x, y; int main(void) { return x; }",
+        "int x = 1u; int main(void) { return x; }",
+        "int main(void) { int x; return 0; }",
+        "char x; int main(void) { return 0; }",
+    ];
+    for text in rows {
+        is_refused(&rt, text, NOT_BUILT)?;
+    }
+    Ok(())
+}
+
+// A name that a module can't have as it is: keywords of Rust, path words, `_`, and names that the translation uses.
+#[test]
+fn names_that_need_a_change_are_not_built(rt: HostRuntime) -> Result<(), Fail> {
+    let rows = [
+        "int fn; int main(void) { return 0; }",
+        "int self; int main(void) { return 0; }",
+        "int _; int main(void) { return 0; }",
+        "int core; int main(void) { return 0; }",
+        "int i32; int main(void) { return 0; }",
+        "int main_0; int main(void) { return 0; }",
+        "int current_block; int main(void) { return 0; }",
+        "int run_static_initializers; int main(void) { return 0; }",
+        "int x = 1; int union_; int loop = 2; int main(void) { return x; }",
+    ];
+    for text in rows {
+        is_refused(&rt, text, NOT_BUILT)?;
+    }
+    Ok(())
+}
+
+// A unit that returns 1 behind so many parentheses.
+fn in_parentheses(alloc: Global, count: u32) -> Result<Vec<u8>, SetUp> {
+    let mut text = Vec::from_slice(alloc, b"int main(void) { return ".as_slice())?;
+    for _time in 0..count {
+        text.push(b'(')?;
+    }
+    text.push(b'1')?;
+    for _time in 0..count {
+        text.push(b')')?;
+    }
+    text.extend_from_slice(b"; }")?;
+    Ok(text)
+}
+
+// The unit, the definition, its body, the `return`, 507 parentheses and the constant are 512 nodes on one path.
+#[test]
+fn trees_of_at_most_512_nodes_on_a_path_are_built(rt: HostRuntime) -> Result<(), Fail> {
+    let text = in_parentheses(rt.alloc(), 507)?;
+    let mut seen = transpiled(rt.alloc(), "a.c", text.as_slice(), &[])?;
+    assert_eq!(rt; seen.status, 0);
+    assert!(rt; holds(&mut seen.shelf, "out/src/a.rs", ONE));
+    let text = in_parentheses(rt.alloc(), 508)?;
+    let mut seen = transpiled(rt.alloc(), "a.c", text.as_slice(), &[])?;
+    assert_eq!(rt; seen.status, 1);
+    assert!(rt; reports(&seen, NOT_BUILT));
+    assert!(rt; held(&mut seen.shelf, "out/src/a.rs").is_none());
     Ok(())
 }
 
@@ -207,10 +462,7 @@ fn units_that_break_a_rule_of_tokens_are_refused(rt: HostRuntime) -> Result<(), 
         ),
     ];
     for (text, report) in rows {
-        let mut seen = transpiled(rt.alloc(), "a.c", text.as_bytes(), &[])?;
-        assert_eq!(rt; seen.status, 1, "{text}");
-        assert!(rt; reports(&seen, report), "{text}");
-        assert!(rt; held(&mut seen.shelf, "out/src/a.rs").is_none());
+        is_refused(&rt, text, report)?;
     }
     Ok(())
 }
@@ -219,9 +471,10 @@ fn units_that_break_a_rule_of_tokens_are_refused(rt: HostRuntime) -> Result<(), 
 fn large_units_are_refused(rt: HostRuntime) -> Result<(), Fail> {
     let mut bytes = Vec::from_slice(rt.alloc(), UNIT.as_bytes())?;
     bytes.resize(1_048_576, b' ')?;
-    let seen = transpiled(rt.alloc(), "a.c", bytes.as_slice(), &[])?;
-    assert_eq!(rt; seen.status, 1);
-    assert!(rt; reports(&seen, "a.c:1: N1: not built\n"));
+    let mut seen = transpiled(rt.alloc(), "a.c", bytes.as_slice(), &[])?;
+    assert_eq!(rt; seen.status, 0);
+    assert!(rt; reports(&seen, ""));
+    assert!(rt; holds(&mut seen.shelf, "out/src/a.rs", MODULE));
     bytes.clear();
     bytes.resize(1_048_577, b' ')?;
     let seen = transpiled(rt.alloc(), "a.c", bytes.as_slice(), &[])?;
@@ -335,6 +588,57 @@ fn nothing_fails_over_sure_objects(rt: HostRuntime) -> Result<(), Fail> {
     );
     assert_eq!(rt; status, 0);
     assert_eq!(rt; out_of_memory(&mut err), 10);
+    Ok(())
+}
+
+// A shelf that finds no memory for a `put`, and where `gives` is false for a `get` either.
+#[derive(Drop)]
+struct Full {
+    shelf: MemShelf,
+    gives: bool,
+}
+
+impl Shelf for Full {
+    ghost state = { λ full. ⟦<MemShelf as Shelf>⟧.state full.shelf };
+
+    fn get(&mut self, name: &str, limit: usize) -> Result<Got, ShelfFault> {
+        if self.gives {
+            self.shelf.get(name, limit)
+        } else {
+            Err(ShelfFault::Memory)
+        }
+    }
+
+    fn put(&mut self, _name: &str, _bytes: &[u8]) -> Result<(), ShelfFault> {
+        Err(ShelfFault::Memory)
+    }
+}
+
+// The status and the report of a unit over a shelf that finds no memory.
+#[test]
+fn want_of_memory_has_status_10(rt: HostRuntime) -> Result<(), Fail> {
+    let alloc = rt.alloc();
+    let words = words_of(alloc, &["transpile", "-o", "out", "a.c"])?;
+    for gives in [false, true] {
+        let mut files = Vec::new(alloc);
+        files.push(file_of(alloc, "a.c", UNIT.as_bytes())?)?;
+        let shelf = MemShelf::new(files, Vec::new(alloc));
+        let mut shelf = Full { shelf, gives };
+        let mut out = MemSink::new(Vec::new(alloc), 64);
+        let mut err = MemSink::new(Vec::new(alloc), 64);
+        let mut host = SureHost::new(Vec::new(alloc));
+        let status = run(
+            alloc,
+            words.as_slice(),
+            &mut shelf,
+            &mut out,
+            &mut err,
+            &mut host,
+        );
+        assert_eq!(rt; status, 10);
+        assert!(rt; err.written() == Some(b"c2rs: out of memory\n".as_slice()));
+        assert!(rt; held(&mut shelf.shelf, "out/src/a.rs").is_none());
+    }
     Ok(())
 }
 

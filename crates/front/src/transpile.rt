@@ -1,24 +1,22 @@
-ghost use Rattle.std.specs.Prelude.{◌≡◌, ◌<◌, ◌≤◌, [], ◌∷◌, length, IfOk, IfErr, MatchOption};
-ghost use Rattle.front.specs.Files.{file_in, files_in};
-ghost use Rattle.front.specs.Names.{module_name, stem_of};
+ghost use Rattle.std.specs.Prelude.{◌≡◌, ◌<◌, [], ◌∷◌, length, IfOk};
+ghost use Rattle.cx_core.specs.Views.{view_program};
+ghost use Rattle.rs_items.specs.Modules.{stem_of};
+ghost use Rattle.whole.specs.Right.{IsTranslatable};
+ghost use Rattle.front.specs.Printed.{IsPrinted, IsPlaced};
 ghost use Rattle.front.specs.Outcome.{ending_of};
 ghost use Rattle.front.specs.Puts.{Puts, PutFaultAt};
-ghost use Rattle.front.specs.Refusals.{IsBuiltUnit, StopsUnit};
-ghost use Rattle.front.specs.Text.{file_of, text_of};
-ghost use Rattle.front.specs.Translation.{crate_of};
 ghost use Rattle.front.specs.Transpile.{IsTranspiled};
-ghost use Rattle.front.specs.Unit.{IsReturnUnit};
 
 use crate::files::{PutFault, placed, put_all};
-use crate::names::{is_plain, stem_of};
 use crate::outcome::Outcome;
-use crate::print::print;
-use crate::translate::translate;
-use crate::unit::returned_number;
-use cr_base::{Items, Memory, Refusal, Rule, Stop};
-use cx_lex::lex;
+use crate::unit::unbroken;
+use cr_base::{Items, Memory, Name, Refusal, Rule, Stop};
+use cx_core::Program;
+use rs_items::stem_of;
+use rs_print::print;
 use shelf::{File, Got, Shelf, ShelfFault};
 use std::alloc::Global;
+use whole::translate;
 
 /// The bytes that a unit may have.
 const UNIT_LIMIT: usize = 1_048_576;
@@ -43,12 +41,12 @@ pub(crate) fn transpile<'a, F: Shelf>(
         Err(ShelfFault::Failed) => return Outcome::CannotRead(file),
         Err(ShelfFault::Memory) => return Outcome::Memory,
     };
-    let number = match unbroken(alloc, file, bytes.as_slice()) {
-        Ok(number) => number,
+    let program = match unbroken(alloc, file, bytes.as_slice()) {
+        Ok(program) => program,
         Err(Stop::Refused(refusal)) => return Outcome::Refused { file, refusal },
         Err(Stop::Memory) => return Outcome::Memory,
     };
-    match crate_files(alloc, directory, file, number) {
+    match crate_files(alloc, directory, file, &program) {
         Ok(files) => put_crate(shelf, files),
         Err(Memory) => Outcome::Memory,
     }
@@ -65,28 +63,15 @@ fn of_unit(rule: Rule) -> Refusal
     }
 }
 
-// The number that the unit returns, or the first rule that the unit breaks.
-fn unbroken(alloc: Global, file: &str, bytes: &[u8]) -> Result<u32, Stop>
-    requires { length bytes.now ≤ 1048576 }
-    ensures built { IfOk result (λ n. (module_name file.now ≡ stem_of file.now) × IsReturnUnit bytes.now n) }
-    ensures stopped { IfErr result (StopsUnit (file_of file.now bytes.now)) }
+// The crate of a program, as files. Refused only for want of memory.
+fn printed(alloc: Global, program: &Program, name: &str) -> Result<Items<File>, Memory>
+    requires { IsTranslatable (view_program program.now) name.now }
+    ensures { IfOk result (λ files. IsPrinted (view_program program.now) name.now files) }
 {
-    let _tokens = lex(alloc, bytes, 0)?;
-    match built(file, bytes) {
-        Some(number) => Ok(number),
-        None => Err(Stop::Refused(of_unit(Rule::N1))),
-    }
-}
-
-// The number that the unit returns, where it is of the form that is translated today.
-fn built(file: &str, bytes: &[u8]) -> Option<u32>
-    ensures { MatchOption result (¬ IsBuiltUnit (file_of file.now bytes.now))
-        (λ n. (module_name file.now ≡ stem_of file.now) × IsReturnUnit bytes.now n) }
-{
-    if !is_plain(stem_of(file)) {
-        return None;
-    }
-    returned_number(bytes)
+    let bytes = Items::from_slice(alloc, name.as_bytes())?;
+    let whole = translate(alloc, program, Name::of(bytes.into_vec()))?;
+    let files = print(alloc, &whole)?;
+    Ok(files.list)
 }
 
 // The files of the unit's crate, named in the directory. Refused only for want of memory.
@@ -94,13 +79,12 @@ fn crate_files(
     alloc: Global,
     directory: &str,
     file: &str,
-    number: u32,
+    program: &Program,
 ) -> Result<Items<File>, Memory>
-    ensures { IfOk result
-        (λ files. files ≡ files_in directory.now (text_of (crate_of number (stem_of file.now)))) }
+    requires { IsTranslatable (view_program program.now) (stem_of file.now) }
+    ensures { IfOk result (λ files. IsPlaced directory.now (view_program program.now) (stem_of file.now) files) }
 {
-    let whole = translate(alloc, number, stem_of(file))?;
-    let files = print(alloc, &whole)?;
+    let files = printed(alloc, program, stem_of(file))?;
     placed(alloc, directory, files)
 }
 

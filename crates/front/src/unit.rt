@@ -1,67 +1,64 @@
-ghost use Rattle.std.specs.Prelude.{◌≡◌, ◌≢◌, ℕ, ◌≤◌, ◌+◌, ◌++◌, List, decimal, MatchOption};
-ghost use Rattle.front.specs.Unit.{IsReturnUnit, EndsWith};
+//! The program of a unit, or the first rule that the unit breaks.
 
-use itoa::Buffer;
-use std::str;
+ghost use Rattle.std.specs.Prelude.{◌≡◌, ◌≤◌, length, IfOk, IfErr};
+ghost use Rattle.cx_core.specs.Trees.{CProgram};
+ghost use Rattle.cx_core.specs.Views.{view_program};
+ghost use Rattle.rs_tree.specs.Text.{file_of};
+ghost use Rattle.front.specs.Refusals.{IsBuiltAs, StopsUnit};
+ghost use Rattle.front.specs.Steps.{HasProgram, BuildsAs, StopsAs, not_built};
+ghost use Rattle.cr_base.specs.declared.refusal.Stop.TheVariants as stop;
 
-/// The number that the unit's `main` returns, where the unit is of the form that is translated
-/// today, and None for every other unit.
-pub(crate) fn returned_number(bytes: &[u8]) -> Option<u32>
-    ensures { MatchOption result ((n : ℕ) → ¬ IsReturnUnit bytes.now n) (IsReturnUnit bytes.now) }
+use crate::kept::keeps_names;
+use cr_base::{Refusal, Rule, Stop};
+use cx_core::Program;
+use cx_decl::program_of;
+use cx_lex::{Token, lex};
+use cx_parse::parse;
+use rs_items::{is_plain, stem_of};
+use std::alloc::Global;
+
+// The refusal of what isn't built yet.
+fn not_built() -> Stop
+    ensures { result ≡ stop.Refused not_built }
 {
-    let Some(rest) = behind(bytes, b"int main(void) { return ") else {
-        return None;
-    };
-    let Some(digits) = before_end(rest) else {
-        return None;
-    };
-    number_of(digits)
+    Stop::Refused(Refusal {
+        rule: Rule::N1,
+        unit: 0,
+        line: 1,
+    })
 }
 
-// What stands before the end of a unit's text: `; }`, or this and a newline.
-fn before_end(rest: &[u8]) -> Option<&[u8]>
-    ensures { MatchOption result ((digits : List ℕ) → ¬ EndsWith rest.now digits)
-        (λ digits. EndsWith rest.now digits.now) }
+// The program of a unit's tokens.
+fn typed(alloc: Global, tokens: &[Token]) -> Result<Program, Stop>
+    ensures found { IfOk result (λ program. HasProgram tokens.now (view_program program)) }
+    ensures stopped { IfErr result (StopsAs (HasProgram tokens.now)) }
+    ensures only { (other : CProgram) → HasProgram tokens.now other → IfOk result (λ program. view_program program ≡ other) }
 {
-    match before(rest, b"; }") {
-        Some(digits) => Some(digits),
-        None => before(rest, b"; }\n"),
+    let tree = parse(alloc, tokens, 0)?;
+    program_of(alloc, &tree, 0)
+}
+
+// The program of the tokens of a file, where it is translated today.
+fn built(alloc: Global, file: &str, tokens: &[Token]) -> Result<Program, Stop>
+    ensures found { IfOk result (λ program. BuildsAs file.now tokens.now (view_program program)) }
+    ensures stopped { IfErr result (StopsAs (BuildsAs file.now tokens.now)) }
+{
+    let program = typed(alloc, tokens)?;
+    if !is_plain(stem_of(file)) {
+        return Err(not_built());
     }
-}
-
-// What stands behind these bytes, where the text begins with them.
-fn behind<'a>(text: &'a [u8], front: &[u8]) -> Option<&'a [u8]>
-    ensures { MatchOption result ((rest : List ℕ) → text.now ≢ front.now ++ rest)
-        (λ rest. text.now ≡ front.now ++ rest.now) }
-{
-    text.strip_prefix(front)
-}
-
-// What stands before these bytes, where the text ends with them.
-fn before<'a>(text: &'a [u8], back: &[u8]) -> Option<&'a [u8]>
-    ensures { MatchOption result ((rest : List ℕ) → text.now ≢ rest ++ back.now)
-        (λ rest. text.now ≡ rest.now ++ back.now) }
-{
-    text.strip_suffix(back)
-}
-
-// The number of type `int` that stands in decimal digits, without a leading zero.
-fn number_of(digits: &[u8]) -> Option<u32>
-    ensures { MatchOption result ((n : ℕ) → n ≤ 2147483647 → digits.now ≢ decimal n)
-        (λ n. (n ≤ 2147483647) × (digits.now ≡ decimal n)) }
-{
-    let Ok(text) = str::from_utf8(digits) else {
-        return None;
-    };
-    let Ok(number) = text.parse::<u32>() else {
-        return None;
-    };
-    if number > 2_147_483_647 {
-        return None;
+    if !keeps_names(&program) {
+        return Err(not_built());
     }
-    let mut buffer = Buffer::new();
-    if buffer.format(number) != text {
-        return None;
-    }
-    Some(number)
+    Ok(program)
+}
+
+/// The program of the unit, or the first rule that the unit breaks.
+pub(crate) fn unbroken(alloc: Global, file: &str, bytes: &[u8]) -> Result<Program, Stop>
+    requires { length bytes.now ≤ 1048576 }
+    ensures built { IfOk result (λ program. IsBuiltAs (file_of file.now bytes.now) (view_program program)) }
+    ensures stopped { IfErr result (StopsUnit (file_of file.now bytes.now)) }
+{
+    let tokens = lex(alloc, bytes, 0)?;
+    built(alloc, file, tokens.as_slice())
 }

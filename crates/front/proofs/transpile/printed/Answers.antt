@@ -1,0 +1,6 @@
+use Rattle.rs_print.proofs.Printable.{printable}
+use Rattle.rs_tree.specs.View.{crate_view}
+use Rattle.front.proofs.transpile.printed.Goals as goal
+
+pub print-requires : goal.print-requires
+print-requires c = printable (crate_view c.in_ok-whole.whole) c.in_ok-whole.ensures.right.well_typed.valid
