@@ -2,7 +2,7 @@
 use Rattle.std.proofs.Common.{◌≡◌, ℕ, zero, suc, ◌+◌, ◌<◌, ◌≤◌, ◌⊎◌, inl, inr, ℤ, refl, sym, ap, subst, arith, ◌∙◌}
 use Rattle.std.proofs.Math.Path.{fun_ext}
 use Rattle.cr_runs.specs.Runs.{Ran, came, halted, bad, out, bind, tick}
-use Rattle.cr_runs.specs.Owes.{IsBad, Fails, Comes, Ends, Halts, GoesOn, Backed, Rests, Shows, Reached, Owes}
+use Rattle.cr_runs.specs.Owes.{IsBad, AtEnd, Fails, Comes, Ends, Halts, GoesOn, Backed, Rests, Shows, Reached, Owes}
 
 -- nothing is taken
 none_taken : (left : ℕ) → 0 + left ≡ left
@@ -292,6 +292,40 @@ module _ {F G S T A B E : Type 0} (events_of : S → E) (events_in : T → E) wh
   weaker Good Other implied n m source target owes = record {
     safe = λ k less. safe_with Good Other implied source k (target k) (owes.safe k less);
     reaches = λ k less. reached_by Good Other implied target k (source k) (owes.reaches k less);
+  }
+
+  -- what each end of the source is known to be may be said, too
+  backed_known : (Good : A → S → B → T → Type 0) (Known : A → S → Type 0) (source : ℕ → Ran F S A) (k : ℕ) (r : Ran G T B) → ((bound : ℕ) → AtEnd Known (source bound)) →
+      Backed events_of events_in Good source k r → Backed events_of events_in (λ a s b t. Good a s b t × Known a s) source k r
+  backed_known Good Known source k (came value state left) ends e = record {
+    within = e.within;
+    taken = e.taken;
+    value = e.value;
+    state = e.state;
+    comes = e.comes;
+    good = (e.good, subst (AtEnd Known) (e.comes 0) (ends (e.taken + 0)));
+  }
+  backed_known Good Known source k (halted status state) ends e = e
+  backed_known Good Known source k (bad fault state) ends e = e
+  backed_known Good Known source k (out state) ends e = e
+
+  safe_known : (Good : A → S → B → T → Type 0) (Known : A → S → Type 0) (source : ℕ → Ran F S A) (k : ℕ) (r : Ran G T B) → ((bound : ℕ) → AtEnd Known (source bound)) →
+      Fails source ⊎ Backed events_of events_in Good source k r → Fails source ⊎ Backed events_of events_in (λ a s b t. Good a s b t × Known a s) source k r
+  safe_known Good Known source k r ends (inl fails) = inl fails
+  safe_known Good Known source k r ends (inr backed) = inr (backed_known Good Known source k r ends backed)
+
+  reached_known : (Good : A → S → B → T → Type 0) (Known : A → S → Type 0) (target : ℕ → Ran G T B) (k : ℕ) (r : Ran F S A) → AtEnd Known r →
+      Reached events_of events_in Good target k r → Reached events_of events_in (λ a s b t. Good a s b t × Known a s) target k r
+  reached_known Good Known target k (came value state left) end e = record { within = e.within; taken = e.taken; value = e.value; state = e.state; comes = e.comes; good = (e.good, end) }
+  reached_known Good Known target k (halted status state) end e = e
+  reached_known Good Known target k (bad fault state) end e = tt
+  reached_known Good Known target k (out state) end e = e
+
+  pub known : (Good : A → S → B → T → Type 0) (Known : A → S → Type 0) (n m : ℕ) (source : ℕ → Ran F S A) (target : ℕ → Ran G T B) → ((bound : ℕ) → AtEnd Known (source bound)) →
+      Owes events_of events_in Good n m source target → Owes events_of events_in (λ a s b t. Good a s b t × Known a s) n m source target
+  known Good Known n m source target ends owes = record {
+    safe = λ k less. safe_known Good Known source k (target k) ends (owes.safe k less);
+    reaches = λ k less. reached_known Good Known target k (source k) (ends k) (owes.reaches k less);
   }
 
 -- a piece with nothing behind it

@@ -3,7 +3,7 @@
 -- any test of them.
 use Rattle.std.specs.Prelude.{◌≡◌, ℕ, suc, ◌≤◌, Bool, IsTrue}
 use Rattle.cr_runs.specs.Runs.{Ran, came, bad, bind, tick}
-use Rattle.cr_runs.specs.Owes.{Owes, GoesOn, Rests}
+use Rattle.cr_runs.specs.Owes.{AtEnd, Owes, GoesOn, Rests}
 
 -- results and states pass a test
 abbrev pub Passes : {S T A B : Type 0} → (A → S → B → T → Bool) → A → S → B → T → Type 0
@@ -70,3 +70,12 @@ LessOwed F G S T A B E =
     (n m fewer less : ℕ) (source : ℕ → Ran F S A) (target : ℕ → Ran G T B) →
     ((a : A) (s : S) (b : B) (t : T) → Passes good a s b t → Passes other a s b t) → fewer ≤ n → less ≤ m →
     Owes events_of events_in (Passes good) n m source target → Owes events_of events_in (Passes other) fewer less source target
+
+-- what each end of the source is known to be may be said, too
+abbrev pub EndsAreKnown : (F G S T A B E : Type 0) → Type 0
+EndsAreKnown F G S T A B E =
+    (events_of : S → E) (events_in : T → E) (good : A → S → B → T → Bool) (is_known : A → S → Bool)
+    (n m : ℕ) (source : ℕ → Ran F S A) (target : ℕ → Ran G T B) →
+    ((k : ℕ) → AtEnd (λ a s. IsTrue (is_known a s)) (source k)) →
+    Owes events_of events_in (Passes good) n m source target →
+    Owes events_of events_in (λ a s b t. Passes good a s b t × IsTrue (is_known a s)) n m source target

@@ -11,6 +11,13 @@ IsBad (halted status state) = ⊥
 IsBad (bad fault state) = ⊤
 IsBad (out state) = ⊥
 
+-- a piece has come to an end only with a result and a state of this kind
+abbrev pub AtEnd : {F S A : Type 0} → (A → S → Type 0) → Ran F S A → Type 0
+AtEnd Known (came value state left) = Known value state
+AtEnd Known (halted status state) = ⊤
+AtEnd Known (bad fault state) = ⊤
+AtEnd Known (out state) = ⊤
+
 -- under some bound the run comes to a step that has no meaning
 abbrev pub Fails : {F S A : Type 0} → (ℕ → Ran F S A) → Type 0
 Fails run = (bound : ℕ) × IsBad (run bound)

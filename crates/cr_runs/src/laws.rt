@@ -1,4 +1,4 @@
-ghost use Rattle.cr_runs.specs.Laws.{ValuesOwe, NothingOwed, PiecesOwe, TicksOwe, StepOwes, UnitOwes, NamesOwe, LessOwed};
+ghost use Rattle.cr_runs.specs.Laws.{ValuesOwe, NothingOwed, PiecesOwe, TicksOwe, StepOwes, UnitOwes, NamesOwe, LessOwed, EndsAreKnown};
 
 /// Law: values at once owe each other no more than to stand to each other.
 pub fn values_owe<F, G, S, T, A, B, E>()
@@ -38,4 +38,9 @@ pub fn names_owe<F, G, S, T, A, B, E>()
 /// Law: what is owed may be said of less, and under smaller bounds.
 pub fn less_is_owed<F, G, S, T, A, B, E>()
     ensures { LessOwed F G S T A B E }
+{}
+
+/// Law: what each end of the source is known to be may be said of both ends, too.
+pub fn ends_are_known<F, G, S, T, A, B, E>()
+    ensures { EndsAreKnown F G S T A B E }
 {}

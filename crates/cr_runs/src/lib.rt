@@ -5,6 +5,6 @@
 mod laws;
 
 pub use laws::{
-    less_is_owed, names_owe, nothing_is_owed, pieces_owe, step_owes, ticks_owe, unit_owes,
-    values_owe,
+    ends_are_known, less_is_owed, names_owe, nothing_is_owed, pieces_owe, step_owes, ticks_owe,
+    unit_owes, values_owe,
 };

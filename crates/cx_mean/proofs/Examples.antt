@@ -1,5 +1,5 @@
 -- Worked examples: what is seen of small programs.
-use Rattle.std.proofs.Common.{◌≡◌, ℕ, pos, negsuc, true, false, List, [], ◌∷◌, ◌++◌, Some, codes, refl}
+use Rattle.std.proofs.Common.{◌≡◌, ℕ, pos, negsuc, true, false, List, [], ◌∷◌, ◌++◌, Option, Some, None, Ok, codes, refl}
 use Rattle.cr_base.specs.declared.refusal.Place.{Place}
 use Rattle.cr_base.specs.declared.rule.URule.TheVariants.{U1, U2}
 use Rattle.cr_base.specs.declared.scalar.Scalar.TheVariants.{Whole}
@@ -8,10 +8,19 @@ use Rattle.cx_core.specs.declared.expr.Op2.{Op2}
 use Rattle.cx_core.specs.declared.expr.Op2.TheVariants.{Add, Subtract, Multiply}
 use Rattle.cx_core.specs.declared.program.Linkage.TheVariants.{External}
 use Rattle.cx_core.specs.Trees.{CTy, ty, void, int, function, listed, no_types, more_types, CExpr, expr, whole, object, load, convert, unary, binary, assign, call, no_exprs, more_exprs, CStmt, stmt, block, expression, returns, CStmts, no_stmts, more_stmts, put, CObject, CProgram}
-use Rattle.cx_mean.specs.Leftmost.{c_leftmost}
+use Rattle.cr_runs.specs.Runs.{came, halted, bad, out, state_of}
+use Rattle.cx_mean.specs.Leftmost.{CRan, c_value, c_leftmost}
+use Rattle.cx_mean.specs.Marks.{Marks, Range, bits_at, any_overlap}
+use Rattle.cx_mean.specs.Operands.{COperand, Frame, CWorld}
 use Rattle.cx_mean.specs.Run.{CSeen, CProgress, going, ended, undefined, c_run}
+use Rattle.cx_mean.specs.State.{zeroed}
+use Rattle.cx_mean.specs.Unwritten.{Avoids, bits_of_bytes}
 use Rattle.ext_calls.specs.declared.call.Call.{Call}
 use Rattle.ext_calls.specs.declared.call.Arg.TheVariants.{Whole as WholeArg}
+use Rattle.mem_bytes.specs.Access.{value_at}
+use Rattle.mem_bytes.specs.Memory.{Blocks}
+use Rattle.mem_bytes.specs.declared.value.Ptr.{Ptr}
+use Rattle.mem_bytes.specs.declared.value.Value.TheVariants.{Whole as Number}
 
 -- ---- programs
 
@@ -301,3 +310,53 @@ leftmost_ends = refl
 
 leftmost_conflict : c_leftmost reads_and_writes [] 20 ≡ seen [] (undefined U1 0 9)
 leftmost_conflict = refl
+
+-- ---- what isn't written
+
+-- two objects of type `int` with the value 0, in blocks 0 and 1
+abbrev two_slots : Frame
+two_slots = record { object = 0; block = 0 } ∷ record { object = 1; block = 1 } ∷ []
+
+abbrev two_zeroes : CWorld
+two_zeroes = record { memory = Some (zeroed int_type) ∷ Some (zeroed int_type) ∷ []; events = []; answers = [] }
+
+abbrev start_of : ℕ → Ptr
+start_of number = record { block = number; offset = 0 }
+
+-- the bits of the first object
+abbrev first_bits : Range
+first_bits = record { block = 0; from = 0; to = 32 }
+
+-- after `x0 = 7`, with one step, the operand and the memory
+abbrev after_store : CRan COperand
+after_store = c_value (program [] no_stmts) two_slots (set 9 0 (number 9 7)) two_zeroes 1
+
+abbrev memory_after : Blocks
+memory_after = (state_of after_store).memory
+
+abbrev marks_after : CRan COperand → Option Marks
+marks_after (came operand world left) = Some operand.marks
+marks_after (halted status world) = None
+marks_after (bad fault world) = None
+marks_after (out world) = None
+
+-- it wrote the bits of the first object
+store_writes : marks_after after_store ≡ Some (record { reads = []; writes = first_bits ∷ []; still = first_bits ∷ [] })
+store_writes = refl
+
+-- these avoid the bits of the second object, and not a byte of the first
+beside_the_first : Avoids (first_bits ∷ []) (bits_at (start_of 1) (Whole 32 true))
+beside_the_first = refl
+
+inside_the_first : any_overlap (first_bits ∷ []) (bits_of_bytes (record { block = 0; offset = 3 }) 1 ∷ []) ≡ true
+inside_the_first = refl
+
+behind_the_first : Avoids (first_bits ∷ []) (bits_of_bytes (record { block = 0; offset = 4 }) 1)
+behind_the_first = refl
+
+-- and what is loaded from the second is what it was, while the first has another value
+second_stays : value_at memory_after (start_of 1) (Whole 32 true) ≡ value_at two_zeroes.memory (start_of 1) (Whole 32 true)
+second_stays = refl
+
+first_is_seven : value_at memory_after (start_of 0) (Whole 32 true) ≡ Ok (Number (pos 7))
+first_is_seven = refl

@@ -1,6 +1,7 @@
 pub mod Ended
 pub mod Examples
 pub mod Holes
+pub mod Kept
 pub mod Programs
 pub mod Ranges
 pub mod Reached
@@ -8,4 +9,5 @@ pub mod Sound
 pub mod SoundCalls
 pub mod SoundValues
 pub mod Statics
+pub mod Unwritten
 pub mod Values

@@ -6,4 +6,5 @@ pub mod Operands
 pub mod Run
 pub mod Sound
 pub mod State
+pub mod Unwritten
 pub mod Work

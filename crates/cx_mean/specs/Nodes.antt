@@ -142,7 +142,8 @@ binary_step op type left right world =
 
 -- ---- conversions
 
-abbrev converted_to : CTyForm → COperand → Result CValue URule
+-- what a conversion to a type gives
+abbrev pub converted_to : CTyForm → COperand → Result CValue URule
 converted_to void operand = Ok missing
 converted_to int operand =
     and_then (number_in operand) (λ value. Ok (scalar (Number (converted (Whole 32 true) value))))

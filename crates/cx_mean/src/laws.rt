@@ -1,5 +1,6 @@
 ghost use Rattle.cx_mean.specs.Laws.{LeftmostIsRun, EndedRunsStay, StaticsBegin};
 ghost use Rattle.cx_mean.specs.Sound.{TypedIsSound};
+ghost use Rattle.cx_mean.specs.Unwritten.{UnwrittenStays};
 
 /// Law: under the empty order, which always takes the leftmost node, a run shows after any number of
 /// steps what the leftmost run shows that goes by recursion on the program's trees.
@@ -22,4 +23,10 @@ pub fn statics_begin_in_order()
 /// leaves undefined, and never to one that no typed program has.
 pub fn typed_expressions_are_sound()
     ensures { TypedIsSound }
+{}
+
+/// Law: where a typed expression of a linked program comes to its end, what its marks don't say that it
+/// wrote is what it was before: cells, and what is loaded from them.
+pub fn unwritten_stays()
+    ensures { UnwrittenStays }
 {}

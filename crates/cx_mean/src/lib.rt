@@ -6,4 +6,5 @@ mod laws;
 
 pub use laws::{
     ended_runs_stay, leftmost_is_run, statics_begin_in_order, typed_expressions_are_sound,
+    unwritten_stays,
 };

@@ -1,12 +1,13 @@
 pub mod Bodies
-pub mod Returns
-pub mod Shown
+pub mod Bodywise
 pub mod Induction
+pub mod Marked
 pub mod Numbers
 pub mod Pieces
+pub mod Returns
+pub mod Shown
 pub mod Silent
 pub mod StandsLemmas
-pub mod Bodywise
 pub mod Steps
 pub mod Storing
 pub mod Wrapping

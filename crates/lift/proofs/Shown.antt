@@ -1,7 +1,7 @@
 -- The laws of lifting, from the lemmas.
 use Rattle.cx_core.specs.Trees.{expr}
 use Rattle.lift.specs.Laws.{ExpressionIsLifted, StatementsAreLifted, StatementIsLifted, BodiesGive, BodiesDontMatter, StatementsAreSilent}
-use Rattle.lift.proofs.Induction.{lifts}
+use Rattle.lift.proofs.Marked.{lifts_marked}
 use Rattle.lift.proofs.Silent.{silent_stmts}
 use Rattle.lift.proofs.Bodywise.{lifts_stmts, lifts_stmt}
 use Rattle.lift.proofs.Bodies.{bodies_dont_matter}
@@ -9,7 +9,7 @@ use Rattle.lift.proofs.Returns.{body_gives}
 
 pub expression_is_lifted : ExpressionIsLifted
 expression_is_lifted program names images c_frame frame limit declared (expr type place form) from c_world world n m linked agree agrees has is only within =
-    lifts program linked names images c_frame frame limit declared agree type place form from c_world world agrees has is only within n m
+    lifts_marked program linked names images c_frame frame limit declared agree type place form from c_world world agrees has is only within n m
 
 pub statements_are_lifted : StatementsAreLifted
 statements_are_lifted program names images c_frame frame limit declared result list from c_world world n m linked agree agrees has is only within =

@@ -1,14 +1,16 @@
 -- When the world and the frame of a crate's run agree with those of its program's run, and what is to hold behind the
 -- statements of an expression.
-use Rattle.std.specs.Prelude.{◌≡◌, ◌≢◌, ℕ, ◌+◌, ◌<◌, ◌≤◌, ℤ, Bool, true, List, [], map, length, Option, Some, None, slice_get, Ok}
+use Rattle.std.specs.Prelude.{◌≡◌, ◌≢◌, ℕ, ◌+◌, ◌<◌, ◌≤◌, ℤ, Bool, true, false, List, [], map, length, Option, Some, None, slice_get, Ok}
 use Rattle.cr_base.specs.declared.scalar.Scalar.{Scalar}
 use Rattle.cr_base.specs.declared.scalar.Scalar.TheVariants.{Whole}
 use Rattle.cx_core.specs.Trees.{CExpr, expr, CForm, whole, object, load, convert, unary, binary, assign, call, CExprs, no_exprs, more_exprs, CStmt, stmt, CStmtForm, block, expression, returns, CStmts, no_stmts, more_stmts, CTy, CTyForm, void, int, function, CParams, unlisted, listed, types_in, form_of_type, COuter, CProgram}
 use Rattle.cx_core.specs.Typing.{outer_with}
 use Rattle.cr_runs.specs.Runs.{came, halted, bad, out}
 use Rattle.cx_mean.specs.Leftmost.{CRan, CFlow, goes_on, goes_out, gave}
+use Rattle.cx_mean.specs.Marks.{Range, any_overlap}
 use Rattle.cx_mean.specs.Operands.{CValue, scalar, designates, missing, designated, COperand, Frame as CFrame, CWorld}
 use Rattle.cx_mean.specs.Sound.{AreInScope, IsOperandOf}
+use Rattle.cx_mean.specs.Unwritten.{KeepsBeside}
 use Rattle.lift.specs.declared.atom.Atom.TheVariants.{Fixed, Temporary}
 use Rattle.lift.specs.declared.atom.Atom.{Atom}
 use Rattle.lift.specs.Lifted.{Names}
@@ -140,7 +142,7 @@ abbrev mutual
 abbrev pub at_temporary : Frame → ℕ → Ptr
 at_temporary frame number = record { block = block_of_temporary frame number; offset = 0 }
 
--- an atom has a value in a world, and in every later one that keeps the temporaries below a number
+-- an atom has a value in a world; a temporary that holds one is below a number
 abbrev pub Holds : Frame → ℕ → World → Option Atom → Value → Type 0
 Holds frame next world None value = ⊥
 Holds frame next world (Some (Fixed number)) value = value ≡ Number number
@@ -174,6 +176,24 @@ pub record Meets (images : Images) (frame : Frame) (limit from next : ℕ) (atom
   pub typed : IsOperandOf type operand
   pub gives : Gives frame next world atom operand.value
   pub keeps : Keeps images frame from before world
+
+-- a later pair of worlds that agree: nothing that was read is written, and temporaries below a number stay
+pub record IsLater (images : Images) (frame : Frame) (next : ℕ) (reads : List Range) (c_world : CWorld) (world : World) (c_later : CWorld) (later : World) : Type 0 where
+  pub worlds : WorldsAgree images c_later later
+  pub writes : List Range
+  pub beside : KeepsBeside writes c_world.memory c_later.memory
+  pub unread : any_overlap reads writes ≡ false
+  pub temporaries : (number : ℕ) → number < next →
+      live_block later.memory (block_of_temporary frame number) ≡ live_block world.memory (block_of_temporary frame number)
+
+-- the same by the marks of the operand: what they don't say that it wrote is in the program's memory what it was, and
+-- what is written for its value gives it also later, where nothing that it read is written
+pub record IsLifted (images : Images) (frame : Frame) (limit from next : ℕ) (atom : Option Atom) (type : CTy) (c_before : CWorld) (before : World)
+    (operand : COperand) (c_world : CWorld) (flow : Flow) (world : World) : Type 0 where
+  pub meets : Meets images frame limit from next atom type before operand c_world flow world
+  pub unwritten : KeepsBeside operand.marks.writes c_before.memory c_world.memory
+  pub lasts : (c_later : CWorld) (later : World) → IsLater images frame next operand.marks.reads c_world world c_later later →
+      Gives frame next later atom operand.value
 
 -- ---- behind statements
 

@@ -7,15 +7,15 @@ use Rattle.cx_core.specs.Trees.{CTy, CExpr, type_of, CStmt, CStmts, CProgram}
 use Rattle.cx_core.specs.Typing.{IsScalarType, IsTyped, IsTypedStmt, AreTypedStmts}
 use Rattle.cx_mean.specs.Leftmost.{c_value, c_stmt, c_stmts}
 use Rattle.cx_mean.specs.Operands.{Frame as CFrame, CWorld}
-use Rattle.lift.specs.Agrees.{WorldsAgree, HasTemporaries, FramesAgree, Meets, StmtsMeet, CallsOnly, StmtCallsOnly, StmtsCallOnly, EndsWithReturn, GivesBack}
+use Rattle.lift.specs.Agrees.{WorldsAgree, HasTemporaries, FramesAgree, IsLifted, StmtsMeet, CallsOnly, StmtCallsOnly, StmtsCallOnly, EndsWithReturn, GivesBack}
 use Rattle.lift.specs.Lifted.{Names, lift_of, lift_stmt, lift_stmts}
 use Rattle.lift.specs.StandsFor.{Images}
 use Rattle.rs_mean.specs.Run.{Frame, Bodies, run_stmts}
 use Rattle.rs_mean.specs.World.{World}
 use Rattle.rs_tree.specs.Tree.{Stmts, stmts}
 
--- the statements that are written for a typed expression do what it does, and behind them what stands for its value
--- stands for it
+-- the statements that are written for a typed expression do what it does; behind them what is written for its value
+-- stands for it, there and later, and what its marks don't say that it wrote is what it was
 abbrev pub ExpressionIsLifted : Type 0
 ExpressionIsLifted =
     (program : CProgram) (names : Names) (images : Images) (c_frame : CFrame) (frame : Frame) (limit : ℕ) (declared : ℕ → Bool)
@@ -23,7 +23,7 @@ ExpressionIsLifted =
     IsLinked program → FramesAgree program names images c_frame frame limit declared → WorldsAgree images c_world world →
     HasTemporaries frame limit world → IsTyped program e → CallsOnly declared e → (lift_of names e from).next ≤ limit →
     Owes (λ before. before.events) (λ after. after.events)
-    (Meets images frame limit from (lift_of names e from).next (lift_of names e from).value (type_of e) world) n m
+    (IsLifted images frame limit from (lift_of names e from).next (lift_of names e from).value (type_of e) c_world world) n m
     (c_value program c_frame e c_world) (run_stmts frame (stmts (lift_of names e from).stmts) world)
 
 -- those that are written for typed statements of a function with a result type do what they do

@@ -2,7 +2,8 @@ ghost use Rattle.lift.specs.Laws.{ExpressionIsLifted, StatementsAreLifted, State
 
 /// Law: what the statements that are written for a typed expression show is backed by the expression, and
 /// they show all that it shows; behind them worlds stand for each other again, and what is written for the
-/// value stands for it.
+/// value stands for it, there and later, where nothing that it read is written. What the expression's marks
+/// don't say that it wrote is in the program's memory what it was.
 pub fn lifted_expression()
     ensures { ExpressionIsLifted }
 {}

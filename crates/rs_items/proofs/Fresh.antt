@@ -1,16 +1,17 @@
 -- The names of temporaries: candidates of `t`, and what stands when one was made.
-use Rattle.std.proofs.Common.{◌≡◌, ℕ, zero, suc, ◌+◌, ◌-◌, ◌<◌, ◌≤◌, ◌^◌, Bool, true, false, not, cond, ◌&&◌, ◌||◌, ◌==◌, List, [], ◌∷◌, ◌++◌, codes, Some, bytes_eq, refl, sym, ap, ◌∙◌, arith, inl, inr, eq-or-lt_of_le, subst, length}
+use Rattle.std.proofs.Common.{◌≡◌, ◌≢◌, ℕ, zero, suc, ◌+◌, ◌-◌, ◌<◌, ◌≤◌, ◌^◌, Bool, true, false, not, cond, ◌&&◌, ◌||◌, ◌==◌, List, [], ◌∷◌, ◌++◌, codes, Some, bytes_eq, refl, sym, ap, ◌∙◌, arith, inl, inr, eq-or-lt_of_le, subst, length}
 use Rattle.std.specs.Fmt.{decimal}
 use Rattle.std.specs.List.{list_any, list_all}
 use Rattle.std.specs.Str.Parse.{AllDigits}
+use Rattle.std.proofs.lemmas.Bool.{cases_lt}
 use Rattle.std.proofs.lemmas.Bool.Decides.{nat_tests, not_from_Decides}
-use Rattle.std.proofs.lemmas.Fmt.{decimal_is_IsNumeral}
+use Rattle.std.proofs.lemmas.Fmt.{decimal_is_IsNumeral, decimal_injective}
 use Rattle.std.proofs.lemmas.List.Folds.{list_any-append, list_all-append}
 use Rattle.std.proofs.lemmas.Slice.Eq.{bytes_eq-Decides}
 use Rattle.std.proofs.lemmas.Str.Parse.{digit_from_value}
 use Rattle.rs_items.specs.declared.scope.NameScope.TheVariants.{Function}
 use Rattle.rs_items.specs.Names.{reserved, candidate, IsGone, IsRustName}
-use Rattle.rs_items.specs.Search.{temporary, is_used, AreUsed, IsFirstFree, HoldsNames}
+use Rattle.rs_items.specs.Search.{temporary, is_used, AreUsed, IsNextFree, AreUnused, HoldsNames}
 use Rattle.rs_items.specs.Temporaries.{TemporaryNames, Makes}
 use Rattle.rs_tree.specs.Names.{is_word_byte, is_word, is_among, path_words, keywords, is_plain_identifier}
 use Rattle.rs_tree.specs.Valid.{all_differ}
@@ -99,8 +100,32 @@ among_both taken names name = list_any-append (λ word. bytes_eq word name) take
 gone : (taken names : List (List ℕ)) (k : ℕ) → is_used taken names (temporary k) ≡ true → IsGone (taken ++ names) (candidate Function (codes "t") k)
 gone taken names k used = rw (candidate_temporary k) (among_both taken names (temporary k) ∙ used)
 
+-- a candidate that is free, the first one
+record IsFirstFree (taken names : List (List ℕ)) (name : List ℕ) (number : ℕ) : Type 0 where
+  is : name ≡ temporary number
+  free : is_used taken names name ≡ false
+  used : AreUsed taken names number
+
+unused_is_free : (taken names : List (List ℕ)) (name : List ℕ) → is_among taken name ≡ false → is_among names name ≡ false → is_used taken names name ≡ false
+unused_is_free taken names name one other = ap (λ t. t || is_among names name) one ∙ other
+
+taken_is_used : (taken names : List (List ℕ)) (name : List ℕ) → is_among taken name ≡ true → is_used taken names name ≡ true
+taken_is_used taken names name is = ap (λ t. t || is_among names name) is
+
+-- the first one from the number on before which all are used
+first_free : (taken names : List (List ℕ)) (name : List ℕ) (number next : ℕ) → HoldsNames taken names next → IsNextFree taken next name number →
+    IsFirstFree taken names name number
+first_free taken names name number next holds found = record {
+  is = found.is;
+  free = unused_is_free taken names name found.free (ap (is_among names) found.is ∙ holds.unused number found.reached found.small);
+  used = λ k low. elim (cases_lt k next) [
+    | inl less ↦ holds.used k less
+    | inr more ↦ taken_is_used taken names (temporary k) (found.passed k more low)
+  ];
+}
+
 -- the first candidate that is free is the Rust name of `t`
-pub named_first : (taken names : List (List ℕ)) (name : List ℕ) (number : ℕ) → IsFirstFree taken names name number →
+named_first : (taken names : List (List ℕ)) (name : List ℕ) (number : ℕ) → IsFirstFree taken names name number →
     IsRustName (taken ++ names) Function (codes "t") name
 named_first taken names name number first = record {
   number = number;
@@ -108,6 +133,37 @@ named_first taken names name number first = record {
   free = ap not (among_both taken names name ∙ first.free);
   first = λ k low. gone taken names k (first.used k low);
 }
+
+-- ---- candidates differ
+
+temporaries_equal : (j k : ℕ) → j < 2 ^ 64 → k < 2 ^ 64 → temporary j ≡ temporary k → j ≡ k
+temporaries_equal zero zero small few same = refl
+temporaries_equal zero (suc k) small few same =
+    let apart : 116 ∷ [] ≡ 116 ∷ 95 ∷ decimal k = same ∙ temporary_next k in
+    absurd (cc)
+temporaries_equal (suc j) zero small few same =
+    let apart : 116 ∷ 95 ∷ decimal j ≡ 116 ∷ [] = sym (temporary_next j) ∙ same in
+    absurd (cc)
+temporaries_equal (suc j) (suc k) small few same =
+    let whole : 116 ∷ 95 ∷ decimal j ≡ 116 ∷ 95 ∷ decimal k = sym (temporary_next j) ∙ (same ∙ temporary_next k) in
+    let digits : decimal j ≡ decimal k = cc in
+    ap suc (decimal_injective j k (omega (arith, small)) (omega (arith, few)) digits)
+
+bytes_apart : (a b : List ℕ) (r : Bool) → a ≢ b → bytes_eq a b ≡ r → r ≡ false
+bytes_apart a b true apart e = absurd (apart ((bytes_eq-Decides a b).0 e))
+bytes_apart a b false apart e = refl
+
+neither_or : (a b : Bool) → a ≡ false → b ≡ false → (a || (b || false)) ≡ false
+neither_or a b e f = ap (λ t. t || (b || false)) e ∙ ap (λ t. t || false) f
+
+-- behind a candidate that is a temporary now, none is one
+unused_next : (names : List (List ℕ)) (name : List ℕ) (number next : ℕ) → name ≡ temporary number → next ≤ number → AreUnused names next →
+    AreUnused (names ++ name ∷ []) (number + 1)
+unused_next names name number next is less unused k more small =
+    let apart : name ≢ temporary k = λ same. (let one : number ≡ k = temporaries_equal number k (omega (arith, more, small)) (omega (arith, small)) (sym is ∙ same) in absurd (omega (arith, one, more))) in
+    list_any-append (λ word. bytes_eq word (temporary k)) names (name ∷ [])
+    ∙ neither_or (is_among names (temporary k)) (bytes_eq name (temporary k)) (unused k (omega (arith, less, more)) small)
+    (bytes_apart name (temporary k) (bytes_eq name (temporary k)) apart refl)
 
 -- ---- one name more
 
@@ -138,17 +194,18 @@ used_itself taken names name =
     ∙ or_last (is_among taken name) (is_among names name) (bytes_eq name name) (same_bytes name)
 
 -- the candidates before the next number are used
-pub used_next : (taken names : List (List ℕ)) (number : ℕ) → AreUsed taken names number → is_used taken names (temporary number) ≡ true → AreUsed taken names (number + 1)
+used_next : (taken names : List (List ℕ)) (number : ℕ) → AreUsed taken names number → is_used taken names (temporary number) ≡ true → AreUsed taken names (number + 1)
 used_next taken names number used here k low =
     let most : k ≤ number = omega arith in
     elim (eq-or-lt_of_le most) [ inl e ↦ rw e here | inr less ↦ used k less ]
 
 -- what is held after a name was made
-pub held_next : (taken names : List (List ℕ)) (name : List ℕ) (number next : ℕ) → HoldsNames taken names next → IsFirstFree taken names name number →
+held_next : (taken names : List (List ℕ)) (name : List ℕ) (number next : ℕ) → HoldsNames taken names next → IsNextFree taken next name number →
     HoldsNames taken (names ++ name ∷ []) (number + 1)
-held_next taken names name number next holds first =
+held_next taken names name number next holds found =
+    let first = first_free taken names name number next holds found in
     let free = neither (is_among taken name) (is_among names name) first.free in
-    let small : number < 2 ^ 64 = omega (arith, first.small) in
+    let small : number < 2 ^ 64 = omega (arith, found.small) in
     record {
       apart = record {
         differ = push_differ names name holds.apart.differ free.1;
@@ -157,33 +214,34 @@ held_next taken names name number next holds first =
       };
       used = used_next taken (names ++ name ∷ []) number (λ k low. used_kept taken names name (temporary k) (first.used k low))
           (ap (is_used taken (names ++ name ∷ [])) (sym first.is) ∙ used_itself taken names name);
+      unused = unused_next names name number next found.is found.reached holds.unused;
     }
 
 -- ---- a temporary that was made
 
-pub held_after : (taken names others earlier after : List (List ℕ)) (name : List ℕ) (number next : ℕ) →
-    others ≡ taken → earlier ≡ names → after ≡ names ++ name ∷ [] → HoldsNames taken names next →
-    IsFirstFree others earlier name number → HoldsNames taken after (number + 1)
-held_after taken names others earlier after name number next e f g holds first =
-    rw g (held_next taken names name number next holds (subst (λ q. IsFirstFree taken q name number) f (subst (λ q. IsFirstFree q earlier name number) e first)))
+pub held_after : (taken names others after : List (List ℕ)) (name : List ℕ) (number next : ℕ) →
+    others ≡ taken → after ≡ names ++ name ∷ [] → HoldsNames taken names next →
+    IsNextFree others next name number → HoldsNames taken after (number + 1)
+held_after taken names others after name number next e g holds found =
+    rw g (held_next taken names name number next holds (subst (λ q. IsNextFree q next name number) e found))
 
 abbrev with_names : List (List ℕ) → List (List ℕ) → TemporaryNames
 with_names taken names = record { taken = taken; names = names }
 
-makes_from : (taken names after : List (List ℕ)) (name : List ℕ) (number given : ℕ) →
-    after ≡ names ++ name ∷ [] → given ≡ length names → IsFirstFree taken names name number →
+makes_from : (taken names after : List (List ℕ)) (name : List ℕ) (number next given : ℕ) →
+    after ≡ names ++ name ∷ [] → given ≡ length names → HoldsNames taken names next → IsNextFree taken next name number →
     Makes (with_names taken names) (with_names taken after) given
-makes_from taken names after name number given g counted first = record {
+makes_from taken names after name number next given g counted holds found = record {
   counted = counted;
   kept = refl;
   name = name;
-  named = named_first taken names name number first;
+  named = named_first taken names name number (first_free taken names name number next holds found);
   made = g;
 }
 
-pub makes_after : (before : TemporaryNames) (taken names others earlier after : List (List ℕ)) (name : List ℕ) (number given : ℕ) →
-    with_names taken names ≡ before → others ≡ taken → earlier ≡ names → after ≡ names ++ name ∷ [] → given ≡ length names →
-    IsFirstFree others earlier name number → Makes before (with_names taken after) given
-makes_after before taken names others earlier after name number given viewed e f g counted first =
-    subst (λ q. Makes q (with_names taken after) given) viewed (makes_from taken names after name number given g counted
-    (subst (λ q. IsFirstFree taken q name number) f (subst (λ q. IsFirstFree q earlier name number) e first)))
+pub makes_after : (before : TemporaryNames) (taken names others after : List (List ℕ)) (name : List ℕ) (number next given : ℕ) →
+    with_names taken names ≡ before → others ≡ taken → after ≡ names ++ name ∷ [] → given ≡ length names →
+    HoldsNames taken names next → IsNextFree others next name number → Makes before (with_names taken after) given
+makes_after before taken names others after name number next given viewed e g counted holds found =
+    subst (λ q. Makes q (with_names taken after) given) viewed
+    (makes_from taken names after name number next given g counted holds (subst (λ q. IsNextFree q next name number) e found))

@@ -1,5 +1,5 @@
 ghost use Rattle.std.specs.Prelude.{◌≡◌, [], IfOk, OnErr};
-ghost use Rattle.rs_items.specs.Search.{temporary, is_used, AreUsed, IsFirstFree};
+ghost use Rattle.rs_items.specs.Search.{temporary, IsNextFree};
 ghost use Rattle.rs_items.specs.Temporaries.{AreApart, Makes};
 ghost use Rattle.rs_tree.specs.Names.{is_among};
 
@@ -16,7 +16,7 @@ pub struct Temporaries {
     alloc: Global,
     taken: Items<Name>,
     names: Items<Name>,
-    // The candidates before this number are taken.
+    // The candidates before this number are taken, and those from it on are no temporaries.
     next: u32,
 }
 
@@ -54,7 +54,7 @@ impl Temporaries {
             return Err(Memory);
         };
         let taken = self.taken.as_slice();
-        let found = first_free(self.alloc, taken, self.names.as_slice(), self.next)?;
+        let found = first_free(self.alloc, taken, self.next)?;
         self.names.push(found.name)?;
         self.next = found.number + 1;
         Ok(number)
@@ -90,26 +90,18 @@ struct Found {
     number: u32,
 }
 
-// The first candidate that is taken neither by others nor by a temporary, where those before a number
-// are taken.
-fn first_free(alloc: Global, taken: &[Name], names: &[Name], from: u32) -> Result<Found, Memory>
-    requires { AreUsed taken.now names.now from }
-    ensures { IfOk result (λ found. IsFirstFree taken.now names.now found.name found.number) }
+// The first candidate from a number on that others haven't taken. From the number on no candidate is a
+// temporary, so these aren't looked at.
+fn first_free(alloc: Global, taken: &[Name], from: u32) -> Result<Found, Memory>
+    ensures { IfOk result (λ found. IsNextFree taken.now from found.name found.number) }
 {
     for number in from..u32::MAX {
         let name = temporary(alloc, number)?;
-        if !is_used(taken, names, &name) {
+        if !is_taken(taken, &name) {
             return Ok(Found { name, number });
         }
     }
     Err(Memory)
-}
-
-// Whether a name is taken by others or by a temporary.
-fn is_used(taken: &[Name], names: &[Name], name: &Name) -> bool
-    ensures { result ≡ is_used taken.now names.now name.now }
-{
-    is_taken(taken, name) || is_taken(names, name)
 }
 
 // Whether a name is among others.

@@ -1,7 +1,7 @@
 -- A worked example: a program is one that is translated today, and its crate has the items that it is to have.
 use Rattle.std.proofs.Common.{◌≡◌, ℕ, pos, false, List, [], ◌∷◌, Some, codes, refl}
 use Rattle.std.proofs.lemmas.List.Elements.{All-nil, All-cons}
-use Rattle.cx_core.specs.Examples.{adds_answer, main_function, x_object, putchar_outer, int_type, at_line, number_at, read_at, two_at, set_at, putchar_at}
+use Rattle.cx_core.specs.Examples.{adds_answer, main_function, x_object, putchar_outer, at_line, number_at, read_at, two_at, set_at, putchar_at}
 use Rattle.cx_core.specs.declared.program.Parts.{Parts}
 use Rattle.cx_core.specs.Views.{view_program}
 use Rattle.cx_core.specs.declared.expr.Op2.TheVariants.{Add, Subtract}
