@@ -138,10 +138,33 @@ straight_units() {
   fi
 }
 
+# Units near the form: the program takes those that a reader of its own takes, and gcc takes them too; it refuses the
+# others.
+straight_mutants() {
+  local tool
+  for tool in python3 gcc; do
+    if ! command -v "$tool" >/dev/null 2>&1; then
+      skip "units near the form ($tool isn't there)"
+      return
+    fi
+  done
+  if ! python3 -c 'import sys; sys.exit(sys.version_info < (3, 10))'; then
+    skip "units near the form (python3 is older than 3.10)"
+    return
+  fi
+  local said
+  if ! said=$(python3 "$top/tests/straight_mutants.py" --c2rs "$program" --folder "$work/mutants" 2>&1); then
+    bad "units near the form: $said"
+  else
+    ok "units near the form: $said"
+  fi
+}
+
 one answer
 one letter
 refused_in_turn
 straight_units
+straight_mutants
 usage='c2rs: usage: transpile -o DIR FILE..'
 report 2 "$usage"
 report 2 "$usage" transpile -o out -o out answer.c

@@ -1,7 +1,7 @@
 """What a unit of the straight `int` form means, by ISO C99: an evaluator of its own, which shares nothing with c2rs.
 
 The form: at most one `int putchar(int);`, then objects `int x;` and `int x = N;`, then `int main(void) { .. }` whose
-body is a list of `e;` with a last `return e;`. An expression is a decimal constant of type `int`, an object,
+body is a list of `e;` with a last `return e;`. An expression is an integer constant of type `int`, an object,
 `(e)`, `-e`, `e + e`, `e - e`, `e * e`, `x = e`, or `putchar(e)`. Read, but outside the form: several declarators in a
 declaration, and `-N` as an initialiser. The characteristics of the implementation are those of GCC on x86-64: `int`
 has 32 bits, `unsigned char` has 8.
@@ -92,6 +92,15 @@ def tokens_of(text):
     return tokens
 
 
+def value_of(text):
+    """The value of an integer constant without suffix: hexadecimal, octal (as 0 is) or decimal (6.4.4.1)."""
+    if re.fullmatch(r"0[xX][0-9A-Fa-f]+", text):
+        return int(text, 16)
+    if re.fullmatch(r"0[0-7]*", text):
+        return int(text, 8)
+    return int(text) if re.fullmatch(r"[1-9][0-9]*", text) else None
+
+
 @dataclass
 class Reader:
     """Reads the tokens of a unit by recursive descent."""
@@ -123,10 +132,11 @@ class Reader:
 
     def number(self):
         text, line = self.peek(), self.line()
-        if not re.fullmatch(r"0|[1-9]\d*", text) or int(text) > GREATEST:
+        value = value_of(text)
+        if value is None or value > GREATEST:
             raise NotOfTheForm(f"line {line}: no constant of type int")
         self.at += 1
-        return Number(int(text), line)
+        return Number(value, line)
 
     def unit(self):
         if self.peek(1) == "putchar":
@@ -217,7 +227,7 @@ class Reader:
         if self.peek() == "putchar" and self.has_putchar:
             self.take("putchar")
             return PutChar(self.in_parentheses(), line)
-        if self.peek().isdigit():
+        if self.peek()[:1].isdigit():
             return self.number()
         return Load(self.object_name(), line)
 

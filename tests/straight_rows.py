@@ -17,6 +17,8 @@ def undefined(rule, line=1, written=b""):
 ROWS = [
     # values and statuses
     ("return 42;", ended(42), "a constant"),
+    ("return 0x2A;", ended(42), "2 * 16 + 10 (6.4.4.1)"),
+    ("return 052;", ended(42), "5 * 8 + 2 (6.4.4.1)"),
     ("return 256;", ended(0), "the low eight bits of 256"),
     ("return -1;", ended(255), "the low eight bits of -1"),
     ("return x - 125;", ended(191), "-65 modulo 256"),
@@ -76,7 +78,8 @@ ROWS = [
 # texts that are no units of the form
 REFUSED = [
     "int main(void) { return 2147483648; }",
-    "int main(void) { return 010; }",
+    "int main(void) { return 0x80000000; }",
+    "int main(void) { return 09; }",
     "int x; int main(void) { return --x; }",
     "int x; int main(void) { x -= 1; return x; }",
     "int main(void) { return +1; }",
