@@ -14,9 +14,13 @@ ok() { passed=$((passed + 1)); echo "ok: $1"; }
 bad() { failed=$((failed + 1)); echo "FAILED: $1"; }
 skip() { skipped=$((skipped + 1)); echo "skipped: $1"; }
 
-# The program, built by the kit over what it has proved.
+# The program, built by the kit over what it has proved: the gate leaves it here, and it is built anew where a source is
+# newer.
 program="$top/crates/c2rs/out/c2rs"
-(cd "$top/crates/c2rs" && rt run -- >"$work/build.log" 2>&1)
+newer=$(find "$top/crates.txt" "$top"/crates/*/src "$top"/crates/*/specs "$top"/crates/*/proofs -newer "$program" 2>&1)
+if [ ! -x "$program" ] || [ -n "$newer" ]; then
+  (cd "$top/crates/c2rs" && rt run -- >"$work/build.log" 2>&1)
+fi
 if [ ! -x "$program" ]; then
   echo "FAILED: the program wasn't built"
   tail -5 "$work/build.log"
