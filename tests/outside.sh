@@ -118,21 +118,27 @@ refused_in_turn() {
   fi
 }
 
-# Random straight `int` units: what the programs of their crates show is compared with an evaluator of C99 that
-# shares nothing with the program, and this with gcc's programs.
-straight_units() {
-  local tool
-  for tool in python3 rustc gcc stdbuf; do
+# tools_for TEST TOOL..: whether the tools of a test are there, and a python3 that it can use; otherwise it is skipped.
+tools_for() {
+  local test=$1 tool
+  shift
+  for tool in "$@"; do
     if ! command -v "$tool" >/dev/null 2>&1; then
-      skip "random straight units ($tool isn't there)"
-      return
+      skip "$test ($tool isn't there)"
+      return 1
     fi
   done
   if ! python3 -c 'import sys; sys.exit(sys.version_info < (3, 10))'; then
-    skip "random straight units (python3 is older than 3.10)"
-    return
+    skip "$test (python3 is older than 3.10)"
+    return 1
   fi
+}
+
+# Random straight `int` units: what the programs of their crates show is compared with an evaluator of C99 that
+# shares nothing with the program, and this with gcc's programs.
+straight_units() {
   local said
+  tools_for 'random straight units' python3 rustc gcc stdbuf || return
   if ! said=$(python3 "$top/tests/straight_units.py" --self-test 2>&1); then
     bad "the evaluator of straight units: $said"
   elif ! said=$(python3 "$top/tests/straight_units.py" --c2rs "$program" --folder "$work/straight" 2>&1); then
@@ -145,18 +151,8 @@ straight_units() {
 # Units near the form: the program takes those that a reader of its own takes, and gcc takes them too; it refuses the
 # others.
 straight_mutants() {
-  local tool
-  for tool in python3 gcc; do
-    if ! command -v "$tool" >/dev/null 2>&1; then
-      skip "units near the form ($tool isn't there)"
-      return
-    fi
-  done
-  if ! python3 -c 'import sys; sys.exit(sys.version_info < (3, 10))'; then
-    skip "units near the form (python3 is older than 3.10)"
-    return
-  fi
   local said
+  tools_for 'units near the form' python3 gcc || return
   if ! said=$(python3 "$top/tests/straight_mutants.py" --c2rs "$program" --folder "$work/mutants" 2>&1); then
     bad "units near the form: $said"
   else
