@@ -1,5 +1,5 @@
 use super::DiskShelf;
-use crate::testing::{gives, is_failed, is_too_large};
+use crate::testing::{gives, is_failed, is_last, is_too_large};
 use crate::{Kind, Shelf};
 use std::test::Fail;
 use std::{env, fs};
@@ -28,9 +28,10 @@ fn files_are_put_and_got(rt: HostRuntime) -> Result<(), Fail> {
     assert_eq!(rt; shelf.log.count, 0);
     assert!(rt; is_failed(&shelf.get(missing.as_str(), 3)), "no such file");
     assert_eq!(rt; shelf.log.count, 1);
-    let last = shelf.log.last.as_ref().ok_or("no last call")?;
-    assert_eq!(rt; last.name.as_str(), missing.as_str());
-    assert_eq!(rt; last.kind, Kind::Get);
+    assert!(rt;
+        is_last(&shelf.log, Kind::Get, missing.as_str()),
+        "the last failed call"
+    );
     fs::remove_dir_all(&rt, root.as_str())?;
     Ok(())
 }

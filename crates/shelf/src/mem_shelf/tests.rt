@@ -1,5 +1,5 @@
 use super::MemShelf;
-use crate::testing::{gives, is_failed, is_too_large};
+use crate::testing::{gives, is_failed, is_last, is_too_large};
 use crate::{File, Kind, Shelf, ShelfFault};
 use std::test::Fail;
 
@@ -38,9 +38,10 @@ fn calls_fail_by_number(rt: HostRuntime) -> Result<(), Fail> {
     );
     assert!(rt; is_failed(&shelf.get("a.c", 99)), "call 3");
     assert_eq!(rt; shelf.log.count, 2);
-    let last = shelf.log.last.as_ref().ok_or("no last call")?;
-    assert_eq!(rt; last.name.as_str(), "a.c");
-    assert_eq!(rt; last.kind, Kind::Get);
+    assert!(rt;
+        is_last(&shelf.log, Kind::Get, "a.c"),
+        "the last failed call"
+    );
     Ok(())
 }
 
