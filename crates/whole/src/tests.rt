@@ -12,6 +12,7 @@ use cx_core::{
     CoreExpr, CoreObject, CoreStmt, Form, Fun, Linkage, Op2, Outer, Program, Put, Spot, StmtForm,
     Ty, TyForm, Types, example_is_linked, function_type,
 };
+use lift::NameTable;
 use rs_tree::{Crate, Item, Line, Module, module_lines};
 use std::alloc::Global;
 use std::process::Abort;
@@ -321,19 +322,23 @@ const MODULE: [(u32, &str); 26] = [
     (0, "}"),
 ];
 
+// The lines of the one module of a crate, or none if it is another or has not four items.
+fn only_module(alloc: Global, made: &Crate) -> Result<Items<Line>, Memory> {
+    match made.modules.as_slice() {
+        // `x`, the block, `main_0` and the initialiser
+        [module] if module.name.bytes() == b"a".as_slice() && module.items.len() == 4 => {
+            module_lines(alloc, module)
+        }
+        _ => Ok(Items::new(alloc)),
+    }
+}
+
 #[test]
 fn a_program_is_one_module(rt: HostRuntime) -> Result<(), Fail> {
     let alloc = rt.alloc();
     let made = translated(alloc)?;
     assert_eq!(rt; made.entry, 0);
-    assert_eq!(rt; made.modules.len(), 1);
-    let Some(module) = made.modules.get(0) else {
-        return Ok(());
-    };
-    assert!(rt; module.name.bytes() == b"a".as_slice());
-    // `x`, the block, `main_0` and the initialiser
-    assert_eq!(rt; module.items.len(), 4);
-    expect(&rt, module_lines(alloc, module)?.as_slice(), &MODULE);
+    expect(&rt, only_module(alloc, &made)?.as_slice(), &MODULE);
     Ok(())
 }
 
@@ -367,42 +372,67 @@ fn printf_outer(alloc: Global, number: u32) -> Result<Outer, Memory> {
     })
 }
 
-// The lines of the external functions that the example's body calls, of these.
-fn extern_lines(alloc: Global, externals: &[Outer]) -> Result<Items<Line>, Memory> {
-    let called = called_outers(alloc, externals, &body(alloc)?)?;
-    let module = Module {
-        name: name(alloc, b"a")?,
-        items: extern_block(alloc, called)?,
-    };
-    module_lines(alloc, &module)
+// The lines of a module of these items.
+fn lines_of(alloc: Global, items: Items<Item>) -> Result<Items<Line>, Memory> {
+    let name = name(alloc, b"a")?;
+    module_lines(alloc, &Module { name, items })
 }
 
-// The body calls the function 1 alone: another one isn't declared, and where there is none, neither is a block.
+// The lines of the external functions that the example's body calls, of these.
+fn extern_lines(alloc: Global, externals: &[Outer]) -> Result<Items<Line>, Memory> {
+    let body = body(alloc)?;
+    let called = called_outers(alloc, externals, &body)?;
+    lines_of(alloc, extern_block(alloc, called)?)
+}
+
+fn one_outer(alloc: Global, one: Outer) -> Result<Items<Outer>, Memory> {
+    let mut outers = Items::new(alloc);
+    outers.push(one)?;
+    Ok(outers)
+}
+
+// The body calls the function 1 alone: where there is none, there is no block.
+#[test]
+fn no_call_has_no_block(rt: HostRuntime) -> Result<(), Fail> {
+    let alloc = rt.alloc();
+    let externals = one_outer(alloc, reset_outer(alloc, 2)?)?;
+    let lines = extern_lines(alloc, externals.as_slice())?;
+    assert_eq!(rt; lines.len(), 0);
+    Ok(())
+}
+
+// `putchar` between two functions that aren't called
+fn putchar_among_others(alloc: Global) -> Result<Items<Outer>, Memory> {
+    let mut outers = one_outer(alloc, reset_outer(alloc, 2)?)?;
+    outers.push(putchar_outer(alloc)?)?;
+    outers.push(reset_outer(alloc, 3)?)?;
+    Ok(outers)
+}
+
 #[test]
 fn what_is_not_called_is_not_declared(rt: HostRuntime) -> Result<(), Fail> {
     let alloc = rt.alloc();
-    let mut externals = Items::new(alloc);
-    externals.push(reset_outer(alloc, 2)?)?;
-    let none = extern_lines(alloc, externals.as_slice())?;
-    assert_eq!(rt; none.len(), 0);
-    externals.push(putchar_outer(alloc)?)?;
-    externals.push(reset_outer(alloc, 3)?)?;
-    let one = extern_lines(alloc, externals.as_slice())?;
+    let externals = putchar_among_others(alloc)?;
+    let lines = extern_lines(alloc, externals.as_slice())?;
     let wanted = [
         (0, "extern \"C\" {"),
         (1, "pub fn putchar(a0: i32) -> i32;"),
         (0, "}"),
     ];
-    expect(&rt, one.as_slice(), &wanted);
+    expect(&rt, lines.as_slice(), &wanted);
     Ok(())
+}
+
+fn reset_and_printf(alloc: Global) -> Result<Items<Outer>, Memory> {
+    let mut outers = one_outer(alloc, reset_outer(alloc, 1)?)?;
+    outers.push(printf_outer(alloc, 1)?)?;
+    Ok(outers)
 }
 
 #[test]
 fn functions_are_declared_by_their_types(rt: HostRuntime) -> Result<(), Fail> {
     let alloc = rt.alloc();
-    let mut externals = Items::new(alloc);
-    externals.push(reset_outer(alloc, 1)?)?;
-    externals.push(printf_outer(alloc, 1)?)?;
+    let externals = reset_and_printf(alloc)?;
     let lines = extern_lines(alloc, externals.as_slice())?;
     let wanted = [
         (0, "extern \"C\" {"),
@@ -411,39 +441,6 @@ fn functions_are_declared_by_their_types(rt: HostRuntime) -> Result<(), Fail> {
         (0, "}"),
     ];
     expect(&rt, lines.as_slice(), &wanted);
-    Ok(())
-}
-
-// A value that is put in an object is stored, and nothing in one that is only declared.
-#[test]
-fn objects_begin_with_their_values(rt: HostRuntime) -> Result<(), Fail> {
-    let alloc = rt.alloc();
-    let mut objects = Items::new(alloc);
-    objects.push(x_object(alloc)?)?;
-    objects.push(declared_object(alloc, b"y")?)?;
-    let names = name_table(
-        alloc,
-        &adds_answer(alloc)?,
-        name(alloc, b"a")?,
-        &body(alloc)?,
-    )?;
-    assert_eq!(rt; names.temporaries.len(), 7);
-    let mut items = statics(alloc, objects.as_slice())?;
-    items.push(Item::Function(initialiser(alloc, &names, objects.as_slice())?))?;
-    let module = Module {
-        name: name(alloc, b"a")?,
-        items,
-    };
-    let wanted = [
-        (0, "#[no_mangle]"),
-        (0, "pub static mut x: i32 = unsafe { core::mem::zeroed() };"),
-        (0, "#[no_mangle]"),
-        (0, "pub static mut y: i32 = unsafe { core::mem::zeroed() };"),
-        (0, "pub unsafe extern \"C\" fn run_static_initializers() {"),
-        (1, "crate::a::x = 60i32;"),
-        (0, "}"),
-    ];
-    expect(&rt, module_lines(alloc, &module)?.as_slice(), &wanted);
     Ok(())
 }
 
@@ -458,4 +455,56 @@ fn declared_object(alloc: Global, text: &[u8]) -> Result<CoreObject, Memory> {
         linkage: Linkage::External,
         puts: None,
     })
+}
+
+// `int x = 60;` and `extern int y;`
+fn two_objects(alloc: Global) -> Result<Items<CoreObject>, Memory> {
+    let mut objects = Items::new(alloc);
+    objects.push(x_object(alloc)?)?;
+    objects.push(declared_object(alloc, b"y")?)?;
+    Ok(objects)
+}
+
+// The names of the example.
+fn example_names(alloc: Global) -> Result<NameTable, Memory> {
+    let program = adds_answer(alloc)?;
+    let home = name(alloc, b"a")?;
+    let body = body(alloc)?;
+    name_table(alloc, &program, home, &body)
+}
+
+// The items of objects, and the function that stores their initial values.
+fn object_items(
+    alloc: Global,
+    names: &NameTable,
+    objects: &[CoreObject],
+) -> Result<Items<Item>, Memory> {
+    let mut items = statics(alloc, objects)?;
+    let stores = initialiser(alloc, names, objects)?;
+    items.push(Item::Function(stores))?;
+    Ok(items)
+}
+
+fn object_lines(alloc: Global, names: &NameTable) -> Result<Items<Line>, Memory> {
+    let objects = two_objects(alloc)?;
+    lines_of(alloc, object_items(alloc, names, objects.as_slice())?)
+}
+
+// A value that is put in an object is stored, and nothing in one that is only declared.
+#[test]
+fn objects_begin_with_their_values(rt: HostRuntime) -> Result<(), Fail> {
+    let alloc = rt.alloc();
+    let names = example_names(alloc)?;
+    assert_eq!(rt; names.temporaries.len(), 7);
+    let wanted = [
+        (0, "#[no_mangle]"),
+        (0, "pub static mut x: i32 = unsafe { core::mem::zeroed() };"),
+        (0, "#[no_mangle]"),
+        (0, "pub static mut y: i32 = unsafe { core::mem::zeroed() };"),
+        (0, "pub unsafe extern \"C\" fn run_static_initializers() {"),
+        (1, "crate::a::x = 60i32;"),
+        (0, "}"),
+    ];
+    expect(&rt, object_lines(alloc, &names)?.as_slice(), &wanted);
+    Ok(())
 }
