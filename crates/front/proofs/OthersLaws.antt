@@ -3,11 +3,11 @@ use Rattle.std.proofs.Common.{◌≡◌, ℕ, zero, suc, ◌+◌, inl, inr, Bool
 use Rattle.std.specs.List.{list_any}
 use Rattle.shelf.specs.declared.file.File.{File}
 use Rattle.shelf.specs.Shelf.{ShelfState, with_file, without_file}
-use Rattle.cx_core.specs.Trees.{CProgram}
+use Rattle.straight_core.specs.Trees.{CProgram}
 use Rattle.rs_items.specs.Modules.{module_name}
-use Rattle.rs_tree.specs.Text.{text_of, file_of, module_file}
-use Rattle.rs_tree.specs.Tree.{ModuleTree, CrateTree}
-use Rattle.whole.specs.Items.{Outline, outlines_from, items_in, items_of, head_of}
+use Rattle.straight_rust_tree.specs.Text.{text_of, file_of, module_file}
+use Rattle.straight_rust_tree.specs.Tree.{ModuleTree, CrateTree}
+use Rattle.straight_whole.specs.Items.{Outline, outlines_from, items_in, items_of, head_of}
 use Rattle.front.specs.Job.{Job, transpile}
 use Rattle.front.specs.Files.{Held, WhereTold, units_of, unit_and, files_in, file_in, name_in, with_files, written_names}
 use Rattle.front.specs.Report.{Ending, done, refused, usage, cannot_read, cannot_write, memory}

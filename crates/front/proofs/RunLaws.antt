@@ -8,9 +8,9 @@ use Rattle.shelf.specs.declared.file.File.{File}
 use Rattle.shelf.specs.Shelf.{ShelfState, without_file}
 use Rattle.shelf.specs.Sink.{SinkState, Appended}
 use Rattle.front.specs.Job.{Job, transpile}
-use Rattle.cx_core.specs.Trees.{CProgram}
-use Rattle.rs_tree.specs.Text.{text_of}
-use Rattle.rs_tree.specs.Tree.{CrateTree}
+use Rattle.straight_core.specs.Trees.{CProgram}
+use Rattle.straight_rust_tree.specs.Text.{text_of}
+use Rattle.straight_rust_tree.specs.Tree.{CrateTree}
 use Rattle.front.specs.Refusals.{IsRead, FirstBroken, CoreOf}
 use Rattle.front.specs.Files.{Held, WhereTold, units_of, files_in, with_files}
 use Rattle.front.specs.Report.{Ending, done, refused, usage, cannot_read, cannot_write, memory, IsTold, IsReported, WriteFailed, ReportsMemory, report_of, status_of, refusal_report, usage_report, unread_report, unwritten_report}

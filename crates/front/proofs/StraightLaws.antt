@@ -4,14 +4,14 @@ use Rattle.std.specs.Prelude.{All}
 use Rattle.std.specs.List.{AllByRecursion}
 use Rattle.std.proofs.lemmas.List.Elements.{All-from_recursion}
 use Rattle.cr_base.specs.declared.refusal.Place.{Place}
-use Rattle.cx_core.specs.Trees.{CExpr, CStmt, stmt, block, expression, returns, CObject, CFun, CProgram}
-use Rattle.cx_core.specs.Views.{stmts_of}
-use Rattle.cx_tree.specs.Trees as tree
-use Rattle.cx_tree.specs.Trees.{ExprTree, ItemTree, StmtTree, ExternalTree, UnitTree}
-use Rattle.cx_decl.specs.CoreOf.{Scope, place_in, place_of, no_scope, with_object, scope_behind, core_expr, core_expression, core_return, core_first, core_last, core_firsts, core_stmts, items_in, last_of, before_last, dropped, main_function, main_body, core_function, core_objects, and_main, parted, program_with, program_behind, program_of_parts, core_of, is_int, declares_function, takes_nothing, main_name, declares_putchar, both}
-use Rattle.cx_decl.proofs.Linking.{IsDeclaredIn, AreDeclaredFrom, objects_are, both_some, map_some, cond_some, same}
-use Rattle.cx_decl.proofs.Whole.{parted_linked}
-use Rattle.whole.specs.Straight.{IsPlainObject, IsExpression, GivesValue, IsStraightBody, IsStraight}
+use Rattle.straight_core.specs.Trees.{CExpr, CStmt, stmt, block, expression, returns, CObject, CFun, CProgram}
+use Rattle.straight_core.specs.Views.{stmts_of}
+use Rattle.straight_tree.specs.Trees as tree
+use Rattle.straight_tree.specs.Trees.{ExprTree, ItemTree, StmtTree, ExternalTree, UnitTree}
+use Rattle.straight_decl.specs.CoreOf.{Scope, place_in, place_of, no_scope, with_object, scope_behind, core_expr, core_expression, core_return, core_first, core_last, core_firsts, core_stmts, items_in, last_of, before_last, dropped, main_function, main_body, core_function, core_objects, and_main, parted, program_with, program_behind, program_of_parts, core_of, is_int, declares_function, takes_nothing, main_name, declares_putchar, both}
+use Rattle.straight_decl.proofs.Linking.{IsDeclaredIn, AreDeclaredFrom, objects_are, both_some, map_some, cond_some, same}
+use Rattle.straight_decl.proofs.Whole.{parted_linked}
+use Rattle.straight_whole.specs.Straight.{IsPlainObject, IsExpression, GivesValue, IsStraightBody, IsStraight}
 
 -- ---- objects
 

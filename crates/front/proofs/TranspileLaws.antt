@@ -11,15 +11,15 @@ use Rattle.shelf.specs.declared.file.File.{File}
 use Rattle.shelf.specs.declared.file.Got.TheVariants.{Bytes, TooLarge}
 use Rattle.shelf.specs.Shelf.{ShelfState, IsGot, IsGotOf, without_file}
 use Rattle.shelf.proofs.FaultLemmas.{rose_after}
-use Rattle.cx_core.specs.Trees.{CProgram}
+use Rattle.straight_core.specs.Trees.{CProgram}
 use Rattle.rs_items.specs.Modules.{module_name, stem_of}
-use Rattle.rs_tree.specs.Tree.{CrateTree}
-use Rattle.whole.specs.Items.{items_in, items_of}
-use Rattle.whole.specs.Right.{IsRight}
+use Rattle.straight_rust_tree.specs.Tree.{CrateTree}
+use Rattle.straight_whole.specs.Items.{items_in, items_of}
+use Rattle.straight_whole.specs.Right.{IsRight}
 use Rattle.cx_lex.proofs.SpellLemmas.{spell_or_break}
 use Rattle.front.specs.Refusals.{IsRead, IsBuiltAs, FirstBroken, StopsUnit}
 use Rattle.front.specs.Files.{Held, WhereTold, units_of, unit_and, files_in, name_in, with_files, written_names}
-use Rattle.rs_tree.specs.Text.{file_of, text_of}
+use Rattle.straight_rust_tree.specs.Text.{file_of, text_of}
 use Rattle.front.specs.Printed.{IsPlaced}
 use Rattle.front.specs.Report.{Ending, done, refused, usage, cannot_read, cannot_write, memory}
 use Rattle.front.specs.Puts.{Puts}

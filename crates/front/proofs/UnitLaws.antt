@@ -5,12 +5,12 @@ use Rattle.std.specs.Result.{IsErrAnd}
 use Rattle.cr_base.specs.declared.refusal.Refusal.{Refusal}
 use Rattle.cr_base.specs.declared.refusal.Stop.{Stop}
 use Rattle.cr_base.specs.declared.refusal.Stop.TheVariants.{Refused, Memory}
-use Rattle.cx_core.specs.Trees.{CProgram}
+use Rattle.straight_core.specs.Trees.{CProgram}
 use Rattle.cx_lex.specs.declared.token.Token.{Token}
 use Rattle.cx_lex.specs.Lexed.{IsFirstFault}
 use Rattle.cx_lex.specs.Tokens.{Spells, token_fault}
 use Rattle.cx_lex.proofs.SpellLemmas.{spell_once, spell_or_break}
-use Rattle.cx_tree.specs.Derives.{Derives}
+use Rattle.straight_tree.specs.Derives.{Derives}
 use Rattle.shelf.specs.declared.file.File.{File}
 use Rattle.front.specs.Kept.{KeepsNames}
 use Rattle.front.specs.Refusals.{IsSmall, IsRead, IsBuiltAs, ProgramOf, FirstBroken, StopsUnit}

@@ -3,7 +3,7 @@ use Rattle.std.specs.Prelude.{ℕ, List, [], ◌∷◌, ◌++◌, map, Option, S
 use Rattle.shelf.specs.declared.file.File.{File}
 use Rattle.shelf.specs.Shelf.{with_file}
 use Rattle.rs_items.specs.Modules.{module_name}
-use Rattle.rs_tree.specs.Text.{file_of}
+use Rattle.straight_rust_tree.specs.Text.{file_of}
 
 -- what a shelf holds: where told, for each name its bytes, or none
 abbrev pub Held : Type 0

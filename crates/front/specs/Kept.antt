@@ -1,10 +1,10 @@
 -- The names that a program declares and that are their own Rust names.
 use Rattle.std.specs.Prelude.{ℕ, Bool, true, false, ◌&&◌, IsTrue, List, Option, Some, None}
 use Rattle.std.specs.List.{list_all}
-use Rattle.cx_core.specs.Trees.{CObject, COuter, CProgram}
+use Rattle.straight_core.specs.Trees.{CObject, COuter, CProgram}
 use Rattle.rs_items.specs.declared.scope.NameScope.TheVariants.{Module}
 use Rattle.rs_items.specs.Names.{keeps_name}
-use Rattle.rs_tree.specs.Names.{is_word}
+use Rattle.straight_rust_tree.specs.Names.{is_word}
 
 -- a name of C that stands in a module as it is
 abbrev pub keeps : List ℕ → Bool

@@ -1,10 +1,10 @@
 -- The files of a right crate.
 use Rattle.std.specs.Prelude.{◌≡◌, ℕ, List, [], ◌∷◌}
-use Rattle.cx_core.specs.Trees.{CProgram}
-use Rattle.rs_tree.specs.Text.{text_of}
-use Rattle.rs_tree.specs.Tree.{CrateTree}
+use Rattle.straight_core.specs.Trees.{CProgram}
+use Rattle.straight_rust_tree.specs.Text.{text_of}
+use Rattle.straight_rust_tree.specs.Tree.{CrateTree}
 use Rattle.shelf.specs.declared.file.File.{File}
-use Rattle.whole.specs.Right.{IsRight}
+use Rattle.straight_whole.specs.Right.{IsRight}
 use Rattle.front.specs.Files.{files_in}
 
 -- files are the text of a right crate of a program, whose one module has this name

@@ -4,12 +4,12 @@ use Rattle.cr_base.specs.declared.refusal.Refusal.{Refusal}
 use Rattle.cr_base.specs.declared.refusal.Stop.{Stop}
 use Rattle.cr_base.specs.declared.refusal.Stop.TheVariants.{Refused, Memory}
 use Rattle.cr_base.specs.declared.rule.Rule.TheVariants.{M1, N1}
-use Rattle.cx_core.specs.Trees.{CProgram}
-use Rattle.cx_decl.specs.CoreOf.{core_of}
+use Rattle.straight_core.specs.Trees.{CProgram}
+use Rattle.straight_decl.specs.CoreOf.{core_of}
 use Rattle.cx_lex.specs.declared.token.Token.{Token}
 use Rattle.cx_lex.specs.Tokens.{Spells, token_fault}
-use Rattle.cx_tree.specs.Derives.{Derives}
-use Rattle.cx_tree.specs.Trees.{UnitTree}
+use Rattle.straight_tree.specs.Derives.{Derives}
+use Rattle.straight_tree.specs.Trees.{UnitTree}
 use Rattle.rs_items.specs.Modules.{module_name, stem_of}
 use Rattle.shelf.specs.declared.file.File.{File}
 use Rattle.front.specs.Kept.{KeepsNames}

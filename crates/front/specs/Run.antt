@@ -7,7 +7,7 @@ use Rattle.shelf.specs.declared.file.File.{File}
 use Rattle.shelf.specs.Shelf.{ShelfState}
 use Rattle.shelf.specs.Sink.{SinkState, Appended}
 use Rattle.front.specs.Job.{Job, transpile, job_of}
-use Rattle.cx_core.specs.Trees.{CProgram}
+use Rattle.straight_core.specs.Trees.{CProgram}
 use Rattle.front.specs.Refusals.{FirstBroken, CoreOf}
 use Rattle.front.specs.Files.{Held, WhereTold, units_of, written_names}
 use Rattle.front.specs.Report.{Ending, IsTold, WriteFailed, ReportsMemory, report_of, refusal_report, usage_report, unread_report, unwritten_report}

@@ -5,11 +5,11 @@ use Rattle.cr_base.specs.declared.refusal.Refusal.{Refusal}
 use Rattle.shelf.specs.declared.called.Kind.TheVariants.{Get, Put}
 use Rattle.shelf.specs.declared.file.File.{File}
 use Rattle.shelf.specs.Shelf.{ShelfState, without_file, call_of}
-use Rattle.cx_core.specs.Trees.{CProgram}
+use Rattle.straight_core.specs.Trees.{CProgram}
 use Rattle.rs_items.specs.Modules.{module_name}
-use Rattle.rs_tree.specs.Text.{text_of}
-use Rattle.rs_tree.specs.Tree.{CrateTree}
-use Rattle.whole.specs.Right.{IsRight}
+use Rattle.straight_rust_tree.specs.Text.{text_of}
+use Rattle.straight_rust_tree.specs.Tree.{CrateTree}
+use Rattle.straight_whole.specs.Right.{IsRight}
 use Rattle.front.specs.Refusals.{FirstBroken, CoreOf}
 use Rattle.front.specs.Files.{WhereTold, units_of, files_in, with_files, written_names}
 use Rattle.front.specs.Job.{Job, transpile}

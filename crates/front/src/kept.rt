@@ -2,12 +2,12 @@
 
 ghost use Rattle.std.specs.Prelude.{◌≡◌, ◌↔◌, IsTrue};
 ghost use Rattle.std.specs.List.{list_all};
-ghost use Rattle.cx_core.specs.Views.{view_object, view_outer, view_program};
-ghost use Rattle.rs_tree.specs.Names.{is_word, is_word_byte};
+ghost use Rattle.straight_core.specs.Views.{view_object, view_outer, view_program};
+ghost use Rattle.straight_rust_tree.specs.Names.{is_word, is_word_byte};
 ghost use Rattle.std.specs.Prelude.{map};
 ghost use Rattle.front.specs.Kept.{keeps, keeps_object, keeps_outer, KeepsNames};
 
-use cx_core::{CoreObject, Outer, Program};
+use straight_core::{CoreObject, Outer, Program};
 use rs_items::{NameScope, keeps_name};
 
 fn is_word_byte(byte: u8) -> bool

@@ -1,7 +1,7 @@
 ghost use Rattle.std.specs.Prelude.{◌≡◌, ◌<◌, [], ◌∷◌, length, IfOk};
-ghost use Rattle.cx_core.specs.Views.{view_program};
+ghost use Rattle.straight_core.specs.Views.{view_program};
 ghost use Rattle.rs_items.specs.Modules.{stem_of};
-ghost use Rattle.whole.specs.Right.{IsTranslatable};
+ghost use Rattle.straight_whole.specs.Right.{IsTranslatable};
 ghost use Rattle.front.specs.Printed.{IsPrinted, IsPlaced};
 ghost use Rattle.front.specs.Outcome.{ending_of};
 ghost use Rattle.front.specs.Puts.{Puts, PutFaultAt};
@@ -11,12 +11,12 @@ use crate::files::{PutFault, placed, put_all};
 use crate::outcome::Outcome;
 use crate::unit::unbroken;
 use cr_base::{Items, Memory, Name, Refusal, Rule, Stop};
-use cx_core::Program;
+use straight_core::Program;
 use rs_items::stem_of;
-use rs_print::print;
+use straight_print::print;
 use shelf::{File, Got, Shelf, ShelfFault};
 use std::alloc::Global;
-use whole::translate;
+use straight_whole::translate;
 
 /// The bytes that a unit may have.
 const UNIT_LIMIT: usize = 1_048_576;

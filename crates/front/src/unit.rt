@@ -1,19 +1,19 @@
 //! The program of a unit, or the first rule that the unit breaks.
 
 ghost use Rattle.std.specs.Prelude.{◌≡◌, ◌≤◌, length, IfOk, IfErr};
-ghost use Rattle.cx_core.specs.Trees.{CProgram};
-ghost use Rattle.cx_core.specs.Views.{view_program};
-ghost use Rattle.rs_tree.specs.Text.{file_of};
+ghost use Rattle.straight_core.specs.Trees.{CProgram};
+ghost use Rattle.straight_core.specs.Views.{view_program};
+ghost use Rattle.straight_rust_tree.specs.Text.{file_of};
 ghost use Rattle.front.specs.Refusals.{IsBuiltAs, StopsUnit};
 ghost use Rattle.front.specs.Steps.{HasProgram, BuildsAs, StopsAs, not_built};
 ghost use Rattle.cr_base.specs.declared.refusal.Stop.TheVariants as stop;
 
 use crate::kept::keeps_names;
 use cr_base::{Refusal, Rule, Stop};
-use cx_core::Program;
-use cx_decl::program_of;
+use straight_core::Program;
+use straight_decl::program_of;
 use cx_lex::{Token, lex};
-use cx_parse::parse;
+use straight_parse::parse;
 use rs_items::{is_plain, stem_of};
 use std::alloc::Global;
 

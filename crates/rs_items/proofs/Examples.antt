@@ -4,7 +4,7 @@ use Rattle.std.specs.Fmt.{digits}
 use Rattle.rs_items.specs.declared.scope.NameScope.TheVariants.{Module, Function, Fields}
 use Rattle.rs_items.specs.Modules.{module_name}
 use Rattle.rs_items.specs.Names.{reserved, candidate}
-use Rattle.rs_tree.specs.Names.{path_words, keywords}
+use Rattle.straight_rust_tree.specs.Names.{path_words, keywords}
 
 -- a keyword is written behind `r#`, and its other candidates have a suffix alone
 keyword_first : candidate Module (codes "type") 0 ≡ Some (codes "r#type")

@@ -13,8 +13,8 @@ use Rattle.rs_items.specs.declared.scope.NameScope.TheVariants.{Function}
 use Rattle.rs_items.specs.Names.{reserved, candidate, IsGone, IsRustName}
 use Rattle.rs_items.specs.Search.{temporary, is_used, AreUsed, IsNextFree, AreUnused, HoldsNames}
 use Rattle.rs_items.specs.Temporaries.{TemporaryNames, Makes}
-use Rattle.rs_tree.specs.Names.{is_word_byte, is_word, is_among, path_words, keywords, is_plain_identifier}
-use Rattle.rs_tree.specs.Valid.{all_differ}
+use Rattle.straight_rust_tree.specs.Names.{is_word_byte, is_word, is_among, path_words, keywords, is_plain_identifier}
+use Rattle.straight_rust_tree.specs.Valid.{all_differ}
 
 -- ---- truth values
 

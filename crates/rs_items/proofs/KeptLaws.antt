@@ -6,7 +6,7 @@ use Rattle.rs_items.specs.declared.scope.NameScope.TheVariants.{Module}
 use Rattle.rs_items.specs.Laws.{KeptNames, PlainStemsNameModules}
 use Rattle.rs_items.specs.Modules.{is_name, lacks_start}
 use Rattle.rs_items.specs.Names.{reserved, is_main_in, is_excluded, raw_or_same, unless, candidate, IsRustName, keeps_name}
-use Rattle.rs_tree.specs.Names.{is_digit, is_word_byte, is_word, is_among, path_words, keywords, is_plain_identifier, is_raw_identifier, is_identifier}
+use Rattle.straight_rust_tree.specs.Names.{is_digit, is_word_byte, is_word, is_among, path_words, keywords, is_plain_identifier, is_raw_identifier, is_identifier}
 use Rattle.rs_items.proofs.Fresh.{both, parts, neither, not_true}
 use Rattle.rs_items.proofs.ModuleLaws.{named_only}
 

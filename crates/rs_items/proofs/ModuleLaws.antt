@@ -8,7 +8,7 @@ use Rattle.std.proofs.lemmas.Grind.{common_steps}
 use Rattle.rs_items.specs.declared.scope.NameScope.TheVariants.{Module}
 use Rattle.rs_items.specs.Modules.{is_name, lacks_start, word_bytes_of, identifier_of, named_by, up_to_dot, without_extension}
 use Rattle.rs_items.specs.Names.{keeps_name}
-use Rattle.rs_tree.specs.Names.{is_word_byte}
+use Rattle.straight_rust_tree.specs.Names.{is_word_byte}
 
 -- where the last byte equal to c stands at k, as many bytes follow it as differ from c at the end
 pub suffix_at : (c : ℕ) (bs : List ℕ) (k : ℕ) → (k < length bs) × (get_or bs k 0 ≡ c) × ((i : ℕ) → k < i → i < length bs → get_or bs i 0 ≢ c) → suffix_len (λ b. not (b == c)) bs ≡ length bs - (k + 1)

@@ -3,7 +3,7 @@ use Rattle.std.specs.Prelude.{◌≡◌, ℕ, true, List, []}
 use Rattle.rs_items.specs.declared.scope.NameScope.{NameScope}
 use Rattle.rs_items.specs.Modules.{named_by}
 use Rattle.rs_items.specs.Names.{IsRustName, keeps_name}
-use Rattle.rs_tree.specs.Names.{is_word, is_identifier, is_module_name}
+use Rattle.straight_rust_tree.specs.Names.{is_word, is_identifier, is_module_name}
 
 -- a name that is kept is an identifier of Rust, where it is one of C, and its own Rust name, where nothing is taken
 pub record KeptNames : Type 0 where

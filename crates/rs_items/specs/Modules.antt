@@ -3,7 +3,7 @@ use Rattle.std.specs.Prelude.{ℕ, ◌-◌, Bool, true, not, ◌==◌, ◌&&◌,
 use Rattle.std.specs.List.{after_last, suffix_len, list_all}
 use Rattle.rs_items.specs.declared.scope.NameScope.TheVariants.{Module}
 use Rattle.rs_items.specs.Names.{keeps_name}
-use Rattle.rs_tree.specs.Names.{is_digit, is_word_byte}
+use Rattle.straight_rust_tree.specs.Names.{is_digit, is_word_byte}
 
 -- how many bytes stand up to the last dot, the dot too; 0 where there is none
 abbrev pub up_to_dot : List ℕ → ℕ

@@ -1,7 +1,7 @@
 -- The Rust names of the things of a C program: candidates for a name, and the first that isn't taken.
 use Rattle.std.specs.Prelude.{◌≡◌, ℕ, zero, suc, ◌<◌, Bool, true, false, not, ◌&&◌, ◌||◌, IsTrue, List, [], ◌∷◌, ◌++◌, Option, Some, None, bytes_eq, codes, if◌then◌else◌}
 use Rattle.std.specs.Fmt.{decimal}
-use Rattle.rs_tree.specs.Names.{is_among, path_words, keywords}
+use Rattle.straight_rust_tree.specs.Names.{is_among, path_words, keywords}
 use Rattle.rs_items.specs.declared.scope.NameScope.{NameScope}
 use Rattle.rs_items.specs.declared.scope.NameScope.TheVariants.{Module, Function, Fields}
 

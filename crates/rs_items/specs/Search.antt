@@ -3,7 +3,7 @@
 use Rattle.std.specs.Prelude.{◌≡◌, ℕ, ◌-◌, ◌<◌, ◌≤◌, Bool, true, false, ◌||◌, ◌==◌, List, ◌++◌, codes, if◌then◌else◌}
 use Rattle.std.specs.Fmt.{decimal}
 use Rattle.rs_items.specs.Temporaries.{AreApart}
-use Rattle.rs_tree.specs.Names.{is_among}
+use Rattle.straight_rust_tree.specs.Names.{is_among}
 
 -- a candidate for the name of a temporary, by its number
 abbrev pub temporary : ℕ → List ℕ

@@ -3,8 +3,8 @@ use Rattle.std.specs.Prelude.{◌≡◌, ℕ, not, IsTrue, List, [], ◌∷◌, 
 use Rattle.std.specs.List.{list_all}
 use Rattle.rs_items.specs.declared.scope.NameScope.TheVariants.{Function}
 use Rattle.rs_items.specs.Names.{IsRustName}
-use Rattle.rs_tree.specs.Names.{is_among, is_plain_identifier}
-use Rattle.rs_tree.specs.Valid.{all_differ}
+use Rattle.straight_rust_tree.specs.Names.{is_among, is_plain_identifier}
+use Rattle.straight_rust_tree.specs.Valid.{all_differ}
 
 -- the names that are taken by others, and the names of the temporaries, by their numbers from 0 on
 pub record TemporaryNames : Type 0 where

@@ -2,7 +2,7 @@ ghost use Rattle.std.specs.Prelude.{◌≡◌, ◌-◌, ◌==◌, ◌&&◌, ◌�
 ghost use Rattle.std.specs.List.{list_all, after_last};
 ghost use Rattle.rs_items.specs.Modules.{stem_of, is_name, lacks_start, named_by};
 ghost use Rattle.rs_items.specs.Names.{keeps_name};
-ghost use Rattle.rs_tree.specs.Names.{is_word_byte};
+ghost use Rattle.straight_rust_tree.specs.Names.{is_word_byte};
 
 use crate::kept::keeps_name;
 use crate::scope::NameScope;

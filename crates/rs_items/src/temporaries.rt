@@ -1,7 +1,7 @@
 ghost use Rattle.std.specs.Prelude.{◌≡◌, [], IfOk, OnErr};
 ghost use Rattle.rs_items.specs.Search.{temporary, IsNextFree};
 ghost use Rattle.rs_items.specs.Temporaries.{AreApart, Makes};
-ghost use Rattle.rs_tree.specs.Names.{is_among};
+ghost use Rattle.straight_rust_tree.specs.Names.{is_among};
 
 use cr_base::{Items, Memory, Name};
 use std::alloc::Global;

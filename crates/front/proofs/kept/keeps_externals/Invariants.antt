@@ -1,6 +1,6 @@
 use Rattle.std.proofs.Common.{◌≡◌, map, drop}
 use Rattle.std.specs.List.{list_all}
-use Rattle.cx_core.specs.Views.{view_outer}
+use Rattle.straight_core.specs.Views.{view_outer}
 use Rattle.front.specs.Kept.{keeps_outer}
 use Rattle.front.proofs.kept.keeps_externals.Given as goal
 

@@ -1,6 +1,6 @@
 use Rattle.std.proofs.Common.{◌≡◌, map, drop}
 use Rattle.std.specs.List.{list_all}
-use Rattle.cx_core.specs.Views.{view_object}
+use Rattle.straight_core.specs.Views.{view_object}
 use Rattle.front.specs.Kept.{keeps_object}
 use Rattle.front.proofs.kept.keeps_objects.Given as goal
 

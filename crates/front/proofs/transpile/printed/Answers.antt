@@ -1,5 +1,5 @@
-use Rattle.rs_print.proofs.Printable.{printable}
-use Rattle.rs_tree.specs.View.{crate_view}
+use Rattle.straight_print.proofs.Printable.{printable}
+use Rattle.straight_rust_tree.specs.View.{crate_view}
 use Rattle.front.proofs.transpile.printed.Goals as goal
 
 pub print-requires : goal.print-requires

@@ -4,7 +4,7 @@ use Rattle.shelf.specs.declared.file.Got.TheVariants.{Bytes}
 use Rattle.shelf.specs.Shelf.{IsGot}
 use Rattle.front.specs.Outcome.{ending_of}
 use Rattle.cr_base.specs.declared.refusal.Refusal.{Refusal}
-use Rattle.cx_core.specs.Views.{view_program}
+use Rattle.straight_core.specs.Views.{view_program}
 use Rattle.front.specs.Transpile.{IsRefused}
 use Rattle.rs_items.specs.Modules.{stem_of}
 use Rattle.rs_items.proofs.KeptLaws.{plain_stems}

@@ -1,5 +1,5 @@
 use Rattle.std.proofs.Common.{◌≡◌, true, false, sym, ◌∙◌}
-use Rattle.cx_core.specs.Views.{view_program}
+use Rattle.straight_core.specs.Views.{view_program}
 use Rattle.front.specs.Steps.{BuildsAs, StopsAs}
 use Rattle.front.proofs.UnitLaws.{kept_error, no_program, not_kept}
 use Rattle.front.proofs.KeptLaws.{not_true}

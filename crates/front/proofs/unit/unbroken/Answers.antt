@@ -1,5 +1,5 @@
 use Rattle.front.specs.Refusals.{StopsUnit}
-use Rattle.rs_tree.specs.Text.{file_of}
+use Rattle.straight_rust_tree.specs.Text.{file_of}
 use Rattle.front.proofs.UnitLaws.{kept_error, token_stops, built_stops, built_found}
 use Rattle.front.proofs.unit.unbroken.Goals as goal
 

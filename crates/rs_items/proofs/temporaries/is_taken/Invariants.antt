@@ -1,5 +1,5 @@
 use Rattle.std.proofs.Common.{◌≡◌, drop}
-use Rattle.rs_tree.specs.Names.{is_among}
+use Rattle.straight_rust_tree.specs.Names.{is_among}
 use Rattle.rs_items.proofs.temporaries.is_taken.Given as goal
 
 -- the names that are left answer for all

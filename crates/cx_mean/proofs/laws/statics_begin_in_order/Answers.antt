@@ -1,5 +1,0 @@
-use Rattle.cx_mean.proofs.Statics.{statics_begin}
-use Rattle.cx_mean.proofs.laws.statics_begin_in_order.Goals as goal
-
-pub returns : goal.returns
-returns c = statics_begin

@@ -1,5 +1,0 @@
-use Rattle.lift.proofs.Shown.{statements_are_lifted}
-use Rattle.lift.proofs.laws.lifted_statements.Goals as goal
-
-pub returns : goal.returns
-returns c = statements_are_lifted

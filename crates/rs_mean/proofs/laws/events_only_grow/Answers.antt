@@ -1,5 +1,0 @@
-use Rattle.rs_mean.proofs.Whole.{events_grow}
-use Rattle.rs_mean.proofs.laws.events_only_grow.Goals as goal
-
-pub returns : goal.returns
-returns c = events_grow

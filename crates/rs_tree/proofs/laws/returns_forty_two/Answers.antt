@@ -1,5 +1,0 @@
-use Rattle.rs_tree.proofs.Examples.{returned}
-use Rattle.rs_tree.proofs.laws.returns_forty_two.Goals as goal
-
-pub returns : goal.returns
-returns c = returned

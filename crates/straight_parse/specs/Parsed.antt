@@ -1,0 +1,26 @@
+-- What `parse` answers, and the law of what tokens derive.
+use Rattle.std.specs.Prelude.{◌≡◌, ℕ, ⊤, List, Result, Ok, Err}
+use Rattle.cr_base.specs.declared.refusal.Stop.{Stop}
+use Rattle.cr_base.specs.declared.refusal.Stop.TheVariants.{Refused, Memory}
+use Rattle.cr_base.specs.declared.rule.Rule.TheVariants.{N1}
+use Rattle.cx_lex.specs.declared.token.Token.{Token}
+use Rattle.straight_tree.specs.declared.unit.Unit.{Unit as UnitValue}
+use Rattle.straight_tree.specs.Derives.{Derives}
+use Rattle.straight_tree.specs.Trees.{UnitTree}
+use Rattle.straight_tree.specs.Views.{unit_view}
+
+-- the result is this tree, unless memory ran out
+abbrev pub IsUnlessMemory : Result UnitValue Stop → UnitTree → Type 0
+IsUnlessMemory (Ok unit) tree = unit_view unit ≡ tree
+IsUnlessMemory (Err (Refused refusal)) tree = ⊥
+IsUnlessMemory (Err Memory) tree = ⊤
+
+-- A refusal says that the tokens derive no tree. It is by N1, of that unit, and of line 1; want of memory says nothing.
+abbrev pub IsNotDerived : List Token → ℕ → Stop → Type 0
+IsNotDerived tokens unit (Refused refusal) =
+    (refusal.rule ≡ N1) × (refusal.unit ≡ unit) × (refusal.line ≡ 1) × ((tree : UnitTree) → Derives tokens tree → ⊥)
+IsNotDerived tokens unit Memory = ⊤
+
+-- two trees that the same tokens derive are equal
+abbrev pub OneTree : Type 0
+OneTree = (tokens : List Token) (a b : UnitTree) → Derives tokens a → Derives tokens b → a ≡ b

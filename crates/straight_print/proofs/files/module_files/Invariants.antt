@@ -1,0 +1,12 @@
+use Rattle.std.proofs.Common.{◌≡◌, ◌++◌, map, drop, IsTrue}
+use Rattle.straight_rust_tree.specs.Text.{module_file}
+use Rattle.straight_print.specs.Condition.{have_words}
+use Rattle.straight_rust_tree.specs.View.{module_view}
+use Rattle.straight_print.proofs.files.module_files.Given as goal
+
+-- the files that are made, and those of the modules that are left, are those of all modules; the names that are left are words
+abbrev pub invariant-loop-module : goal.invariant-loop-module
+invariant-loop-module l = record {
+  files : l.files ++ map module_file (map module_view (drop l.module-index l.modules)) ≡ map module_file (map module_view l.modules);
+  words : IsTrue (have_words (map module_view (drop l.module-index l.modules)));
+}

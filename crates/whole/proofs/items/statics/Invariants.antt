@@ -1,8 +1,0 @@
-use Rattle.std.proofs.Common.{◌≡◌, ◌++◌, map, drop}
-use Rattle.cx_core.specs.Views.{view_object}
-use Rattle.rs_tree.specs.View.{item_view}
-use Rattle.whole.specs.CrateOf.{static_of}
-use Rattle.whole.proofs.items.statics.Given as goal
-
-abbrev pub invariant-loop-one : goal.invariant-loop-one
-invariant-loop-one l = map item_view l.made ++ map static_of (map view_object (drop l.one-index l.objects)) ≡ map static_of (map view_object l.objects)

@@ -1,6 +1,0 @@
-use Rattle.std.proofs.Common.{rules}
-use Rattle.whole.proofs.Examples.{translatable}
-use Rattle.whole.proofs.laws.example_is_translatable.Goals as goal
-
-pub returns : goal.returns
-returns c = translatable (search rules)
