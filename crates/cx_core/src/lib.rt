@@ -1,0 +1,15 @@
+//! The typed program: what a list of C units means once each name is resolved, each type is known and
+//! each conversion is a node of its own.
+#![tactic(auto)]
+
+mod expr;
+mod program;
+mod stmt;
+mod ty;
+mod unit;
+
+pub use expr::{CoreExpr, Form, Op1, Op2, Put};
+pub use program::{CoreObject, Fun, Linkage, Outer, Parts, Program};
+pub use stmt::{CoreStmt, StmtForm};
+pub use ty::{Basic, Member, Params, RecordTag, RecordTy, Ty, TyForm, Types};
+pub use unit::{CoreUnit, Does, Mention};
