@@ -1,2 +1,10 @@
+pub mod Compatible
+pub mod Conversions
+pub mod Externals
+pub mod Layouts
+pub mod Linked
+pub mod Statements
 pub mod Trees
+pub mod Typing
+pub mod ValidTypes
 pub mod Views

@@ -2,6 +2,7 @@
 //! each conversion is a node of its own.
 #![tactic(auto)]
 
+mod compatible;
 mod expr;
 mod program;
 mod stmt;

@@ -1,0 +1,2 @@
+mod ConversionExamples
+mod LayoutExamples
