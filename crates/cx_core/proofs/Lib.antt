@@ -1,2 +1,3 @@
+mod CompatibleExamples
 mod ConversionExamples
 mod LayoutExamples

@@ -96,7 +96,7 @@ rank UnsignedLong = 4
 rank LongLong = 5
 rank UnsignedLongLong = 5
 
-abbrev without_sign : Bool → ℕ → ℕ
+abbrev pub without_sign : Bool → ℕ → ℕ
 without_sign true width = width - 1
 without_sign false width = width
 
@@ -145,17 +145,20 @@ unsigned_of UnsignedLongLong = UnsignedLongLong
 
 -- the common type of an unsigned and a signed type: the unsigned one where its rank isn't less; else the signed one where
 -- it can represent all values of the unsigned one; else the unsigned type that corresponds to the signed one
-abbrev common_mixed : (unsigned : Basic) → (signed : Basic) → Basic
+abbrev pub common_mixed : (unsigned : Basic) → (signed : Basic) → Basic
 common_mixed unsigned signed =
     if nat_le (rank signed) (rank unsigned) then unsigned
     else if nat_le (precision unsigned None) (precision signed None) then signed
     else unsigned_of signed
 
+abbrev pub higher_rank : Basic → Basic → Basic
+higher_rank first second = if nat_le (rank first) (rank second) then second else first
+
 -- the common type of two promoted types: where both are signed, or both unsigned, that of higher rank
 abbrev pub common_basic : Basic → Basic → Basic
 common_basic first second =
     if beq (is_signed first) (is_signed second)
-    then (if nat_le (rank first) (rank second) then second else first)
+    then higher_rank first second
     else if is_signed first then common_mixed second first
     else common_mixed first second
 
@@ -183,7 +186,7 @@ common_type first second = ty (common_forms (form_of_type first) (form_of_type s
 
 -- ---- scalar types (6.2.5p21)
 
-abbrev scalar_of_pointer : CTy → Scalar
+abbrev pub scalar_of_pointer : CTy → Scalar
 scalar_of_pointer (ty (function result params variadic) is_const) = scalar.Code
 scalar_of_pointer (ty _ is_const) = scalar.Object
 

@@ -3,12 +3,16 @@
 #![tactic(auto)]
 
 mod compatible;
+mod conversions;
+mod copies;
 mod expr;
 mod program;
 mod stmt;
 mod ty;
 mod unit;
 
+pub use conversions::{basic_of, promote, scalar_of, usual};
+pub use copies::copy_types;
 pub use expr::{CoreExpr, Form, Op1, Op2, Put};
 pub use program::{CoreObject, Fun, Linkage, Outer, Parts, Program};
 pub use stmt::{CoreStmt, StmtForm};

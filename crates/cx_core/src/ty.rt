@@ -1,3 +1,7 @@
+ghost use Rattle.std.specs.Prelude.{◌≡◌, false};
+ghost use Rattle.cx_core.specs.Trees.{ty, basic};
+ghost use Rattle.cx_core.specs.Views.{view_type};
+
 use cr_base::{Boxed, Items, Name};
 
 /// A basic type of the profile: `char` or a standard integer type (ISO C99, 6.2.5p14).
@@ -47,6 +51,18 @@ pub enum TyForm {
     Record(u32),
     /// A function type (6.7.5.3): its result, its parameters, and whether further arguments may follow.
     Function(Boxed<Ty>, Params, bool),
+}
+
+impl Ty {
+    /// The unqualified basic type.
+    pub fn basic(which: Basic) -> Ty
+        ensures { view_type result ≡ ty (basic which) false }
+    {
+        Ty {
+            form: TyForm::Basic(which),
+            is_const: false,
+        }
+    }
 }
 
 /// What a function type says of its parameters (ISO C99, 6.7.5.3).
