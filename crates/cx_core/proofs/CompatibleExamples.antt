@@ -1,6 +1,6 @@
 -- Worked examples of compatible types, in one unit and in two.
 use Rattle.std.proofs.Common.{◌≡◌, ℕ, Bool, true, false, List, [], ◌∷◌, Option, Some, None, refl, codes, IsTrue}
-use Rattle.cx_core.specs.declared.compatible.RecordPair.{RecordPair}
+use Rattle.cx_core.specs.declared.compatibility.RecordPair.{RecordPair}
 use Rattle.cx_core.specs.declared.ty.Basic.TheVariants.{Char, Short, Int, Unsigned, Long}
 use Rattle.cx_core.specs.Compatible.{agree, is_good, in_pairs, pair_agrees, AreCompatible}
 use Rattle.cx_core.specs.Conversions.{same_basic as same}

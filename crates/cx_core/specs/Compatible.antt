@@ -4,14 +4,14 @@ use Rattle.std.specs.Bool.{beq}
 use Rattle.std.specs.List.{list_all, list_any, count_by}
 use Rattle.std.specs.Option.{option_eq, option_flatten}
 use Rattle.std.specs.Str.{bytes_eq}
-use Rattle.cx_core.specs.declared.compatible.RecordPair.{RecordPair}
+use Rattle.cx_core.specs.declared.compatibility.RecordPair.{RecordPair}
 use Rattle.cx_core.specs.declared.ty.Basic.{Basic}
 use Rattle.cx_core.specs.Conversions.{same_basic, basic_of, promoted_basic}
 use Rattle.cx_core.specs.Trees.{CTy, ty, CTyForm, void, basic, enum_type, pointer, array, record_type, function, CParams, unlisted, listed, CTys, no_types, more_types, form_of_type, is_const_type, CMember, CRecord, CRecordTag, CTypes}
 
 -- ---- enumerated types
 
-abbrev are_of_two : Option ℕ → Option ℕ → Bool
+abbrev pub are_of_two : Option ℕ → Option ℕ → Bool
 are_of_two (Some first) (Some second) = not (first == second)
 are_of_two (Some first) None = false
 are_of_two None second = false
@@ -20,7 +20,7 @@ are_of_two None second = false
 abbrev pub of_two_units : List ℕ → ℕ → ℕ → Bool
 of_two_units units first second = are_of_two (slice_get units first) (slice_get units second)
 
-abbrev same_basics : Option Basic → Option Basic → Bool
+abbrev pub same_basics : Option Basic → Option Basic → Bool
 same_basics (Some first) (Some second) = same_basic first second
 same_basics (Some first) None = false
 same_basics None second = false
@@ -67,7 +67,7 @@ module _ (types : CTypes) (counts : ℕ → ℕ → Bool) where
     forms_agree (enum_type first) (enum_type second) = enums_agree types first second
     forms_agree (pointer first) (pointer second) = agree first second
     forms_agree (array first first_length) (array second second_length) =
-        agree first second && lengths_agree first_length second_length
+        lengths_agree first_length second_length && agree first second
     forms_agree (record_type first) (record_type second) = (first == second) || counts first second
     forms_agree (function first first_params first_more) (function second second_params second_more) =
         agree first second && params_agree first_params first_more second_params second_more
@@ -116,7 +116,7 @@ abbrev pub named_as : Option (List ℕ) → List CMember → Option CMember
 named_as name [] = None
 named_as name (one ∷ others) = if names_agree name one.name then Some one else named_as name others
 
-abbrev corresponds_to : CTypes → (ℕ → ℕ → Bool) → CMember → Option CMember → Bool
+abbrev pub corresponds_to : CTypes → (ℕ → ℕ → Bool) → CMember → Option CMember → Bool
 corresponds_to types counts one None = false
 corresponds_to types counts one (Some other) = correspond types counts one other
 
@@ -141,7 +141,7 @@ abbrev pub in_some_order : CTypes → (ℕ → ℕ → Bool) → List CMember �
 in_some_order types counts firsts seconds =
     (length firsts == length seconds) && list_all (has_partner types counts firsts seconds) firsts
 
-abbrev members_agree : CTypes → (ℕ → ℕ → Bool) → Bool → List CMember → List CMember → Bool
+abbrev pub members_agree : CTypes → (ℕ → ℕ → Bool) → Bool → List CMember → List CMember → Bool
 members_agree types counts true = in_some_order types counts
 members_agree types counts false = in_order types counts
 
@@ -155,7 +155,7 @@ contents_agree types counts is_union None second = true
 abbrev pub tags_agree : CRecordTag → CRecordTag → Bool
 tags_agree first second = beq first.is_union second.is_union && names_agree first.tag second.tag
 
-abbrev records_agree : CTypes → (ℕ → ℕ → Bool) → ℕ → ℕ → Option CRecordTag → Option CRecordTag → Bool
+abbrev pub records_agree : CTypes → (ℕ → ℕ → Bool) → ℕ → ℕ → Option CRecordTag → Option CRecordTag → Bool
 records_agree types counts first second (Some first_tag) (Some second_tag) =
     tags_agree first_tag second_tag
     && contents_agree types counts first_tag.is_union

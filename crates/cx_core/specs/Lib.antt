@@ -3,6 +3,7 @@ pub mod Conversions
 pub mod Externals
 pub mod Layouts
 pub mod Linked
+pub mod Needed
 pub mod Statements
 pub mod Trees
 pub mod Typing

@@ -11,12 +11,13 @@ use Rattle.cx_core.specs.declared.program.Parts.{Parts}
 use Rattle.cx_core.specs.declared.stmt.CoreStmt.{CoreStmt}
 use Rattle.cx_core.specs.declared.stmt.StmtForm.TheFolds.{fold-CoreStmt}
 use Rattle.cx_core.specs.declared.stmt.StmtForm.TheOpen as s
+use Rattle.cx_core.specs.declared.ty.FunctionTy.{FunctionTy}
 use Rattle.cx_core.specs.declared.ty.Member.{Member}
 use Rattle.cx_core.specs.declared.ty.RecordTag.{RecordTag}
 use Rattle.cx_core.specs.declared.ty.RecordTy.{RecordTy}
 use Rattle.cx_core.specs.declared.ty.Ty.{Ty}
 use Rattle.cx_core.specs.declared.ty.Params.{Params}
-use Rattle.cx_core.specs.declared.ty.Params.TheFolds.{fold-Ty, fold-Params}
+use Rattle.cx_core.specs.declared.ty.Params.TheFolds.{fold-Ty, fold-FunctionTy, fold-Params}
 use Rattle.cx_core.specs.declared.ty.Params.TheOpen as t
 use Rattle.cx_core.specs.declared.ty.Types.{Types}
 use Rattle.cx_core.specs.declared.unit.CoreUnit.{CoreUnit}
@@ -31,24 +32,30 @@ abbrev pub types_of : List CTy → CTys
 types_of [] = no_types
 types_of (first ∷ others) = more_types first (types_of others)
 
-abbrev ty_params : t.Params-F CParams CTyForm CTy → CParams
+abbrev ty_params : t.Params-F CParams CTyForm CTyForm CTy → CParams
 ty_params t.Unlisted = unlisted
 ty_params (t.Listed types) = listed (types_of types)
 
-abbrev ty_form : t.TyForm-F CParams CTyForm CTy → CTyForm
+abbrev ty_form : t.TyForm-F CParams CTyForm CTyForm CTy → CTyForm
 ty_form t.Void = void
 ty_form (t.Basic which) = basic which
 ty_form (t.Enum number) = enum_type number
 ty_form (t.Pointer to) = pointer to
 ty_form (t.Array element length) = array element length
 ty_form (t.Record number) = record_type number
-ty_form (t.Function result params variadic) = function result params variadic
+ty_form (t.Function signature) = signature
 
 abbrev pub view_type : Ty → CTy
-view_type = fold-Ty CParams CTyForm CTy ty_params ty_form (λ one. ty one.form one.is_const)
+view_type = fold-Ty CParams CTyForm CTyForm CTy ty_params ty_form
+    (λ one. function one.result_ty one.params one.is_variadic) (λ one. ty one.form one.is_const)
+
+abbrev pub view_function_type : FunctionTy → CTyForm
+view_function_type = fold-FunctionTy CParams CTyForm CTyForm CTy ty_params ty_form
+    (λ one. function one.result_ty one.params one.is_variadic) (λ one. ty one.form one.is_const)
 
 abbrev pub view_params : Params → CParams
-view_params = fold-Params CParams CTyForm CTy ty_params ty_form (λ one. ty one.form one.is_const)
+view_params = fold-Params CParams CTyForm CTyForm CTy ty_params ty_form
+    (λ one. function one.result_ty one.params one.is_variadic) (λ one. ty one.form one.is_const)
 
 -- ---- expressions
 

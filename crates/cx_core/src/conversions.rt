@@ -48,13 +48,13 @@ fn scalar_of_pointer(to: &Ty) -> Scalar
     ensures { result ≡ scalar_of_pointer (view_type to.now) }
 {
     match &to.form {
-        TyForm::Function(_, _, _) => Scalar::Code,
+        TyForm::Function(_) => Scalar::Code,
         _ => Scalar::Object,
     }
 }
 
 // The basic type with which an enumerated type is compatible (6.7.2.2p4), where there is such a type.
-fn basic_of_enum(types: &Types, number: u32) -> Option<Basic>
+pub(crate) fn basic_of_enum(types: &Types, number: u32) -> Option<Basic>
     ensures { result ≡ option_map basic_of_enum (slice_get (view_types types.now).enums number) }
 {
     match types.enums.get(number as usize) {
@@ -189,7 +189,7 @@ impl Basic {
     }
 }
 
-fn promoted_basic(which: Basic, width: Option<u32>) -> Basic
+pub(crate) fn promoted_basic(which: Basic, width: Option<u32>) -> Basic
     ensures { result ≡ promoted_basic which width }
 {
     if which.rank() > Basic::Int.rank() {

@@ -2,7 +2,7 @@ ghost use Rattle.std.specs.Prelude.{◌≡◌, false, map, IfOk};
 ghost use Rattle.cx_core.specs.Trees.{ty, pointer, array, function};
 ghost use Rattle.cx_core.specs.Views.{view_type, view_params};
 
-use crate::ty::{Params, Ty, TyForm};
+use crate::ty::{FunctionTy, Params, Ty, TyForm};
 use cr_base::{Boxed, Items, Memory};
 use std::alloc::Global;
 
@@ -30,11 +30,11 @@ impl Ty {
 
     /// The function type with this result, these parameters, and further arguments or not (ISO C99,
     /// 6.7.5.3). Refused only for want of memory.
-    pub fn function(alloc: Global, result_ty: Boxed<Ty>, params: Params, variadic: bool) -> Result<Boxed<Ty>, Memory>
+    pub fn function(alloc: Global, result_ty: Boxed<Ty>, params: Params, is_variadic: bool) -> Result<Boxed<Ty>, Memory>
         ensures { IfOk result (λ made. view_type made ≡
-            ty (function (view_type result_ty) (view_params params) variadic) false) }
+            ty (function (view_type result_ty) (view_params params) is_variadic) false) }
     {
-        function_of(alloc, result_ty, params, variadic, false)
+        function_of(alloc, result_ty, params, is_variadic, false)
     }
 
     /// An equal type. Refused only for want of memory.
@@ -50,9 +50,10 @@ impl Ty {
             TyForm::Record(number) => plain(alloc, TyForm::Record(*number), is_const),
             TyForm::Pointer(to) => copied_pointer(alloc, to.get(), to.get().copy(alloc), is_const),
             TyForm::Array(element, length) => copied_array(alloc, element.get(), element.get().copy(alloc), *length, is_const),
-            TyForm::Function(result_ty, params, variadic) => {
-                let params = params.copy(alloc)?;
-                copied_function(alloc, result_ty.get(), result_ty.get().copy(alloc), params, *variadic, is_const)
+            TyForm::Function(held) => {
+                let function = held.get();
+                let params = function.params.copy(alloc)?;
+                copied_function(alloc, &function.result_ty, function.result_ty.copy(alloc), params, function.is_variadic, is_const)
             }
         }
     }
@@ -70,14 +71,22 @@ fn array_of(alloc: Global, element: Boxed<Ty>, length: Option<u64>, is_const: bo
     )
 }
 
-fn function_of(alloc: Global, result_ty: Boxed<Ty>, params: Params, variadic: bool, is_const: bool) -> Result<Boxed<Ty>, Memory>
+fn function_of(alloc: Global, result_ty: Boxed<Ty>, params: Params, is_variadic: bool, is_const: bool) -> Result<Boxed<Ty>, Memory>
     ensures { IfOk result (λ made. view_type made ≡
-        ty (function (view_type result_ty) (view_params params) variadic) is_const) }
+        ty (function (view_type result_ty) (view_params params) is_variadic) is_const) }
 {
+    let function = Boxed::new(
+        alloc,
+        FunctionTy {
+            result_ty: result_ty.into_inner(),
+            params,
+            is_variadic,
+        },
+    )?;
     Boxed::new(
         alloc,
         Ty {
-            form: TyForm::Function(result_ty, params, variadic),
+            form: TyForm::Function(function),
             is_const,
         },
     )
@@ -100,12 +109,12 @@ fn copied_array(alloc: Global, _of: &Ty, copied: Result<Boxed<Ty>, Memory>, leng
 }
 
 // The function type with a result that was copied.
-fn copied_function(alloc: Global, _of: &Ty, copied: Result<Boxed<Ty>, Memory>, params: Params, variadic: bool, is_const: bool) -> Result<Boxed<Ty>, Memory>
+fn copied_function(alloc: Global, _of: &Ty, copied: Result<Boxed<Ty>, Memory>, params: Params, is_variadic: bool, is_const: bool) -> Result<Boxed<Ty>, Memory>
     requires { IfOk copied (λ result_ty. view_type result_ty ≡ view_type _of.now) }
     ensures { IfOk result (λ made. view_type made ≡
-        ty (function (view_type _of.now) (view_params params) variadic) is_const) }
+        ty (function (view_type _of.now) (view_params params) is_variadic) is_const) }
 {
-    function_of(alloc, copied?, params, variadic, is_const)
+    function_of(alloc, copied?, params, is_variadic, is_const)
 }
 
 // A type that holds no other type.

@@ -2,19 +2,22 @@
 //! each conversion is a node of its own.
 #![tactic(auto)]
 
-mod compatible;
+mod compatibility;
 mod conversions;
 mod copies;
 mod expr;
+mod meets;
 mod program;
+mod records;
 mod stmt;
 mod ty;
 mod unit;
 
+pub use compatibility::compatible;
 pub use conversions::{basic_of, promote, scalar_of, usual};
 pub use copies::copy_types;
 pub use expr::{CoreExpr, Form, Op1, Op2, Put};
 pub use program::{CoreObject, Fun, Linkage, Outer, Parts, Program};
 pub use stmt::{CoreStmt, StmtForm};
-pub use ty::{Basic, Member, Params, RecordTag, RecordTy, Ty, TyForm, Types};
+pub use ty::{Basic, FunctionTy, Member, Params, RecordTag, RecordTy, Ty, TyForm, Types};
 pub use unit::{CoreUnit, Does, Mention};

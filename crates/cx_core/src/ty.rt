@@ -49,8 +49,18 @@ pub enum TyForm {
     Array(Boxed<Ty>, Option<u64>),
     /// The structure or union type with this number (6.7.2.1).
     Record(u32),
-    /// A function type (6.7.5.3): its result, its parameters, and whether further arguments may follow.
-    Function(Boxed<Ty>, Params, bool),
+    /// A function type (6.7.5.3).
+    Function(Boxed<FunctionTy>),
+}
+
+/// A function type (ISO C99, 6.7.5.3).
+#[cycle(ty)]
+#[derive(Drop)]
+pub struct FunctionTy {
+    pub result_ty: Ty,
+    pub params: Params,
+    /// Whether further arguments may follow.
+    pub is_variadic: bool,
 }
 
 impl Ty {
