@@ -98,24 +98,26 @@ module _ (types : CTypes) (counts : ℕ → ℕ → Bool) where
   in_order_needed (first ∷ firsts) (second ∷ seconds) =
       both_agree counts _ _ _ _ (members_needed first second) (in_order_needed firsts seconds)
 
-  partner_needed : (one : CMember) (other : Option CMember) → corresponds_to types counts one other ≡ covers counts (needed_partner types one other)
-  partner_needed one None = refl
-  partner_needed one (Some other) = members_needed one other
+  partner_needed : (back : Bool) (one : CMember) (other : Option CMember) → corresponds_to types counts back one other ≡ covers counts (needed_partner types back one other)
+  partner_needed back one None = refl
+  partner_needed false one (Some other) = members_needed one other
+  partner_needed true one (Some other) = members_needed other one
 
-  one_by : (unnamed alike : Bool) (one : CMember) (other : Option CMember) → (if unnamed then alike else corresponds_to types counts one other) ≡ covers counts (if unnamed then when alike else needed_partner types one other)
-  one_by true alike one other = sym (covers_when counts alike)
-  one_by false alike one other = partner_needed one other
+  one_by : (unnamed alike back : Bool) (one : CMember) (other : Option CMember) → (if unnamed then alike else corresponds_to types counts back one other) ≡ covers counts (if unnamed then when alike else needed_partner types back one other)
+  one_by true alike back one other = sym (covers_when counts alike)
+  one_by false alike back one other = partner_needed back one other
 
-  one_needed : (firsts seconds : List CMember) (one : CMember) → has_partner types counts firsts seconds one ≡ covers counts (needed_by_one types firsts seconds one)
-  one_needed firsts seconds one = one_by (is_none one.name) _ one (named_as one.name seconds)
+  one_needed : (back : Bool) (own others : List CMember) (one : CMember) → has_partner types counts back own others one ≡ covers counts (needed_by_one types back own others one)
+  one_needed back own others one = one_by (is_none one.name) _ back one (named_as one.name others)
 
-  each_needed : (firsts seconds members : List CMember) → list_all (has_partner types counts firsts seconds) members ≡ covers counts (each (needed_by_one types firsts seconds) members)
-  each_needed firsts seconds [] = refl
-  each_needed firsts seconds (one ∷ others) =
-      both_agree counts _ _ _ _ (one_needed firsts seconds one) (each_needed firsts seconds others)
+  each_needed : (back : Bool) (own others members : List CMember) → list_all (has_partner types counts back own others) members ≡ covers counts (each (needed_by_one types back own others) members)
+  each_needed back own others [] = refl
+  each_needed back own others (one ∷ more) =
+      both_agree counts _ _ _ _ (one_needed back own others one) (each_needed back own others more)
 
   by_members_needed : (is_union : Bool) (firsts seconds : List CMember) → members_agree types counts is_union firsts seconds ≡ covers counts (needed_by_members types is_union firsts seconds)
-  by_members_needed true firsts seconds = only_if_agrees counts (length firsts == length seconds) _ _ (each_needed firsts seconds firsts)
+  by_members_needed true firsts seconds =
+      both_agree counts _ _ _ _ (each_needed false firsts seconds firsts) (each_needed true seconds firsts seconds)
   by_members_needed false firsts seconds = in_order_needed firsts seconds
 
   contents_needed : (is_union : Bool) (first second : Option CRecord) → contents_agree types counts is_union first second ≡ covers counts (needed_contents types is_union first second)

@@ -4,7 +4,7 @@ use Rattle.std.proofs.lemmas.Bool.Decides.{nat_tests}
 use Rattle.std.proofs.lemmas.List.{length-drop}
 use Rattle.std.proofs.Math.ListN.{drop_of_length-le}
 use Rattle.cx_core.specs.declared.compatibility.RecordPair.{RecordPair}
-use Rattle.cx_core.specs.Needed.{Need, both, only_if, with_both, with_pair, with_pairs, gathered, answer, each, pairwise, needed, needed_forms, needed_params, needed_lists, needed_unqualified}
+use Rattle.cx_core.specs.Needed.{Need, both, with_both, with_pair, with_pairs, gathered, answer, each, pairwise, needed, needed_forms, needed_params, needed_lists, needed_unqualified}
 use Rattle.cx_core.specs.Trees.{CTy, ty, function, CTypes}
 use Rattle.cx_core.specs.Views.{types_of, view_type, view_function_type, view_params}
 use Rattle.cx_core.specs.declared.ty.FunctionTy.{FunctionTy}
@@ -33,11 +33,6 @@ gathered_none old (Some pairs) second same = cc
 -- the same of what is gathered then
 pub gathered_then : (old mid : List RecordPair) (first second result : Need) → Some mid ≡ gathered old first → result ≡ gathered mid second → result ≡ gathered old (both first second)
 gathered_then old mid first second result same then_same = then_same ∙ gathered_both old mid first second same
-
--- where nothing is enough, nothing is under a condition
-pub gathered_only_if : (old : List RecordPair) (holds : Bool) (need : Need) → None ≡ gathered old need → None ≡ gathered old (only_if holds need)
-gathered_only_if old true need nothing = nothing
-gathered_only_if old false need nothing = refl
 
 -- what a found answer says, and one that isn't found
 pub answered : (found : Bool) (new : List RecordPair) (need : Need) → found ≡ true → answer found new ≡ need → Some new ≡ need

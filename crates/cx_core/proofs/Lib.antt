@@ -1,6 +1,8 @@
 pub mod Agree
 mod CompatibleExamples
+pub mod Conversion
 mod ConversionExamples
 pub mod Gathers
 pub mod GoodSets
 mod LayoutExamples
+pub mod Relation

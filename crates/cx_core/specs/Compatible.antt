@@ -1,5 +1,5 @@
 -- Compatible types (ISO C99, 6.2.7, 6.7.2.2p4, 6.7.3p9, 6.7.5.1p2, 6.7.5.2p6 and 6.7.5.3p15).
-use Rattle.std.specs.Prelude.{◌≡◌, ℕ, ◌==◌, ◌&&◌, ◌||◌, not, nat_lt, Bool, true, false, if◌then◌else◌, List, [], ◌∷◌, length, Option, None, Some, IsTrue, slice_get, is_none}
+use Rattle.std.specs.Prelude.{◌≡◌, ℕ, ◌==◌, ◌&&◌, ◌||◌, not, nat_lt, Bool, true, false, if◌then◌else◌, List, [], ◌∷◌, Option, None, Some, IsTrue, slice_get, is_none}
 use Rattle.std.specs.Bool.{beq}
 use Rattle.std.specs.List.{list_all, list_any, count_by}
 use Rattle.std.specs.Option.{option_eq, option_flatten}
@@ -38,7 +38,7 @@ enums_agree types first second =
 
 -- ---- types, where it is said which records count as compatible
 
--- one array type has no length, or both have the same (6.7.5.2p6)
+-- one array type has no or both have the same (6.7.5.2p6)
 abbrev pub lengths_agree : Option ℕ → Option ℕ → Bool
 lengths_agree (Some first) (Some second) = first == second
 lengths_agree (Some first) None = true
@@ -116,9 +116,11 @@ abbrev pub named_as : Option (List ℕ) → List CMember → Option CMember
 named_as name [] = None
 named_as name (one ∷ others) = if names_agree name one.name then Some one else named_as name others
 
-abbrev pub corresponds_to : CTypes → (ℕ → ℕ → Bool) → CMember → Option CMember → Bool
-corresponds_to types counts one None = false
-corresponds_to types counts one (Some other) = correspond types counts one other
+-- a member corresponds to another, the first being of the first record, or `back` of the second
+abbrev pub corresponds_to : CTypes → (ℕ → ℕ → Bool) → Bool → CMember → Option CMember → Bool
+corresponds_to types counts back one None = false
+corresponds_to types counts false one (Some other) = correspond types counts one other
+corresponds_to types counts true one (Some other) = correspond types counts other one
 
 -- two unnamed bit-fields of two units that correspond: the same width, and integer types that meet in one basic type
 abbrev pub are_alike : CTypes → CMember → CMember → Bool
@@ -130,16 +132,16 @@ are_alike types first second =
 
 -- a member of a union has its own in another: a named one the member of its name, and an unnamed bit-field as many that are
 -- like it as there are in its own union
-abbrev pub has_partner : CTypes → (ℕ → ℕ → Bool) → List CMember → List CMember → CMember → Bool
-has_partner types counts firsts seconds one =
+abbrev pub has_partner : CTypes → (ℕ → ℕ → Bool) → Bool → List CMember → List CMember → CMember → Bool
+has_partner types counts back own others one =
     if is_none one.name
-    then count_by (are_alike types one) firsts == count_by (are_alike types one) seconds
-    else corresponds_to types counts one (named_as one.name seconds)
+    then count_by (are_alike types one) own == count_by (are_alike types one) others
+    else corresponds_to types counts back one (named_as one.name others)
 
--- the members of two unions correspond in some order
+-- the members of two unions correspond one to one, in some order: each of either has its own in the other
 abbrev pub in_some_order : CTypes → (ℕ → ℕ → Bool) → List CMember → List CMember → Bool
 in_some_order types counts firsts seconds =
-    (length firsts == length seconds) && list_all (has_partner types counts firsts seconds) firsts
+    list_all (has_partner types counts false firsts seconds) firsts && list_all (has_partner types counts true seconds firsts) seconds
 
 abbrev pub members_agree : CTypes → (ℕ → ℕ → Bool) → Bool → List CMember → List CMember → Bool
 members_agree types counts true = in_some_order types counts

@@ -5,6 +5,7 @@ pub mod Layouts
 pub mod Linked
 pub mod Needed
 pub mod Statements
+pub mod Tables
 pub mod Trees
 pub mod Typing
 pub mod ValidTypes

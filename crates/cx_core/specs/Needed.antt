@@ -91,19 +91,20 @@ needed_members types first second =
 abbrev pub needed_in_order : CTypes → List CMember → List CMember → Need
 needed_in_order types firsts seconds = pairwise (needed_members types) firsts seconds
 
-abbrev pub needed_partner : CTypes → CMember → Option CMember → Need
-needed_partner types one None = None
-needed_partner types one (Some other) = needed_members types one other
+abbrev pub needed_partner : CTypes → Bool → CMember → Option CMember → Need
+needed_partner types back one None = None
+needed_partner types false one (Some other) = needed_members types one other
+needed_partner types true one (Some other) = needed_members types other one
 
-abbrev pub needed_by_one : CTypes → List CMember → List CMember → CMember → Need
-needed_by_one types firsts seconds one =
+abbrev pub needed_by_one : CTypes → Bool → List CMember → List CMember → CMember → Need
+needed_by_one types back own others one =
     if is_none one.name
-    then when (count_by (are_alike types one) firsts == count_by (are_alike types one) seconds)
-    else needed_partner types one (named_as one.name seconds)
+    then when (count_by (are_alike types one) own == count_by (are_alike types one) others)
+    else needed_partner types back one (named_as one.name others)
 
 abbrev pub needed_in_some_order : CTypes → List CMember → List CMember → Need
 needed_in_some_order types firsts seconds =
-    only_if (length firsts == length seconds) (each (needed_by_one types firsts seconds) firsts)
+    both (each (needed_by_one types false firsts seconds) firsts) (each (needed_by_one types true seconds firsts) seconds)
 
 abbrev pub needed_by_members : CTypes → Bool → List CMember → List CMember → Need
 needed_by_members types true firsts seconds = needed_in_some_order types firsts seconds

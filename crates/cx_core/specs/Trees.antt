@@ -201,6 +201,10 @@ pub record CTypes : Type 0 where
   pub enums : List Bool
   pub enum_units : List ℕ
 
+-- before any is declared
+abbrev pub no_types_yet : CTypes
+no_types_yet = record { records = []; record_tags = []; record_units = []; enums = []; enum_units = [] }
+
 -- an object (6.2.4); its puts are what is stored in a static one before the program begins
 pub record CObject : Type 0 where
   pub object : ℕ

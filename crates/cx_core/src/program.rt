@@ -1,7 +1,12 @@
+ghost use Rattle.std.specs.Prelude.{◌≡◌};
+ghost use Rattle.cx_core.specs.Linked.{IsLinked};
+ghost use Rattle.cx_core.specs.Views.{view_program};
+
 use crate::expr::Put;
 use crate::stmt::CoreStmt;
 use crate::ty::{Ty, Types};
 use cr_base::{Items, Name};
+use std::marker::Model;
 
 /// How a name goes from one scope or unit to another (ISO C99, 6.2.2).
 #[derive(Clone, Copy, PartialEq, Eq)]
@@ -71,8 +76,89 @@ pub struct Parts {
     pub externals: Items<Outer>,
 }
 
-/// A typed and linked program.
+/// A typed and linked program: every name stands for one thing, every operand has the type that its
+/// operator asks for, and there is a `main` (ISO C99, 5.1.2.2.1, 6.5, 6.8 and 6.9). Contracts see its
+/// parts.
 #[derive(Drop)]
 pub struct Program {
     parts: Parts,
+}
+
+impl Model for Program {
+    ghost use Rattle.cx_core.specs.declared.program.Parts.{Parts};
+    ghost use Rattle.cx_core.specs.contracts.program.Parts as contents;
+
+    ghost Value = { Parts };
+
+    ghost coded = { contents.the_row.coded };
+
+    ghost use Rattle.cx_core.specs.Linked.{IsLinked};
+    ghost use Rattle.cx_core.specs.Views.{view_program};
+
+    ghost view = { λ program. program.parts };
+
+    ghost invariant = { λ program. IsLinked (view_program program.parts) };
+}
+
+impl Program {
+    /// The program of these parts, which are typed and linked.
+    pub fn new(types: Types, objects: Items<CoreObject>, functions: Items<Fun>, externals: Items<Outer>) -> Program
+        requires { IsLinked (view_program (record {
+          types = types;
+          objects = objects;
+          functions = functions;
+          externals = externals;
+        })) }
+        ensures { result ≡ record {
+          types = types;
+          objects = objects;
+          functions = functions;
+          externals = externals;
+        } }
+    {
+        Program {
+            parts: Parts {
+                types,
+                objects,
+                functions,
+                externals,
+            },
+        }
+    }
+
+    /// Its parts, to read. They are typed and linked.
+    pub fn parts(&self) -> &Parts
+        ensures value { result.now ≡ self.now }
+        ensures linked { IsLinked (view_program self.now) }
+    {
+        &self.parts
+    }
+
+    /// Its record and enumerated types.
+    pub fn types(&self) -> &Types
+        ensures { result.now ≡ self.now.types }
+    {
+        &self.parts.types
+    }
+
+    /// Its objects in text order of their first declarations, unit by unit.
+    pub fn objects(&self) -> &[CoreObject]
+        ensures { result.now ≡ self.now.objects }
+    {
+        self.parts.objects.as_slice()
+    }
+
+    /// The functions that its units define, in text order, unit by unit.
+    pub fn functions(&self) -> &[Fun]
+        ensures { result.now ≡ self.now.functions }
+    {
+        self.parts.functions.as_slice()
+    }
+
+    /// The functions that are declared and that no unit defines, in text order, unit by unit.
+    pub fn externals(&self) -> &[Outer]
+        ensures { result.now ≡ self.now.externals }
+    {
+        self.parts.externals.as_slice()
+    }
 }

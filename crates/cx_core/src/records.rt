@@ -2,7 +2,7 @@ ghost use Rattle.std.specs.Prelude.{◌≡◌, map, IfOk, slice_get, option_map}
 ghost use Rattle.std.specs.List.{count_by};
 ghost use Rattle.std.specs.Option.{option_copied, option_flatten};
 ghost use Rattle.cx_core.specs.Compatible.{names_agree, widths_agree, named_as, are_alike, tags_agree};
-ghost use Rattle.cx_core.specs.Needed.{needed_members, needed_in_order, needed_by_one, needed_in_some_order, needed_by_members, needed_contents, needed_by_pair, gathered, answer};
+ghost use Rattle.cx_core.specs.Needed.{needed_members, needed_in_order, each, needed_partner, needed_by_one, needed_in_some_order, needed_by_members, needed_contents, needed_by_pair, gathered, answer};
 ghost use Rattle.cx_core.specs.Views.{view_types, view_member, view_record, view_tag};
 
 use crate::compatibility::RecordPair;
@@ -115,15 +115,25 @@ fn meet_in_order(types: &Types, firsts: &[Member], seconds: &[Member], pairs: &m
 }
 
 // Whether the members of two unions can correspond in some order.
+#[tactic(auto, using(crate::proofs::Gathers::gathered_none))]
 fn meet_in_some_order(types: &Types, firsts: &[Member], seconds: &[Member], pairs: &mut Items<RecordPair>) -> Result<bool, Memory>
     ensures { IfOk result (λ found. answer found pairs.new ≡ gathered pairs.old
         (needed_in_some_order (view_types types.now) (map view_member firsts.now) (map view_member seconds.now))) }
 {
-    if firsts.len() != seconds.len() {
+    if !partners_meet(types, false, firsts, seconds, pairs)? {
         return Ok(false);
     }
-    for first in firsts {
-        if !partner_meets(types, firsts, seconds, first, pairs)? {
+    let found = partners_meet(types, true, seconds, firsts, pairs)?;
+    Ok(found)
+}
+
+// Whether each member of a union can have its own in another; `back` where it is the second of two.
+fn partners_meet(types: &Types, back: bool, own: &[Member], others: &[Member], pairs: &mut Items<RecordPair>) -> Result<bool, Memory>
+    ensures { IfOk result (λ found. answer found pairs.new ≡ gathered pairs.old
+        (each (needed_by_one (view_types types.now) back (map view_member own.now) (map view_member others.now)) (map view_member own.now))) }
+{
+    for one in own {
+        if !partner_meets(types, back, own, others, one, pairs)? {
             return Ok(false);
         }
     }
@@ -131,16 +141,27 @@ fn meet_in_some_order(types: &Types, firsts: &[Member], seconds: &[Member], pair
 }
 
 // Whether a member of a union can have its own in another.
-fn partner_meets(types: &Types, firsts: &[Member], seconds: &[Member], one: &Member, pairs: &mut Items<RecordPair>) -> Result<bool, Memory>
+fn partner_meets(types: &Types, back: bool, own: &[Member], others: &[Member], one: &Member, pairs: &mut Items<RecordPair>) -> Result<bool, Memory>
     ensures { IfOk result (λ found. answer found pairs.new ≡ gathered pairs.old
-        (needed_by_one (view_types types.now) (map view_member firsts.now) (map view_member seconds.now) (view_member one.now))) }
+        (needed_by_one (view_types types.now) back (map view_member own.now) (map view_member others.now) (view_member one.now))) }
 {
     if one.name.is_none() {
-        return Ok(alike_count(types, firsts, one) == alike_count(types, seconds, one));
+        return Ok(alike_count(types, own, one) == alike_count(types, others, one));
     }
-    match named_as(seconds, &one.name) {
-        Some(other) => members_meet(types, one, other, pairs),
+    match named_as(others, &one.name) {
+        Some(other) => members_meet_by(types, back, one, other, pairs),
         None => Ok(false),
+    }
+}
+
+fn members_meet_by(types: &Types, back: bool, one: &Member, other: &Member, pairs: &mut Items<RecordPair>) -> Result<bool, Memory>
+    ensures { IfOk result (λ found. answer found pairs.new ≡ gathered pairs.old
+        (needed_partner (view_types types.now) back (view_member one.now) (Some (view_member other.now)))) }
+{
+    if back {
+        members_meet(types, other, one, pairs)
+    } else {
+        members_meet(types, one, other, pairs)
     }
 }
 

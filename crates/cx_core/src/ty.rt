@@ -1,8 +1,9 @@
 ghost use Rattle.std.specs.Prelude.{◌≡◌, false};
-ghost use Rattle.cx_core.specs.Trees.{ty, basic};
-ghost use Rattle.cx_core.specs.Views.{view_type};
+ghost use Rattle.cx_core.specs.Trees.{ty, basic, no_types_yet};
+ghost use Rattle.cx_core.specs.Views.{view_type, view_types};
 
 use cr_base::{Boxed, Items, Name};
+use std::alloc::Global;
 
 /// A basic type of the profile: `char` or a standard integer type (ISO C99, 6.2.5p14).
 #[derive(Clone, Copy, PartialEq, Eq)]
@@ -129,4 +130,19 @@ pub struct Types {
     pub enums: Items<bool>,
     /// The number of the unit of each enumerated type.
     pub enum_units: Items<u32>,
+}
+
+impl Types {
+    /// No types; they take no memory until one is declared.
+    pub fn new(alloc: Global) -> Types
+        ensures { view_types result ≡ no_types_yet }
+    {
+        Types {
+            records: Items::new(alloc),
+            record_tags: Items::new(alloc),
+            record_units: Items::new(alloc),
+            enums: Items::new(alloc),
+            enum_units: Items::new(alloc),
+        }
+    }
 }
