@@ -28,28 +28,36 @@ row_at layouts number = option_flatten (slice_get layouts number)
 abbrev pub bytes : ℕ → Laid
 bytes size = record { size = size; align = size }
 
--- so many elements of a type, unless the array is too large
-abbrev pub elements : ℕ → Laid → Option Laid
-elements count one =
-    if nat_le (count * one.size) most_bytes then Some (record { size = count * one.size; align = one.align }) else None
+-- so many elements, one or more (6.7.5.2p1)
+abbrev pub elements : ℕ → Option Laid → Option Laid
+elements zero element = None
+elements (suc n) element = option_map (λ one. record { size = suc n * one.size; align = one.align }) element
 
-abbrev array_extent : Option ℕ → Option Laid → Option Laid
+abbrev pub array_extent : Option ℕ → Option Laid → Option Laid
 array_extent None element = None
-array_extent (Some count) element = option_and_then (elements count) element
+array_extent (Some count) element = elements count element
 
 abbrev mutual
-  -- the size and the alignment of a type: none where it is incomplete, a function, or too large
-  pub extent : CLayouts → CTy → Option Laid
-  extent layouts (ty form is_const) = extent_of_form layouts form
+  -- the size and the alignment of a type, whatever its size is: none where it is incomplete or a function
+  pub whole_extent : CLayouts → CTy → Option Laid
+  whole_extent layouts (ty form is_const) = whole_extent_of layouts form
 
-  pub extent_of_form : CLayouts → CTyForm → Option Laid
-  extent_of_form layouts void = None
-  extent_of_form layouts (basic which) = Some (bytes (width_of_basic which / 8))
-  extent_of_form layouts (enum_type number) = Some (bytes 4)
-  extent_of_form layouts (pointer to) = Some (bytes 8)
-  extent_of_form layouts (array element length) = array_extent length (extent layouts element)
-  extent_of_form layouts (record_type number) = option_map (λ row. row.laid) (row_at layouts number)
-  extent_of_form layouts (function result params variadic) = None
+  pub whole_extent_of : CLayouts → CTyForm → Option Laid
+  whole_extent_of layouts void = None
+  whole_extent_of layouts (basic which) = Some (bytes (width_of_basic which / 8))
+  whole_extent_of layouts (enum_type number) = Some (bytes 4)
+  whole_extent_of layouts (pointer to) = Some (bytes 8)
+  whole_extent_of layouts (array element length) = array_extent length (whole_extent layouts element)
+  whole_extent_of layouts (record_type number) = option_map (λ row. row.laid) (row_at layouts number)
+  whole_extent_of layouts (function result params variadic) = None
+
+-- no more than the most bytes
+abbrev pub within_most : Laid → Option Laid
+within_most laid = if nat_le laid.size most_bytes then Some laid else None
+
+-- the size and the alignment of a type: none where it is incomplete, a function, or too large
+abbrev pub extent : CLayouts → CTy → Option Laid
+extent layouts type = option_and_then within_most (whole_extent layouts type)
 
 -- ---- records
 
@@ -61,7 +69,7 @@ piece one laid = elim one.bits as (λ _. Piece) [
 ]
 
 abbrev pub piece_of : CLayouts → CMember → Option Piece
-piece_of layouts one = option_map (piece one) (extent layouts one.type)
+piece_of layouts one = option_map (piece one) (whole_extent layouts one.type)
 
 abbrev put_front : Option Piece → Option (List Piece) → Option (List Piece)
 put_front None others = None

@@ -1,0 +1,195 @@
+ghost use Rattle.std.specs.Prelude.{◌≡◌, ◌≤◌, ◌<◌, [], ◌∷◌, map, length, All, IsSome, IfSome, IfOk, IfErr, OnOk, OnErr, Some, None, slice_get, slice_set, option_map};
+ghost use Rattle.std.specs.Option.{option_flatten};
+ghost use Rattle.cr_base.specs.Layout.{IsPiece, most_bytes, laid_record};
+ghost use Rattle.cx_core.specs.Layouts.{extent, whole_extent, row_at, row_of, piece_of, pieces_of};
+ghost use Rattle.cx_core.specs.Views.{view_type, view_member, view_record};
+ghost use Rattle.cx_layout.specs.Calls.{HaveSameRows, spot_at, IsMemberComplete, HasFittingBits, IsTooLarge, AddsRecord, record_extent};
+ghost use Rattle.cx_layout.specs.Extents.{told};
+
+use crate::extent::Extent;
+use crate::row::{Row, spots_of};
+use cr_base::{Items, Laid, Memory, Piece, Spot, laid_record};
+use cx_core::{Member, RecordTy, Ty, TyForm};
+use std::alloc::Global;
+use std::marker::Model;
+
+/// Why a record isn't laid out.
+#[derive(Clone, Copy, PartialEq, Eq)]
+pub enum LayoutFault {
+    /// It has more than 16,777,216 bytes.
+    TooLarge,
+    /// Want of memory.
+    Memory,
+}
+
+impl From<Memory> for LayoutFault {
+    ghost use Rattle.std.specs.Prelude.{◌≡◌};
+    ghost use Rattle.cx_layout.specs.declared.layouts.LayoutFault.TheVariants.{Memory};
+
+    ghost from_gives = { λ _ fault. fault ≡ Memory };
+
+    fn from(_memory: Memory) -> LayoutFault {
+        LayoutFault::Memory
+    }
+}
+
+/// The records that are laid out, by their numbers. Contracts see them as that table.
+#[derive(Drop)]
+pub struct Layouts {
+    rows: Vec<Option<Row>>,
+}
+
+impl Model for Layouts {
+    ghost use Rattle.cx_core.specs.Layouts.{CLayouts};
+
+    ghost Value = { CLayouts };
+
+    ghost view = { λ layouts. layouts.rows.items };
+
+    ghost use Rattle.cx_layout.specs.Rows.{AreFine};
+
+    ghost invariant = { λ layouts. AreFine layouts.rows.items };
+}
+
+impl Layouts {
+    /// No record is laid out. It takes no memory until one is added.
+    pub fn new(alloc: Global) -> Layouts
+        ensures { result ≡ [] }
+    {
+        Layouts {
+            rows: Vec::new(alloc),
+        }
+    }
+
+    /// The size of a type in bytes (ISO C99, 6.5.3.4p2), or None where it is incomplete, a function, or has
+    /// more than 16,777,216 bytes.
+    pub fn size(&self, t: &Ty) -> Option<u64>
+        ensures { result ≡ option_map (λ laid. laid.size) (extent self.now (view_type t.now)) }
+    {
+        match self.extent(t) {
+            Extent::Known(laid) => Some(laid.size),
+            _ => None,
+        }
+    }
+
+    /// The alignment of a type in bytes (ISO C99, 3.2), or None where it has no size.
+    pub fn align(&self, t: &Ty) -> Option<u64>
+        ensures { result ≡ option_map (λ laid. laid.align) (extent self.now (view_type t.now)) }
+    {
+        match self.extent(t) {
+            Extent::Known(laid) => Some(laid.align),
+            _ => None,
+        }
+    }
+
+    /// Where a member stands, by its number from 0 in text order and the number of its record, or None where
+    /// there is no such member (ISO C99, 6.7.2.1p10 to p14).
+    pub fn member(&self, r: u32, k: u32) -> Option<Spot>
+        ensures { result ≡ spot_at self.now r k }
+    {
+        let row = self.row(r)?;
+        row.spots().get(k as usize).copied()
+    }
+
+    /// Adds a record whose members are complete. Refused where it has more than 16,777,216 bytes, and for
+    /// want of memory; then nothing changed.
+    pub fn add(&mut self, r: &RecordTy) -> Result<(), LayoutFault>
+        requires complete { All (IsMemberComplete self.old) (map view_member r.now.members) }
+        requires bits { All HasFittingBits (map view_member r.now.members) }
+        ensures added { OnOk result (AddsRecord self.old (view_record r.now) self.new) }
+        ensures refused { OnErr result (HaveSameRows self.old self.new) }
+        ensures too_large { IfErr result (λ fault. fault ≡ LayoutFault.TooLarge → IsTooLarge self.old (view_record r.now)) }
+    {
+        let row = self.row_of(r)?;
+        self.put(r.number, row)
+    }
+
+    // How a record is laid out.
+    fn row_of(&self, r: &RecordTy) -> Result<Row, LayoutFault>
+        requires complete { All (IsMemberComplete self.now) (map view_member r.now.members) }
+        requires bits { All HasFittingBits (map view_member r.now.members) }
+        ensures row { IfOk result (λ row. row_of self.now (view_record r.now) ≡ Some row) }
+        ensures too_large { IfErr result (λ fault. fault ≡ LayoutFault.TooLarge → IsTooLarge self.now (view_record r.now)) }
+    {
+        let alloc = *self.rows.allocator();
+        let pieces = self.pieces(r.members.as_slice())?;
+        let Some(laid) = laid_record(r.is_union, pieces.as_slice()) else {
+            return Err(LayoutFault::TooLarge);
+        };
+        let spots = spots_of(alloc, r.is_union, pieces.as_slice())?;
+        Ok(Row::new(laid, spots))
+    }
+
+    // The members of a record, as its layout sees them.
+    fn pieces(&self, members: &[Member]) -> Result<Items<Piece>, LayoutFault>
+        requires complete { All (IsMemberComplete self.now) (map view_member members.now) }
+        requires bits { All HasFittingBits (map view_member members.now) }
+        ensures pieces { IfOk result (λ pieces. (pieces_of self.now (map view_member members.now) ≡ Some pieces) × All IsPiece pieces) }
+        ensures too_large { IfErr result (λ fault. fault ≡ LayoutFault.TooLarge → HasLargePiece (pieces_of self.now (map view_member members.now))) }
+    {
+        let mut pieces = Items::new(*self.rows.allocator());
+        for member in members {
+            let Some(piece) = self.piece(member) else {
+                return Err(LayoutFault::TooLarge);
+            };
+            pieces.push(piece)?;
+        }
+        Ok(pieces)
+    }
+
+    // A member of complete type, as the layout of its record sees it, or None where it is too large.
+    fn piece(&self, member: &Member) -> Option<Piece>
+        requires complete { IsMemberComplete self.now (view_member member.now) }
+        requires bits { HasFittingBits (view_member member.now) }
+        ensures piece { IfSome result (λ piece. (piece_of self.now (view_member member.now) ≡ Some piece) × IsPiece piece) }
+        ensures too_large { IfNone result (IsLargePiece (piece_of self.now (view_member member.now))) }
+    {
+        let Extent::Known(laid) = self.extent(&member.ty) else {
+            return None;
+        };
+        match member.bits {
+            Some(width) => Some(Piece::Bits {
+                size: laid.size,
+                width,
+                is_named: member.name.is_some(),
+            }),
+            None => Some(Piece::Plain {
+                size: laid.size,
+                align: laid.align,
+            }),
+        }
+    }
+
+    // The size and the alignment of a type.
+    fn extent(&self, t: &Ty) -> Extent
+        ensures { result ≡ told (whole_extent self.now (view_type t.now)) }
+    {
+        match &t.form {
+            TyForm::Basic(which) => Extent::of_bytes(u64::from(which.width() / 8)),
+            TyForm::Enum(_) => Extent::of_bytes(4),
+            TyForm::Pointer(_) => Extent::of_bytes(8),
+            TyForm::Array(element, length) => self.extent(element.get()).times(*length),
+            TyForm::Record(number) => self.record_extent(*number),
+            TyForm::Void => Extent::Unknown,
+            TyForm::Function(_) => Extent::Unknown,
+        }
+    }
+
+    fn record_extent(&self, number: u32) -> Extent
+        ensures { result ≡ told (option_map (λ row. row.laid) (row_at self.now number)) }
+    {
+        match self.row(number) {
+            Some(row) => Extent::Known(row.laid()),
+            None => Extent::Unknown,
+        }
+    }
+
+    fn row(&self, number: u32) -> Option<&Row>
+        ensures { option_copied result ≡ row_at self.now number }
+    {
+        match self.rows.get(number as usize) {
+            Some(found) => found.as_ref(),
+            None => None,
+        }
+    }
+}

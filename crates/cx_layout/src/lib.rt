@@ -1,0 +1,9 @@
+//! Sizes and alignments of the types of a program, and where the members of its records stand.
+#![tactic(auto)]
+
+mod extent;
+mod layouts;
+mod put;
+mod row;
+
+pub use layouts::{LayoutFault, Layouts};
