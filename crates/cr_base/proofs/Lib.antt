@@ -1,1 +1,3 @@
+mod LayoutExamples
+pub mod Layouts
 pub mod Residues

@@ -1,4 +1,5 @@
 pub mod Count
+pub mod Layout
 pub mod Rules
 pub mod Scalar
 pub mod formers

@@ -4,6 +4,7 @@
 
 mod boxed;
 mod items;
+mod layout;
 mod memory;
 mod name;
 mod refusal;
@@ -13,6 +14,7 @@ mod text;
 
 pub use boxed::Boxed;
 pub use items::Items;
+pub use layout::{Front, Laid, MOST_BYTES, Piece, Spot};
 pub use memory::Memory;
 pub use name::Name;
 pub use refusal::{Place, Refusal, Stop};
