@@ -105,9 +105,11 @@ impl<T: Drop> Items<T> {
         Ok(())
     }
 
-    /// Appends the elements of another list, in their order. Refused only for want of memory.
+    /// Appends the elements of another list, in their order. Refused only for want of memory, and then
+    /// nothing changed; the other list is used up either way.
     pub fn append(&mut self, more: Items<T>) -> Result<(), Memory>
-        ensures { OnOk result (self.new ≡ self.old ++ more) }
+        ensures ok { OnOk result (self.new ≡ self.old ++ more) }
+        ensures err { OnErr result (self.new ≡ self.old) }
     {
         let Items { mut elements } = more;
         self.elements.append(&mut elements)?;

@@ -21,6 +21,3 @@ pub use refusal::{Place, Refusal, Stop};
 pub use rule::{Rule, URule, rule_text};
 pub use scalar::{Int, Scalar, convert, fits, wrap};
 pub use text::Text;
-
-#[cfg(test)]
-mod tests;

@@ -17,6 +17,3 @@ mod words;
 pub use laws::{bytes_spell_once, bytes_spell_or_break, tokens_are_longest};
 pub use lexer::lex;
 pub use token::{Keyword, Punct, Token, TokenKind, Ty0};
-
-#[cfg(test)]
-mod tests;

@@ -14,6 +14,3 @@ pub use fault::HostFault;
 pub use host::Host;
 pub use script::ScriptHost;
 pub use sure::{SureHost, answer_surely};
-
-#[cfg(test)]
-mod tests;

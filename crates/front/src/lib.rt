@@ -13,6 +13,3 @@ mod unit;
 
 pub use report::out_of_memory;
 pub use top::{run, run_surely};
-
-#[cfg(test)]
-mod tests;

@@ -11,11 +11,11 @@ use crate::files::{PutFault, placed, put_all};
 use crate::outcome::Outcome;
 use crate::unit::unbroken;
 use cr_base::{Items, Memory, Name, Refusal, Rule, Stop};
-use straight_core::Program;
 use rs_items::stem_of;
-use straight_print::print;
 use shelf::{File, Got, Shelf, ShelfFault};
 use std::alloc::Global;
+use straight_core::Program;
+use straight_print::print;
 use straight_whole::translate;
 
 /// The bytes that a unit may have.

@@ -10,12 +10,12 @@ ghost use Rattle.cr_base.specs.declared.refusal.Stop.TheVariants as stop;
 
 use crate::kept::keeps_names;
 use cr_base::{Refusal, Rule, Stop};
-use straight_core::Program;
-use straight_decl::program_of;
 use cx_lex::{Token, lex};
-use straight_parse::parse;
 use rs_items::{is_plain, stem_of};
 use std::alloc::Global;
+use straight_core::Program;
+use straight_decl::program_of;
+use straight_parse::parse;
 
 // The refusal of what isn't built yet.
 fn not_built() -> Stop

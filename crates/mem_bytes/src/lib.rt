@@ -24,6 +24,3 @@ pub use laws::{
 pub use list_store::ListStore;
 pub use store::{BlockState, Store};
 pub use value::{Ptr, Value};
-
-#[cfg(test)]
-mod tests;

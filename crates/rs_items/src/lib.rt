@@ -14,6 +14,3 @@ pub use laws::{kept_names_are_rust_names, plain_stems_name_modules};
 pub use modules::{is_plain, stem_of};
 pub use scope::NameScope;
 pub use temporaries::Temporaries;
-
-#[cfg(test)]
-mod tests;

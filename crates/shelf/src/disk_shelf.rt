@@ -83,6 +83,3 @@ fn write_file<R: Files>(rt: &R, path: &str, bytes: &[u8]) -> Result<(), ShelfFau
     fs::write(rt, path, bytes)?;
     Ok(())
 }
-
-#[cfg(test)]
-mod tests;

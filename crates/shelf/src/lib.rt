@@ -29,6 +29,3 @@ pub use sink::{Sink, write_all};
 pub use std_sink::StdSink;
 pub use sure_shelf::SureShelf;
 pub use sure_sink::SureSink;
-
-#[cfg(test)]
-mod testing;

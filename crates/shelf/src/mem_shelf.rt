@@ -150,6 +150,3 @@ impl MemShelf {
         Ok(())
     }
 }
-
-#[cfg(test)]
-mod tests;

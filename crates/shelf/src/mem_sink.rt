@@ -114,6 +114,3 @@ impl MemSink {
         Failed
     }
 }
-
-#[cfg(test)]
-mod tests;

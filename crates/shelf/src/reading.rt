@@ -83,6 +83,3 @@ fn read_retrying<F: Read>(file: &mut F, piece: &mut [u8]) -> Result<usize, Shelf
     }
     Err(ShelfFault::Failed)
 }
-
-#[cfg(test)]
-mod tests;

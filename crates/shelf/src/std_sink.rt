@@ -87,6 +87,3 @@ fn write_piece<W: Write>(writer: &mut W, piece: &[u8]) -> Result<usize, Failed>
     }
     Err(Failed)
 }
-
-#[cfg(test)]
-mod tests;

@@ -65,6 +65,3 @@ impl Shelf for SureShelf {
         Ok(())
     }
 }
-
-#[cfg(test)]
-mod tests;

@@ -64,6 +64,3 @@ impl Sink for SureSink {
         Ok(piece.len())
     }
 }
-
-#[cfg(test)]
-mod tests;

@@ -11,9 +11,9 @@ use crate::expr::constant;
 use crate::function::{declares_putchar, is_int};
 use crate::scope::{Scope, int_type, is_declared, not_built};
 use cr_base::{Items, Memory, Name, Stop};
+use std::alloc::Global;
 use straight_core::{CoreExpr, CoreObject, Linkage, Put, Spot};
 use straight_tree::{Decl, Declarator, Expr, External, InitDeclarator, Initialiser};
-use std::alloc::Global;
 
 /// What is stored in a whole object of type `int`.
 fn put_of(alloc: Global, value: CoreExpr) -> Result<Items<Put>, Memory>

@@ -10,10 +10,10 @@ ghost use Rattle.straight_tree.specs.Views.{expr_view, exprs};
 
 use crate::scope::{Scope, int_type, line_in, not_built, object_named, place_in, void_type};
 use cr_base::{Boxed, Int, Items, Memory, Name, Place, Stop};
-use straight_core::{CoreExpr, Form, Op1, Op2};
 use cx_lex::{Punct, Ty0};
-use straight_tree::Expr;
 use std::alloc::Global;
+use straight_core::{CoreExpr, Form, Op1, Op2};
+use straight_tree::Expr;
 
 /// The line of an expression's first token.
 fn first_line(expr: &Expr) -> u32

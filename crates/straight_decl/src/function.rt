@@ -10,9 +10,9 @@ ghost use Rattle.straight_tree.specs.Views.{declarator_view, expr_view, external
 use crate::expr::{core_expr, dropped, place_of};
 use crate::scope::{Scope, int_type, not_built, place_in};
 use cr_base::{Items, Memory, Name, Place, Stop};
+use std::alloc::Global;
 use straight_core::{CoreStmt, Fun, Linkage, StmtForm, Ty, function_type};
 use straight_tree::{BlockItem, Declarator, Expr, External, Param, Spec, Specs, Stmt};
-use std::alloc::Global;
 
 /// An expression statement (6.8.3).
 fn core_expression(alloc: Global, unit: u32, scope: &Scope, expr: &Expr) -> Result<CoreStmt, Stop>

@@ -11,9 +11,9 @@ use crate::declaration::{core_objects, is_putchar_declared};
 use crate::function::{core_function, name_of, putchar_type};
 use crate::scope::{Scope, not_built};
 use cr_base::{Items, Memory, Stop};
+use std::alloc::Global;
 use straight_core::{CoreObject, Fun, Outer, Parts, Program, Types};
 use straight_tree::{External, Unit};
-use std::alloc::Global;
 
 /// The declaration of `putchar`, which is function 0.
 fn putchar_outer(alloc: Global) -> Result<Outer, Memory>

@@ -10,9 +10,9 @@ use crate::nodes::{binary, call, conversion, lvalue, store, unary};
 use crate::parts::in_temporary;
 use crate::written::{Written, WrittenArgs};
 use cr_base::{Items, Memory};
+use std::alloc::Global;
 use straight_core::{CoreExpr, Form};
 use straight_rust_tree::RExpr;
-use std::alloc::Global;
 
 #[cycle(lift)]
 /// What is written for an expression, with temporaries from a number on. Refused only for want of memory,

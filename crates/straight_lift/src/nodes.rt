@@ -11,9 +11,9 @@ use crate::names::NameTable;
 use crate::parts::{function_path, in_temporary, literal, object_place, operand, operands};
 use crate::written::{Written, WrittenArgs};
 use cr_base::{Boxed, Items, Memory, Name};
+use std::alloc::Global;
 use straight_core::{CoreExpr, Form, Op1, Op2, Ty, TyForm};
 use straight_rust_tree::{Operator, RExpr, RPath, RPlace, RStmt};
-use std::alloc::Global;
 
 // The static object that an lvalue names.
 pub(crate) fn lvalue(alloc: Global, names: &NameTable, e: &CoreExpr) -> Result<RPlace, Memory>

@@ -8,8 +8,8 @@ use crate::atom::Atom;
 use crate::names::{NameTable, known_name};
 use crate::written::Written;
 use cr_base::{Boxed, Int, Items, Memory, Name};
-use straight_rust_tree::{Operator, RExpr, RPath, RPlace, RStmt, RTy};
 use std::alloc::Global;
+use straight_rust_tree::{Operator, RExpr, RPath, RPlace, RStmt, RTy};
 
 // A literal of type `i32`.
 pub(crate) fn literal(value: Int) -> RExpr

@@ -8,9 +8,9 @@ use crate::names::NameTable;
 use crate::parts::operand;
 use crate::written::WrittenStmts;
 use cr_base::{Items, Memory};
+use std::alloc::Global;
 use straight_core::{CoreExpr, CoreStmt, StmtForm};
 use straight_rust_tree::RStmt;
-use std::alloc::Global;
 
 #[cycle(lift_stmt)]
 /// What is written for a statement, with temporaries from a number on. Refused only for want of memory, as

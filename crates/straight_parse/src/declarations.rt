@@ -14,11 +14,11 @@ use crate::exprs::expr;
 use crate::fault::Fault;
 use crate::listed::Listed;
 use crate::measured::Measured;
-use crate::nodes::one_line;
-use cr_base::Items;
+use crate::nodes::{ReadDeclarator, one_line};
+use cr_base::{Boxed, Items};
 use cx_lex::Punct;
-use straight_tree::{Decl, Declarator, InitDeclarator, Initialiser, Specs};
 use std::alloc::Global;
+use straight_tree::{Decl, Declarator, InitDeclarator, Initialiser, Specs};
 
 // The initialiser of a declarator (6.7.8).
 #[tactic(auto, unfolding(crate::specs::Declarations::init, crate::specs::Reading::bind))]
@@ -26,19 +26,22 @@ fn init(
     alloc: Global,
     cursor: &mut Cursor<'_>,
     depth: u32,
-    declarator: Declarator,
-) -> Result<InitDeclarator, Fault>
+    declarator: Boxed<Declarator>,
+) -> Result<Boxed<InitDeclarator>, Fault>
     requires { depth < 2 ^ 31 }
     ensures { Answers (λ d. init_declarator_view d) result cursor.new (reader.init depth (declarator_view declarator) cursor.old) }
 {
     let line = cursor.mark(Punct::Equal)?;
-    let read = expr(alloc, cursor, depth, 2)?;
     let lines = one_line(alloc, line)?;
-    Ok(InitDeclarator {
-        declarator,
-        init: Some(Initialiser::Expr(read.tree)),
-        lines,
-    })
+    let read = expr(alloc, cursor, depth, 2)?;
+    Ok(Boxed::new(
+        alloc,
+        InitDeclarator {
+            declarator: declarator.into_inner(),
+            init: Some(Initialiser::Expr(read.tree.into_inner())),
+            lines,
+        },
+    )?)
 }
 
 // A declarator that was read, with its initialiser, where one is there.
@@ -47,8 +50,8 @@ fn behind_declarator(
     alloc: Global,
     cursor: &mut Cursor<'_>,
     depth: u32,
-    left: Measured<Declarator>,
-) -> Result<InitDeclarator, Fault>
+    left: ReadDeclarator,
+) -> Result<Boxed<InitDeclarator>, Fault>
     requires { depth < 2 ^ 31 }
     ensures { Answers (λ d. reader.unmeasured (init_declarator_view d)) result cursor.new
         (reader.behind_declarator depth (measured_declarator (declarator_view left.tree) left.depth) cursor.old) }
@@ -59,11 +62,14 @@ fn behind_declarator(
     if cursor.sees(Punct::Equal) {
         return init(alloc, cursor, depth - 1, left.tree);
     }
-    Ok(InitDeclarator {
-        declarator: left.tree,
-        init: None,
-        lines: Items::new(alloc),
-    })
+    Ok(Boxed::new(
+        alloc,
+        InitDeclarator {
+            declarator: left.tree.into_inner(),
+            init: None,
+            lines: Items::new(alloc),
+        },
+    )?)
 }
 
 #[tactic(auto, unfolding(crate::specs::Declarations::init_declarator, crate::specs::Reading::bind))]
@@ -71,7 +77,7 @@ fn init_declarator(
     alloc: Global,
     cursor: &mut Cursor<'_>,
     depth: u32,
-) -> Result<InitDeclarator, Fault>
+) -> Result<Boxed<InitDeclarator>, Fault>
     requires { depth < 2 ^ 31 }
     ensures { Answers (λ d. reader.unmeasured (init_declarator_view d)) result cursor.new (reader.init_declarator depth cursor.old) }
 {
@@ -92,10 +98,9 @@ fn next_declarator(
         (lists.next_item (reader.init_declarator depth) (list_read (map init_declarator_view list.list) list.depth list.lines) cursor.old) }
 {
     let mut list = list;
-    let line = cursor.mark(Punct::Comma)?;
+    list.push_line(cursor.mark(Punct::Comma)?)?;
     let tree = init_declarator(alloc, cursor, depth)?;
-    list.push_line(line)?;
-    list.push(Measured { tree, depth: 0 })?;
+    list.push_boxed(Measured { tree, depth: 0 })?;
     Ok(list)
 }
 
@@ -129,7 +134,7 @@ pub fn declaration(
     cursor: &mut Cursor<'_>,
     depth: u32,
     specs: Specs,
-    left: Measured<Declarator>,
+    left: ReadDeclarator,
 ) -> Result<Decl, Fault>
     requires { depth < 2 ^ 31 }
     ensures { Answers (λ d. decl_view d) result cursor.new
@@ -137,10 +142,9 @@ pub fn declaration(
 {
     let tree = behind_declarator(alloc, cursor, depth, left)?;
     let mut list = Listed::new(alloc, Items::new(alloc));
-    list.push(Measured { tree, depth: 0 })?;
+    list.push_boxed(Measured { tree, depth: 0 })?;
     let mut list = declarators_behind(alloc, cursor, depth, list)?;
-    let last = cursor.mark(Punct::Semicolon)?;
-    list.push_line(last)?;
+    list.push_line(cursor.mark(Punct::Semicolon)?)?;
     Ok(Decl {
         specs,
         list: list.list,

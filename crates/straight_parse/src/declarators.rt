@@ -8,18 +8,19 @@ ghost use Rattle.straight_parse.specs.Declarators.{specs_read, measured_declarat
 ghost use Rattle.straight_parse.specs.Lists as lists;
 ghost use Rattle.straight_parse.specs.Lists.{list_read};
 ghost use Rattle.straight_parse.specs.Reading.{Answers};
+ghost use Rattle.straight_tree.specs.Trees as tree;
 ghost use Rattle.straight_tree.specs.Views.{declarator_view, param_view, spec_view, specs_view};
 
 use crate::cursor::Cursor;
 use crate::fault::Fault;
 use crate::listed::Listed;
 use crate::measured::Measured;
-use crate::nodes::{function_of, one_line};
+use crate::nodes::{ReadDeclarator, function_of, one_line};
 use crate::sight::{Sight, shows_mark};
-use cr_base::Items;
+use cr_base::{Boxed, Items, Memory};
 use cx_lex::{Keyword, Punct};
-use straight_tree::{Declarator, Param, Spec, Specs};
 use std::alloc::Global;
+use straight_tree::{Declarator, Param, Spec, Specs};
 
 fn spec_of(keyword: Keyword) -> Option<Spec>
     ensures { option_map spec_view result ≡ reader.spec_of keyword }
@@ -105,16 +106,14 @@ pub fn specs(alloc: Global, cursor: &mut Cursor<'_>, depth: u32) -> Result<Specs
 
 // The declared identifier (6.7.5).
 #[tactic(auto, unfolding(crate::specs::Declarators::identifier, crate::specs::Reading::bind))]
-fn identifier(alloc: Global, cursor: &mut Cursor<'_>) -> Result<Measured<Declarator>, Fault>
+fn identifier(alloc: Global, cursor: &mut Cursor<'_>) -> Result<ReadDeclarator, Fault>
     ensures reads { Answers (λ d. measured_declarator (declarator_view d.tree) d.depth) result cursor.new (reader.identifier cursor.old) }
     ensures within { IfOk result (λ d. d.depth ≡ 1) }
 {
     let (name, line) = cursor.word()?;
     let lines = one_line(alloc, line)?;
-    Ok(Measured {
-        tree: Declarator::Identifier { name, lines },
-        depth: 1,
-    })
+    let tree = Boxed::new(alloc, Declarator::Identifier { name, lines })?;
+    Ok(Measured { tree, depth: 1 })
 }
 
 // A comma and the parameter behind it.
@@ -133,10 +132,8 @@ fn next_param(
     ensures within { IfOk result (λ l. l.depth ≤ depth) }
 {
     let mut list = list;
-    let line = cursor.mark(Punct::Comma)?;
-    let next = param(alloc, cursor, depth)?;
-    list.push_line(line)?;
-    list.push(next)?;
+    list.push_line(cursor.mark(Punct::Comma)?)?;
+    list.push(param(alloc, cursor, depth)?)?;
     Ok(list)
 }
 
@@ -180,8 +177,7 @@ fn params(
     ensures within { IfOk result (λ l. l.depth ≤ depth) }
 {
     let mut list = Listed::new(alloc, one_line(alloc, first)?);
-    let next = param(alloc, cursor, depth)?;
-    list.push(next)?;
+    list.push(param(alloc, cursor, depth)?)?;
     params_behind(alloc, cursor, depth, list)
 }
 
@@ -192,8 +188,8 @@ fn function(
     alloc: Global,
     cursor: &mut Cursor<'_>,
     depth: u32,
-    of: Measured<Declarator>,
-) -> Result<Measured<Declarator>, Fault>
+    of: ReadDeclarator,
+) -> Result<ReadDeclarator, Fault>
     requires { depth < 2 ^ 31 }
     ensures reads { Answers (λ d. measured_declarator (declarator_view d.tree) d.depth) result cursor.new
         (reader.function (reader.param depth) depth (measured_declarator (declarator_view of.tree) of.depth) cursor.old) }
@@ -216,8 +212,8 @@ fn functions_behind(
     alloc: Global,
     cursor: &mut Cursor<'_>,
     depth: u32,
-    of: Measured<Declarator>,
-) -> Result<Measured<Declarator>, Fault>
+    of: ReadDeclarator,
+) -> Result<ReadDeclarator, Fault>
     requires depth { depth < 2 ^ 31 }
     requires of { of.depth ≤ suc depth }
     ensures reads { Answers (λ d. measured_declarator (declarator_view d.tree) d.depth) result cursor.new
@@ -241,7 +237,7 @@ pub fn declarator(
     alloc: Global,
     cursor: &mut Cursor<'_>,
     depth: u32,
-) -> Result<Measured<Declarator>, Fault>
+) -> Result<ReadDeclarator, Fault>
     requires { depth < 2 ^ 31 }
     ensures reads { Answers (λ d. measured_declarator (declarator_view d.tree) d.depth) result cursor.new (reader.declarator depth cursor.old) }
     ensures within { IfOk result (λ d. d.depth ≤ depth) }
@@ -253,6 +249,14 @@ pub fn declarator(
     functions_behind(alloc, cursor, depth - 1, of)
 }
 
+// No declarator.
+fn missing(alloc: Global) -> Result<ReadDeclarator, Memory>
+    ensures { IfOk result (λ d. measured_declarator (declarator_view d.tree) d.depth ≡ measured_declarator tree.Missing 1) }
+{
+    let tree = Boxed::new(alloc, Declarator::Missing)?;
+    Ok(Measured { tree, depth: 1 })
+}
+
 // A declarator, or none where no identifier stands ahead (6.7.6).
 #[cycle(declarator)]
 #[tactic(auto, unfolding(crate::specs::Declarators::declarator_or_missing))]
@@ -260,7 +264,7 @@ fn declarator_or_missing(
     alloc: Global,
     cursor: &mut Cursor<'_>,
     depth: u32,
-) -> Result<Measured<Declarator>, Fault>
+) -> Result<ReadDeclarator, Fault>
     requires depth { depth < 2 ^ 31 }
     requires some { 0 < depth }
     ensures reads { Answers (λ d. measured_declarator (declarator_view d.tree) d.depth) result cursor.new
@@ -269,10 +273,7 @@ fn declarator_or_missing(
 {
     match cursor.peek() {
         Sight::Word => declarator(alloc, cursor, depth),
-        _ => Ok(Measured {
-            tree: Declarator::Missing,
-            depth: 1,
-        }),
+        _ => Ok(missing(alloc)?),
     }
 }
 
@@ -294,7 +295,7 @@ fn param_from(alloc: Global, cursor: &mut Cursor<'_>, depth: u32) -> Result<Meas
     Ok(Measured {
         tree: Param {
             specs,
-            declarator: read.tree,
+            declarator: read.tree.into_inner(),
         },
         depth,
     })

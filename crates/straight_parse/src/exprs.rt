@@ -16,9 +16,10 @@ use crate::listed::Listed;
 use crate::measured::Measured;
 use crate::nodes::{Read, assign_of, binary_of, call_of, one_line, paren_of, unary_of};
 use crate::sight::{Sight, same_mark};
+use cr_base::Boxed;
 use cx_lex::Punct;
-use straight_tree::{Expr, is_unary_operator, level};
 use std::alloc::Global;
+use straight_tree::{Expr, is_unary_operator, level};
 
 // An identifier (6.5.1).
 #[tactic(auto, unfolding(crate::specs::Exprs::name, crate::specs::Reading::bind))]
@@ -28,10 +29,8 @@ fn name(alloc: Global, cursor: &mut Cursor<'_>) -> Result<Read, Fault>
 {
     let (name, line) = cursor.word()?;
     let lines = one_line(alloc, line)?;
-    Ok(Measured {
-        tree: Expr::Name { name, lines },
-        depth: 1,
-    })
+    let tree = Boxed::new(alloc, Expr::Name { name, lines })?;
+    Ok(Measured { tree, depth: 1 })
 }
 
 // An integer constant (6.5.1).
@@ -42,10 +41,8 @@ fn constant(alloc: Global, cursor: &mut Cursor<'_>) -> Result<Read, Fault>
 {
     let (value, ty, line) = cursor.number()?;
     let lines = one_line(alloc, line)?;
-    Ok(Measured {
-        tree: Expr::Number { value, ty, lines },
-        depth: 1,
-    })
+    let tree = Boxed::new(alloc, Expr::Number { value, ty, lines })?;
+    Ok(Measured { tree, depth: 1 })
 }
 
 // An expression in parentheses (6.5.1).
@@ -129,10 +126,8 @@ fn next_arg(
     ensures within { IfOk result (λ l. l.depth ≤ depth) }
 {
     let mut args = args;
-    let line = cursor.mark(Punct::Comma)?;
-    let arg = expr(alloc, cursor, depth, 2)?;
-    args.push_line(line)?;
-    args.push(arg)?;
+    args.push_line(cursor.mark(Punct::Comma)?)?;
+    args.push_boxed(expr(alloc, cursor, depth, 2)?)?;
     Ok(args)
 }
 
@@ -180,8 +175,7 @@ fn args(
     if cursor.sees(Punct::RightParenthesis) {
         return Ok(args);
     }
-    let arg = expr(alloc, cursor, depth, 2)?;
-    args.push(arg)?;
+    args.push_boxed(expr(alloc, cursor, depth, 2)?)?;
     args_behind(alloc, cursor, depth, args)
 }
 
@@ -282,7 +276,7 @@ fn climb(
     let mut left = left;
     for _turn in 0..depth + 1 {
         let continuation = continuation_of(cursor.peek());
-        if !goes_on(least, continuation, level(&left.tree)) {
+        if !goes_on(least, continuation, level(left.tree.get())) {
             return Ok(left);
         }
         left = operation(alloc, cursor, depth, continuation, left)?;
@@ -311,7 +305,7 @@ pub fn option_expr(
     alloc: Global,
     cursor: &mut Cursor<'_>,
     depth: u32,
-) -> Result<Option<Expr>, Fault>
+) -> Result<Option<Boxed<Expr>>, Fault>
     requires { depth < 2 ^ 31 }
     ensures { Answers (λ e. option_map expr_view e) result cursor.new (reader.option_expr depth cursor.old) }
 {

@@ -3,7 +3,7 @@
 ghost use Rattle.std.specs.Prelude.{◌≡◌, OnOk, [], ◌∷◌, ◌++◌, max};
 
 use crate::measured::Measured;
-use cr_base::{Items, Memory};
+use cr_base::{Boxed, Items, Memory};
 use std::alloc::Global;
 
 /// What was read of a list: the items, the depth of the deepest of them, and the lines of the list's
@@ -37,6 +37,18 @@ impl<T: Drop> Listed<T> {
     {
         let Measured { tree, depth } = item;
         self.list.push(tree)?;
+        self.depth = self.depth.max(depth);
+        Ok(())
+    }
+
+    /// Takes in an item that stands in a box. Refused only for want of memory.
+    pub fn push_boxed(&mut self, item: Measured<Boxed<T>>) -> Result<(), Memory>
+        ensures list { OnOk result (self.new.list ≡ self.old.list ++ item.tree ∷ []) }
+        ensures depth { OnOk result (self.new.depth ≡ max self.old.depth item.depth) }
+        ensures lines { OnOk result (self.new.lines ≡ self.old.lines) }
+    {
+        let Measured { tree, depth } = item;
+        self.list.push(tree.into_inner())?;
         self.depth = self.depth.max(depth);
         Ok(())
     }

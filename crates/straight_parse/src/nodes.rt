@@ -11,11 +11,14 @@ use crate::listed::Listed;
 use crate::measured::Measured;
 use cr_base::{Boxed, Items, Memory};
 use cx_lex::Punct;
-use straight_tree::{Declarator, Expr, Param};
 use std::alloc::Global;
+use straight_tree::{Declarator, Expr, Param};
 
 /// An expression that was read, and its depth.
-pub type Read = Measured<Expr>;
+pub type Read = Measured<Boxed<Expr>>;
+
+/// A declarator that was read, and its depth.
+pub type ReadDeclarator = Measured<Boxed<Declarator>>;
 
 /// One line. Refused only for want of memory.
 pub fn one_line(alloc: Global, line: u32) -> Result<Items<u32>, Memory>
@@ -42,12 +45,10 @@ pub fn paren_of(alloc: Global, first: u32, inner: Read, last: u32) -> Result<Rea
     ensures { IfOk result (λ r. measured (expr_view r.tree) r.depth ≡ measured (tree.Paren (expr_view inner.tree) (first ∷ last ∷ [])) (suc inner.depth)) }
 {
     let depth = inner.depth + 1;
+    let inner = inner.tree;
     let lines = two_lines(alloc, first, last)?;
-    let inner = Boxed::new(alloc, inner.tree)?;
-    Ok(Measured {
-        tree: Expr::Paren { inner, lines },
-        depth,
-    })
+    let tree = Boxed::new(alloc, Expr::Paren { inner, lines })?;
+    Ok(Measured { tree, depth })
 }
 
 /// A unary operator with its operand.
@@ -56,12 +57,10 @@ pub fn unary_of(alloc: Global, op: Punct, line: u32, on: Read) -> Result<Read, M
     ensures { IfOk result (λ r. measured (expr_view r.tree) r.depth ≡ measured (tree.Unary op (expr_view on.tree) (line ∷ [])) (suc on.depth)) }
 {
     let depth = on.depth + 1;
+    let on = on.tree;
     let lines = one_line(alloc, line)?;
-    let on = Boxed::new(alloc, on.tree)?;
-    Ok(Measured {
-        tree: Expr::Unary { op, on, lines },
-        depth,
-    })
+    let tree = Boxed::new(alloc, Expr::Unary { op, on, lines })?;
+    Ok(Measured { tree, depth })
 }
 
 /// A binary operator with its operands.
@@ -79,17 +78,14 @@ pub fn binary_of(
 {
     let depth = left.depth.max(right.depth) + 1;
     let lines = one_line(alloc, line)?;
-    let left = Boxed::new(alloc, left.tree)?;
-    let right = Boxed::new(alloc, right.tree)?;
-    Ok(Measured {
-        tree: Expr::Binary {
-            left,
-            op,
-            right,
-            lines,
-        },
-        depth,
-    })
+    let node = Expr::Binary {
+        left: left.tree,
+        op,
+        right: right.tree,
+        lines,
+    };
+    let tree = Boxed::new(alloc, node)?;
+    Ok(Measured { tree, depth })
 }
 
 /// An assignment.
@@ -107,17 +103,14 @@ pub fn assign_of(
 {
     let depth = left.depth.max(right.depth) + 1;
     let lines = one_line(alloc, line)?;
-    let left = Boxed::new(alloc, left.tree)?;
-    let right = Boxed::new(alloc, right.tree)?;
-    Ok(Measured {
-        tree: Expr::Assign {
-            left,
-            op,
-            right,
-            lines,
-        },
-        depth,
-    })
+    let node = Expr::Assign {
+        left: left.tree,
+        op,
+        right: right.tree,
+        lines,
+    };
+    let tree = Boxed::new(alloc, node)?;
+    Ok(Measured { tree, depth })
 }
 
 /// A call with its arguments.
@@ -129,23 +122,21 @@ pub fn call_of(alloc: Global, of: Read, args: Listed<Expr>) -> Result<Read, Memo
 {
     let depth = of.depth.max(args.depth) + 1;
     let Listed { list, lines, .. } = args;
-    let of = Boxed::new(alloc, of.tree)?;
-    Ok(Measured {
-        tree: Expr::Call {
-            of,
-            args: list,
-            lines,
-        },
-        depth,
-    })
+    let node = Expr::Call {
+        of: of.tree,
+        args: list,
+        lines,
+    };
+    let tree = Boxed::new(alloc, node)?;
+    Ok(Measured { tree, depth })
 }
 
 /// A function of a declarator, with its parameters.
 pub fn function_of(
     alloc: Global,
-    of: Measured<Declarator>,
+    of: ReadDeclarator,
     params: Listed<Param>,
-) -> Result<Measured<Declarator>, Memory>
+) -> Result<ReadDeclarator, Memory>
     requires of { of.depth < 2 ^ 31 }
     requires params { params.depth < 2 ^ 31 }
     ensures { IfOk result (λ r. measured_declarator (declarator_view r.tree) r.depth
@@ -153,13 +144,11 @@ pub fn function_of(
 {
     let depth = of.depth.max(params.depth) + 1;
     let Listed { list, lines, .. } = params;
-    let of = Boxed::new(alloc, of.tree)?;
-    Ok(Measured {
-        tree: Declarator::Function {
-            of,
-            params: list,
-            lines,
-        },
-        depth,
-    })
+    let node = Declarator::Function {
+        of: of.tree,
+        params: list,
+        lines,
+    };
+    let tree = Boxed::new(alloc, node)?;
+    Ok(Measured { tree, depth })
 }

@@ -11,8 +11,8 @@ use crate::fault::Fault;
 use crate::units::read_unit;
 use cr_base::{Refusal, Rule, Stop};
 use cx_lex::Token;
-use straight_tree::Unit;
 use std::alloc::Global;
+use straight_tree::Unit;
 
 // How deep the parts of an external declaration may be in a unit that is at most 512 nodes deep.
 const PART_DEPTH: u32 = 510;

@@ -14,10 +14,20 @@ use crate::exprs::option_expr;
 use crate::fault::Fault;
 use crate::nodes::{one_line, two_lines};
 use crate::sight::{Sight, shows_mark};
-use cr_base::Items;
+use cr_base::{Boxed, Items};
 use cx_lex::{Keyword, Punct};
-use straight_tree::{BlockItem, Stmt};
 use std::alloc::Global;
+use straight_tree::{BlockItem, Expr, Stmt};
+
+// An expression out of its box, where one is there.
+fn unboxed(expr: Option<Boxed<Expr>>) -> Option<Expr>
+    ensures { result ≡ expr }
+{
+    match expr {
+        Some(held) => Some(held.into_inner()),
+        None => None,
+    }
+}
 
 // An expression statement (6.8.3).
 #[tactic(auto, unfolding(crate::specs::Stmts::expr_stmt, crate::specs::Reading::bind))]
@@ -26,9 +36,11 @@ fn expr_stmt(alloc: Global, cursor: &mut Cursor<'_>, depth: u32) -> Result<Stmt,
     ensures { Answers (λ s. stmt_view s) result cursor.new (reader.expr_stmt depth cursor.old) }
 {
     let expr = option_expr(alloc, cursor, depth)?;
-    let line = cursor.mark(Punct::Semicolon)?;
-    let lines = one_line(alloc, line)?;
-    Ok(Stmt::Expr { expr, lines })
+    let lines = one_line(alloc, cursor.mark(Punct::Semicolon)?)?;
+    Ok(Stmt::Expr {
+        expr: unboxed(expr),
+        lines,
+    })
 }
 
 fn is_return(keyword: Keyword) -> bool
@@ -56,7 +68,10 @@ fn return_stmt(alloc: Global, cursor: &mut Cursor<'_>, depth: u32) -> Result<Stm
     let value = option_expr(alloc, cursor, depth)?;
     let last = cursor.mark(Punct::Semicolon)?;
     let lines = two_lines(alloc, first, last)?;
-    Ok(Stmt::Return { value, lines })
+    Ok(Stmt::Return {
+        value: unboxed(value),
+        lines,
+    })
 }
 
 // One more statement of a block.

@@ -11,14 +11,13 @@ use crate::cursor::Cursor;
 use crate::declarations::declaration;
 use crate::declarators::{declarator, specs};
 use crate::fault::Fault;
-use crate::measured::Measured;
-use crate::nodes::one_line;
+use crate::nodes::{ReadDeclarator, one_line};
 use crate::sight::Sight;
 use crate::stmts::block;
-use cr_base::Items;
+use cr_base::{Boxed, Items};
 use cx_lex::Punct;
-use straight_tree::{Decl, Declarator, External, Specs, Unit};
 use std::alloc::Global;
+use straight_tree::{Decl, Declarator, External, Specs, Unit};
 
 // The body of a function (6.9.1) whose declarator was read.
 #[tactic(auto, unfolding(crate::specs::Units::definition, crate::specs::Reading::bind))]
@@ -27,7 +26,7 @@ fn definition(
     cursor: &mut Cursor<'_>,
     depth: u32,
     specs: Specs,
-    declarator: Declarator,
+    declarator: Boxed<Declarator>,
 ) -> Result<External, Fault>
     requires { depth < 2 ^ 31 }
     ensures { Answers (λ e. external_view e) result cursor.new
@@ -36,7 +35,7 @@ fn definition(
     let body = block(alloc, cursor, depth)?;
     Ok(External::Function {
         specs,
-        declarator,
+        declarator: declarator.into_inner(),
         body,
         lines: Items::new(alloc),
     })
@@ -49,7 +48,7 @@ fn behind_first(
     cursor: &mut Cursor<'_>,
     depth: u32,
     specs: Specs,
-    left: Measured<Declarator>,
+    left: ReadDeclarator,
 ) -> Result<External, Fault>
     requires { depth < 2 ^ 31 }
     ensures { Answers (λ e. external_view e) result cursor.new

@@ -2,8 +2,8 @@ ghost use Rattle.std.specs.Prelude.{◌≡◌, ◌++◌, IfOk, OnOk};
 ghost use Rattle.straight_rust_tree.specs.Lines.{indentation, line_bytes, text_of_lines};
 
 use cr_base::{Items, Memory};
-use straight_rust_tree::Line;
 use std::alloc::Global;
+use straight_rust_tree::Line;
 
 /// The bytes of lines, as they stand in a file.
 pub(crate) fn bytes_of(alloc: Global, lines: &[Line]) -> Result<Items<u8>, Memory>

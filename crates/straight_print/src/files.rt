@@ -7,9 +7,9 @@ ghost use Rattle.straight_rust_tree.specs.View.{module_view, crate_view};
 
 use crate::bytes::bytes_of;
 use cr_base::{Items, Memory, Name, Text};
-use straight_rust_tree::{Crate, Files, Line, Module, cargo_lines, main_lines, module_lines};
 use shelf::File;
 use std::alloc::Global;
+use straight_rust_tree::{Crate, Files, Line, Module, cargo_lines, main_lines, module_lines};
 
 /// All files of a crate, in the order in which they are put: a file for each module, `src/main.rs`,
 /// `Cargo.toml`. The names of the modules are words, as those of every valid crate are. Refused only

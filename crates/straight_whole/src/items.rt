@@ -7,10 +7,10 @@ ghost use Rattle.straight_whole.specs.CrateOf.{static_of, local_of, store_in, va
 
 use crate::tables::{name_of, own_name};
 use cr_base::{Int, Items, Memory, Name};
+use std::alloc::Global;
 use straight_core::{CoreExpr, CoreObject, CoreStmt, Form, Put};
 use straight_lift::{NameTable, lift_stmt, object_place};
 use straight_rust_tree::{Attribute, Function, Item, Local, Outer, RExpr, RStmt, RTy, Static};
-use std::alloc::Global;
 
 // The static objects of a module.
 pub(crate) fn statics(alloc: Global, objects: &[CoreObject]) -> Result<Items<Item>, Memory>

@@ -9,9 +9,9 @@ ghost use Rattle.straight_whole.specs.CrateOf.{outer_of};
 
 use crate::called::calls_in_stmt;
 use cr_base::{Items, Memory};
+use std::alloc::Global;
 use straight_core::{CoreStmt, Ty, TyForm};
 use straight_rust_tree::RTy;
-use std::alloc::Global;
 
 // An `i32` for each type of a parameter list.
 fn listed_types(alloc: Global, list: &[Ty]) -> Result<Items<RTy>, Memory>
@@ -46,7 +46,10 @@ fn gives(ty: &Ty) -> Option<RTy>
 }
 
 // An external function as a crate declares it, by its type. Refused only for want of memory.
-pub(crate) fn declared(alloc: Global, outer: &straight_core::Outer) -> Result<straight_rust_tree::Outer, Memory>
+pub(crate) fn declared(
+    alloc: Global,
+    outer: &straight_core::Outer,
+) -> Result<straight_rust_tree::Outer, Memory>
     ensures { IfOk result (λ made. outer_view made ≡ outer_of (view_outer outer.now)) }
 {
     let name = outer.name.copy()?;

@@ -9,10 +9,10 @@ use crate::items::{extern_block, initialiser, main_function, statics};
 use crate::outers::called_outers;
 use crate::tables::name_table;
 use cr_base::{Items, Memory, Name};
+use std::alloc::Global;
 use straight_core::{CoreStmt, Program};
 use straight_lift::NameTable;
 use straight_rust_tree::{Crate, Item, Module};
-use std::alloc::Global;
 
 /// The crate of a program, whose one module has this name. It is well typed, has the program's items, and
 /// behaves as the program. Refused only for want of memory.
