@@ -71,7 +71,7 @@ piece one laid = elim one.bits as (λ _. Piece) [
 abbrev pub piece_of : CLayouts → CMember → Option Piece
 piece_of layouts one = option_map (piece one) (whole_extent layouts one.type)
 
-abbrev put_front : Option Piece → Option (List Piece) → Option (List Piece)
+abbrev pub put_front : Option Piece → Option (List Piece) → Option (List Piece)
 put_front None others = None
 put_front (Some first) others = option_map (λ pieces. first ∷ pieces) others
 

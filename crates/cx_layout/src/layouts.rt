@@ -1,12 +1,14 @@
-ghost use Rattle.std.specs.Prelude.{◌≡◌, ◌≤◌, ◌<◌, [], ◌∷◌, map, length, All, IsSome, IfSome, IfOk, IfErr, OnOk, OnErr, Some, None, slice_get, slice_set, option_map};
-ghost use Rattle.std.specs.Option.{option_flatten};
+ghost use Rattle.std.specs.Prelude.{◌≡◌, ◌≤◌, ◌<◌, [], ◌∷◌, map, length, All, IsSome, IfSome, IfOk, IfErr, IfNone, OnOk, OnErr, Some, None, slice_get, slice_set, option_map};
+ghost use Rattle.std.specs.Option.{option_copied, option_flatten};
 ghost use Rattle.cr_base.specs.Layout.{IsPiece, most_bytes, laid_record};
 ghost use Rattle.cx_core.specs.Layouts.{extent, whole_extent, row_at, row_of, piece_of, pieces_of};
 ghost use Rattle.cx_core.specs.Views.{view_type, view_member, view_record};
 ghost use Rattle.cx_layout.specs.Calls.{HaveSameRows, spot_at, IsMemberComplete, HasFittingBits, IsTooLarge, AddsRecord, record_extent};
 ghost use Rattle.cx_layout.specs.Extents.{told};
+ghost use Rattle.cx_layout.specs.Rows.{IsFine, IsFineExtent, IsLargePiece, HasLarge};
 
 use crate::extent::Extent;
+use crate::put::put;
 use crate::row::{Row, spots_of};
 use cr_base::{Items, Laid, Memory, Piece, Spot, laid_record};
 use cx_core::{Member, RecordTy, Ty, TyForm};
@@ -100,8 +102,12 @@ impl Layouts {
         ensures refused { OnErr result (HaveSameRows self.old self.new) }
         ensures too_large { IfErr result (λ fault. fault ≡ LayoutFault.TooLarge → IsTooLarge self.old (view_record r.now)) }
     {
-        let row = self.row_of(r)?;
-        self.put(r.number, row)
+        let row = match self.row_of(r) {
+            Ok(row) => row,
+            Err(fault) => return Err(fault),
+        };
+        put(&mut self.rows, r.number, row)?;
+        Ok(())
     }
 
     // How a record is laid out.
@@ -109,10 +115,14 @@ impl Layouts {
         requires complete { All (IsMemberComplete self.now) (map view_member r.now.members) }
         requires bits { All HasFittingBits (map view_member r.now.members) }
         ensures row { IfOk result (λ row. row_of self.now (view_record r.now) ≡ Some row) }
+        ensures fine { IfOk result (λ row. IsFine row.laid) }
         ensures too_large { IfErr result (λ fault. fault ≡ LayoutFault.TooLarge → IsTooLarge self.now (view_record r.now)) }
     {
         let alloc = *self.rows.allocator();
-        let pieces = self.pieces(r.members.as_slice())?;
+        let pieces = match self.pieces(r.members.as_slice()) {
+            Ok(pieces) => pieces,
+            Err(fault) => return Err(fault),
+        };
         let Some(laid) = laid_record(r.is_union, pieces.as_slice()) else {
             return Err(LayoutFault::TooLarge);
         };
@@ -124,8 +134,9 @@ impl Layouts {
     fn pieces(&self, members: &[Member]) -> Result<Items<Piece>, LayoutFault>
         requires complete { All (IsMemberComplete self.now) (map view_member members.now) }
         requires bits { All HasFittingBits (map view_member members.now) }
-        ensures pieces { IfOk result (λ pieces. (pieces_of self.now (map view_member members.now) ≡ Some pieces) × All IsPiece pieces) }
-        ensures too_large { IfErr result (λ fault. fault ≡ LayoutFault.TooLarge → HasLargePiece (pieces_of self.now (map view_member members.now))) }
+        ensures pieces { IfOk result (λ pieces. pieces_of self.now (map view_member members.now) ≡ Some pieces) }
+        ensures fine { IfOk result (λ pieces. All IsPiece pieces) }
+        ensures too_large { IfErr result (λ fault. fault ≡ LayoutFault.TooLarge → HasLarge (pieces_of self.now (map view_member members.now))) }
     {
         let mut pieces = Items::new(*self.rows.allocator());
         for member in members {
@@ -162,7 +173,8 @@ impl Layouts {
 
     // The size and the alignment of a type.
     fn extent(&self, t: &Ty) -> Extent
-        ensures { result ≡ told (whole_extent self.now (view_type t.now)) }
+        ensures told { result ≡ told (whole_extent self.now (view_type t.now)) }
+        ensures fine { IsFineExtent result }
     {
         match &t.form {
             TyForm::Basic(which) => Extent::of_bytes(u64::from(which.width() / 8)),
@@ -176,7 +188,8 @@ impl Layouts {
     }
 
     fn record_extent(&self, number: u32) -> Extent
-        ensures { result ≡ told (option_map (λ row. row.laid) (row_at self.now number)) }
+        ensures told { result ≡ told (option_map (λ row. row.laid) (row_at self.now number)) }
+        ensures fine { IsFineExtent result }
     {
         match self.row(number) {
             Some(row) => Extent::Known(row.laid()),
@@ -185,7 +198,8 @@ impl Layouts {
     }
 
     fn row(&self, number: u32) -> Option<&Row>
-        ensures { option_copied result ≡ row_at self.now number }
+        ensures row { option_copied result ≡ row_at self.now number }
+        ensures fine { IfSome result (λ row. IsFine row.now.laid) }
     {
         match self.rows.get(number as usize) {
             Some(found) => found.as_ref(),

@@ -1,33 +1,31 @@
-ghost use Rattle.std.specs.Prelude.{◌≡◌, ◌+◌, ◌<◌, Some, OnOk, OnErr, length};
-ghost use Rattle.cx_core.specs.Layouts.{row_at};
+ghost use Rattle.std.specs.Prelude.{◌≡◌, ◌+◌, ◌<◌, Some, OnOk, OnErr, IfErr, length};
 ghost use Rattle.cx_layout.specs.Calls.{HaveSameRows};
-ghost use Rattle.cx_layout.specs.Rows.{IsFine, PutsRow};
+ghost use Rattle.cx_layout.specs.Rows.{IsFine, AreFine, PutsRow};
 
-use crate::layouts::{LayoutFault, Layouts};
+use crate::layouts::LayoutFault;
 use crate::row::Row;
 use cr_base::Memory;
 
-impl Layouts {
-    // Lays out the record with a number so.
-    pub(crate) fn put(&mut self, number: u32, row: Row) -> Result<(), LayoutFault>
-        requires { IsFine row.laid }
-        ensures put { OnOk result (PutsRow self.old number row self.new) }
-        ensures same { OnErr result (HaveSameRows self.old self.new) }
-        ensures memory { IfErr result (λ fault. fault ≡ LayoutFault.Memory) }
-    {
-        self.reach(number)?;
-        self.rows[number as usize] = Some(row);
-        Ok(())
-    }
+// Lays out the record with a number so.
+pub(crate) fn put(rows: &mut Vec<Option<Row>>, number: u32, row: Row) -> Result<(), Memory>
+    requires { IsFine row.laid }
+    ensures put { OnOk result (PutsRow rows.old.items number row rows.new.items) }
+    ensures same { OnErr result (HaveSameRows rows.old.items rows.new.items) }
+    ensures fine { AreFine rows.old.items → AreFine rows.new.items }
+{
+    reach(rows, number)?;
+    rows[number as usize] = Some(row);
+    Ok(())
+}
 
-    // Makes room for the record with a number.
-    fn reach(&mut self, number: u32) -> Result<(), Memory>
-        ensures same { HaveSameRows self.old self.new }
-        ensures reached { OnOk result (number < length self.new) }
-    {
-        for _number in self.rows.len()..number as usize + 1 {
-            self.rows.push(None)?;
-        }
-        Ok(())
+// Makes room for the record with a number.
+fn reach(rows: &mut Vec<Option<Row>>, number: u32) -> Result<(), Memory>
+    ensures same { HaveSameRows rows.old.items rows.new.items }
+    ensures fine { AreFine rows.old.items → AreFine rows.new.items }
+    ensures reached { OnOk result (number < length rows.new.items) }
+{
+    for _number in rows.len()..number as usize + 1 {
+        rows.push(None)?;
     }
+    Ok(())
 }
