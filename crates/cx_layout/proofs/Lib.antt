@@ -1,3 +1,6 @@
+pub mod Builds
 pub mod Fronts
+pub mod Passes
 pub mod Pieces
 pub mod RowLemmas
+pub mod Sweeps

@@ -1,8 +1,9 @@
-ghost use Rattle.std.specs.Prelude.{◌≡◌, ◌≤◌, ◌<◌, [], ◌∷◌, map, length, All, IsSome, IfSome, IfOk, IfErr, IfNone, OnOk, OnErr, Some, None, slice_get, slice_set, option_map};
+ghost use Rattle.std.specs.Prelude.{◌≡◌, ◌≤◌, ◌<◌, [], ◌∷◌, map, length, All, IsSome, IfSome, IfOk, IfErr, IfNone, OnOk, OnErr, Some, None, is_some, slice_get, slice_set, option_map};
 ghost use Rattle.std.specs.Option.{option_copied, option_flatten};
 ghost use Rattle.cr_base.specs.Layout.{IsPiece, most_bytes, laid_record};
 ghost use Rattle.cx_core.specs.Layouts.{extent, whole_extent, row_at, row_of, piece_of, pieces_of};
 ghost use Rattle.cx_core.specs.Views.{view_type, view_member, view_record};
+ghost use Rattle.cx_layout.specs.Building.{are_complete};
 ghost use Rattle.cx_layout.specs.Calls.{HaveSameRows, spot_at, IsMemberComplete, HasFittingBits, IsTooLarge, AddsRecord, record_extent};
 ghost use Rattle.cx_layout.specs.Extents.{told};
 ghost use Rattle.cx_layout.specs.Rows.{IsFine, IsFineExtent, IsLargePiece, HasLarge};
@@ -204,6 +205,35 @@ impl Layouts {
         match self.rows.get(number as usize) {
             Some(found) => found.as_ref(),
             None => None,
+        }
+    }
+
+    // Whether the record with a number is laid out.
+    pub(crate) fn is_laid(&self, number: u32) -> bool
+        ensures { result ≡ is_some (row_at self.now number) }
+    {
+        self.row(number).is_some()
+    }
+
+    // Whether all members are complete by now.
+    pub(crate) fn is_ready(&self, members: &[Member]) -> bool
+        ensures { result ≡ are_complete self.now (map view_member members.now) }
+    {
+        for member in members {
+            if !self.is_complete(&member.ty) {
+                return false;
+            }
+        }
+        true
+    }
+
+    // Whether a type is complete by now.
+    fn is_complete(&self, t: &Ty) -> bool
+        ensures { result ≡ is_some (whole_extent self.now (view_type t.now)) }
+    {
+        match self.extent(t) {
+            Extent::Unknown => false,
+            _ => true,
         }
     }
 }

@@ -1,6 +1,7 @@
 //! Sizes and alignments of the types of a program, and where the members of its records stand.
 #![tactic(auto)]
 
+mod build;
 mod extent;
 mod layouts;
 mod put;
