@@ -2,5 +2,6 @@ pub mod Builds
 pub mod Fronts
 pub mod Passes
 pub mod Pieces
+pub mod Place
 pub mod RowLemmas
 pub mod Sweeps

@@ -1,4 +1,5 @@
 pub mod Building
 pub mod Calls
 pub mod Extents
+pub mod Places
 pub mod Rows

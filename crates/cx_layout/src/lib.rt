@@ -3,8 +3,10 @@
 
 mod build;
 mod extent;
+mod laws;
 mod layouts;
 mod put;
 mod row;
 
+pub use laws::{members_do_not_overlap, members_lie_inside};
 pub use layouts::{LayoutFault, Layouts};

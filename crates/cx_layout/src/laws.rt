@@ -1,0 +1,19 @@
+ghost use Rattle.std.specs.Prelude.{◌≡◌, ℕ, ◌*◌, ◌≤◌, ◌<◌, false, List};
+ghost use Rattle.cr_base.specs.declared.layout.Piece.{Piece};
+ghost use Rattle.cr_base.specs.declared.layout.Spot.{Spot};
+ghost use Rattle.cx_core.specs.Layouts.{CLayouts, CRow};
+ghost use Rattle.cx_core.specs.Trees.{CRecord};
+ghost use Rattle.cx_layout.specs.Places.{first_bit, end_bit, IsLaidOut, IsAt};
+
+/// Law: a member lies inside its record (ISO C99, 6.7.2.1).
+pub fn members_lie_inside()
+    ensures { (layouts : CLayouts) (one : CRecord) (row : CRow) (pieces : List Piece) (index : ℕ) (piece : Piece) (place : Spot)
+        → IsLaidOut layouts one row pieces → IsAt pieces row index piece place → end_bit place piece ≤ 8 * row.laid.size }
+{}
+
+/// Law: a member of a structure ends before the next ones begin (ISO C99, 6.7.2.1p13).
+pub fn members_do_not_overlap()
+    ensures { (layouts : CLayouts) (one : CRecord) (row : CRow) (pieces : List Piece) (index later : ℕ) (piece later_piece : Piece) (place later_place : Spot)
+        → IsLaidOut layouts one row pieces → one.is_union ≡ false → index < later
+        → IsAt pieces row index piece place → IsAt pieces row later later_piece later_place → end_bit place piece ≤ first_bit later_place }
+{}
