@@ -79,7 +79,7 @@ unlaid_falls start (suc j) (Some first ∷ rest) one old new found before now ot
 
 -- ---- one record more
 
-some_of : {X : Type 0} (o : Option X) → IsSome o → (x : X) × (o ≡ Some x)
+pub some_of : {X : Type 0} (o : Option X) → IsSome o → (x : X) × (o ≡ Some x)
 some_of None some = absurd cc
 some_of (Some x) some = (x, refl)
 
@@ -117,7 +117,7 @@ module _ (types : CTypes) (old new : CLayouts) (number : ℕ) (one : CRecord) (f
 
 -- ---- the whole
 
-layouts_are : (types : CTypes) → layouts_of types ≡ passes (completed_count types.records) types
+pub layouts_are : (types : CTypes) → layouts_of types ≡ passes (completed_count types.records) types
 unfolding layouts_of
 layouts_are types = refl
 

@@ -1,4 +1,5 @@
 pub mod Builds
+pub mod Completing
 pub mod Fronts
 pub mod Passes
 pub mod Pieces

@@ -1,5 +1,5 @@
 -- What the calls on layouts do (ISO C99, 6.5.3.4 and 6.7.2.1).
-use Rattle.std.specs.Prelude.{◌≡◌, ℕ, ◌≤◌, ◌<◌, nat_le, Bool, true, false, if◌then◌else◌, List, [], ◌∷◌, Option, None, Some, option_map, IsSome, IfSome, All, slice_get}
+use Rattle.std.specs.Prelude.{◌≡◌, ℕ, ◌≤◌, ◌<◌, nat_le, Bool, true, false, if◌then◌else◌, List, [], ◌∷◌, Option, None, Some, option_map, IsSome, IfSome, All, slice_get, slice_set}
 use Rattle.std.specs.Option.{option_and_then, option_flatten}
 use Rattle.cr_base.specs.declared.layout.Laid.{Laid}
 use Rattle.cr_base.specs.declared.layout.Spot.{Spot}
@@ -91,3 +91,8 @@ pub record HasTooLarge (types : CTypes) : Type 0 where
   pub one : CRecord
   pub completed : record_at types number ≡ Some one
   pub too_large : IsTooLarge (layouts_of types) one
+
+-- a record of a program is completed, that wasn't before
+pub record Completes (old : CTypes) (one : CRecord) (new : CTypes) : Type 0 where
+  pub incomplete : slice_get old.records one.number ≡ Some None
+  pub records_are : new.records ≡ slice_set old.records one.number (Some one)
