@@ -1,6 +1,7 @@
 pub mod Builds
 pub mod Completing
 pub mod Fronts
+pub mod Grounded
 pub mod Passes
 pub mod Pieces
 pub mod Place

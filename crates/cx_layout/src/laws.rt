@@ -3,7 +3,8 @@ ghost use Rattle.cr_base.specs.declared.layout.Piece.{Piece};
 ghost use Rattle.cr_base.specs.declared.layout.Spot.{Spot};
 ghost use Rattle.cx_core.specs.Layouts.{CLayouts, CRow};
 ghost use Rattle.cx_core.specs.Trees.{CRecord, CTypes};
-ghost use Rattle.cx_layout.specs.Calls.{AreLayoutsOf, AreAllLaidOut, AddsRecord, Completes};
+ghost use Rattle.cx_core.specs.ValidTypes.{AreTypes};
+ghost use Rattle.cx_layout.specs.Calls.{AreGrounded, AreLayoutsOf, AreAllLaidOut, AddsRecord, Completes};
 ghost use Rattle.cx_layout.specs.Places.{first_bit, end_bit, IsLaidOut, IsAt};
 
 /// Law: a member lies inside its record (ISO C99, 6.7.2.1).
@@ -25,4 +26,9 @@ pub fn adding_is_completing()
     ensures { (types new_types : CTypes) (one : CRecord) (layouts new_layouts : CLayouts)
         → Completes types one new_types → AreLayoutsOf types layouts → AreAllLaidOut types layouts → AddsRecord layouts one new_layouts
         → AreLayoutsOf new_types new_layouts × AreAllLaidOut new_types new_layouts }
+{}
+
+/// Law: no record of a typed unit or program holds itself or an incomplete type by value.
+pub fn types_are_grounded()
+    ensures { (types : CTypes) → AreTypes types → AreGrounded types }
 {}
