@@ -2,6 +2,7 @@ pub mod Agree
 mod CompatibleExamples
 pub mod Conversion
 mod ConversionExamples
+mod Examples
 pub mod Gathers
 pub mod GoodSets
 mod LayoutExamples

@@ -1,5 +1,6 @@
 pub mod Compatible
 pub mod Conversions
+pub mod Examples
 pub mod Externals
 pub mod Layouts
 pub mod Linked
