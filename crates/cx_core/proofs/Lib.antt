@@ -2,7 +2,8 @@ pub mod Agree
 mod CompatibleExamples
 pub mod Conversion
 mod ConversionExamples
-mod Examples
+mod Counterexamples
+pub mod Examples
 pub mod Gathers
 pub mod GoodSets
 mod LayoutExamples

@@ -2,6 +2,8 @@ ghost use Rattle.std.specs.Prelude.{◌≡◌, ℕ, true, Option, None};
 ghost use Rattle.cx_core.specs.declared.ty.Basic.{Basic};
 ghost use Rattle.cx_core.specs.Compatible.{AreCompatible};
 ghost use Rattle.cx_core.specs.Conversions.{promoted_basic, common_basic, is_promoted_basic};
+ghost use Rattle.cx_core.specs.Examples.{example};
+ghost use Rattle.cx_core.specs.Linked.{IsLinked};
 ghost use Rattle.cx_core.specs.Tables.{promotion_table, common_table};
 ghost use Rattle.cx_core.specs.Trees.{CTy, CTypes};
 
@@ -35,4 +37,9 @@ pub fn promotions_are_tabulated()
 pub fn conversions_are_tabulated()
     ensures { (first second : Basic) → is_promoted_basic first ≡ true → is_promoted_basic second ≡ true
         → common_basic first second ≡ common_table first second }
+{}
+
+/// Law: a program with records, bit-fields, pointers, a loop and calls is typed and linked.
+pub fn example_is_linked()
+    ensures { IsLinked example }
 {}
