@@ -107,7 +107,8 @@ part_1 = record { path = 1 ∷ 1 ∷ []; leads = refl }
 x_puts_typed : AreTypedPuts (home []) s_type x_puts
 x_puts_typed = (
   (number_put [] 2 (pos 1) s_type b_spot (search rules) part_b, (number_put [] 2 (pos 5) s_type (byte_at 4) (search rules) part_0, (number_put [] 2 (pos 7) s_type (byte_at 8) (search rules) part_1, tt))),
-  (omega arith, (omega arith, (omega arith, tt))))
+  (omega arith, (omega arith, (omega arith, tt))),
+)
 
 i_puts_typed : (scope : List ℕ) → AreTypedPuts (home scope) int_type i_puts
 i_puts_typed scope = ((number_put scope 4 (pos 0) int_type (byte_at 0) zero_in_int (record { path = []; leads = refl }), tt), (omega arith, tt))
@@ -133,19 +134,28 @@ first_typed : IsTyped (home sum_scope) first_at
 first_typed = (tt, (elements_lvalue, record { no_bits = refl; type_is = inr refl }))
 
 element_lvalue : IsLvalue (home sum_scope) element_at
-element_lvalue = (tt, tt, (
-  (tt, (first_typed, i_typed sum_scope 5 i_there, inr (inl (record { elements = (refl, int_complete); integer = refl; type_is = refl })))),
-  record { object = tt; pointer_is = refl }))
+element_lvalue = (
+  tt,
+  tt,
+  (
+    (tt, (first_typed, i_typed sum_scope 5 i_there, inr (inl (record { elements = (refl, int_complete); integer = refl; type_is = refl })))),
+    record { object = tt; pointer_is = refl },
+  ),
+)
 
 adds_typed : IsTyped (home sum_scope) adds_at
-adds_typed = (tt, (
-  i_lvalue sum_scope 5 i_there,
-  (tt, (element_lvalue, record { complete = int_complete; no_array = tt; type_is = refl })),
-  record {
-    modifiable = int_modifiable;
-    type_is = refl;
-    computed = inl (record { promoted = (refl, refl); common = refl; value_is = refl });
-  }))
+adds_typed = (
+  tt,
+  (
+    i_lvalue sum_scope 5 i_there,
+    (tt, (element_lvalue, record { complete = int_complete; no_array = tt; type_is = refl })),
+    record {
+      modifiable = int_modifiable;
+      type_is = refl;
+      computed = inl (record { promoted = (refl, refl); common = refl; value_is = refl });
+    },
+  ),
+)
 
 below_typed : IsTyped (home sum_scope) below_at
 below_typed = (tt, (i_typed sum_scope 5 i_there, number_typed sum_scope 5 (pos 2) two_in_int, inl (record { promoted = (refl, refl); right_is = refl; type_is = refl })))
@@ -156,9 +166,14 @@ sum_body = body_of (home []) int_type sum_function
 sum_typed : IsTypedStmt sum_body [] sum_function.body
 sum_typed = (
   (refl, record { no_linkage = refl; not_static = refl; here = refl; complete = int_complete }, tt),
-  ((tt, ((0, omega arith, refl), refl, record { named = refl; stored = i_puts_typed sum_scope })),
-  ((tt, ((below_typed, refl), (tt, ((tt, (adds_typed, record { plain = refl; allowed = tt })), refl)))),
-  ((tt, (i_typed sum_scope 6 i_there, int_complete, refl)), tt))))
+  (
+    (tt, ((0, omega arith, refl), refl, record { named = refl; stored = i_puts_typed sum_scope })),
+    (
+      (tt, ((below_typed, refl), (tt, ((tt, (adds_typed, record { plain = refl; allowed = tt })), refl)))),
+      ((tt, (i_typed sum_scope 6 i_there, int_complete, refl)), tt),
+    ),
+  ),
+)
 
 sum_defined : IsTypedFunction example None sum_function
 unfolding IsDistinct
@@ -168,11 +183,15 @@ sum_defined = record {
   definition = record {
     fixed = refl;
     result_complete = int_complete;
-    params_are = (refl, record {
-      object = record { no_linkage = refl; not_static = refl; here = refl; complete = to_s_complete };
-      named = refl;
-      type_is = refl;
-    }, tt);
+    params_are = (
+      refl,
+      record {
+        object = record { no_linkage = refl; not_static = refl; here = refl; complete = to_s_complete };
+        named = refl;
+        type_is = refl;
+      },
+      tt,
+    );
     labels_differ = tt;
     is_block = tt;
     body = sum_typed;
@@ -188,34 +207,54 @@ b_set_typed : IsTyped (home []) b_set
 b_set_typed = (tt, ((tt, tt, (x_lvalue 9, b_is)), number_typed [] 9 (pos 2) two_in_int, record { modifiable = int_modifiable; type_is = refl; value_is = refl }))
 
 sum_called : IsTyped (home []) sum_call
-sum_called = (tt, (
-  ((refl, (x_lvalue 10, record { no_bits = refl; type_is = inl refl })), tt),
-  (refl, record {
-    visible = sum_type;
-    compatible = compatible_reflexive s_types sum_type;
-    call = (refl, int_complete, (refl, tt));
-    outside = tt;
-  })))
+sum_called = (
+  tt,
+  (
+    ((refl, (x_lvalue 10, record { no_bits = refl; type_is = inl refl })), tt),
+    (
+      refl,
+      record {
+        visible = sum_type;
+        compatible = compatible_reflexive s_types sum_type;
+        call = (refl, int_complete, (refl, tt));
+        outside = tt;
+      },
+    ),
+  ),
+)
 
 putchar_external : IsExternalType s_types (codes "putchar") (form_of_type putchar_type)
 unfolding known_functions
 putchar_external = (inr refl, All-cons (IsOpaqueParam s_types) int_type [] (inr refl) (All-nil (IsOpaqueParam s_types)))
 
 putchar_called : IsTyped (home []) putchar_call
-putchar_called = (tt, (
-  (sum_called, tt),
-  (refl, record {
-    visible = putchar_type;
-    compatible = compatible_reflexive s_types putchar_type;
-    call = (refl, int_complete, (refl, tt));
-    outside = record { external = putchar_external; trailing = All-nil IsOpaqueTrailing };
-  })))
+putchar_called = (
+  tt,
+  (
+    (sum_called, tt),
+    (
+      refl,
+      record {
+        visible = putchar_type;
+        compatible = compatible_reflexive s_types putchar_type;
+        call = (refl, int_complete, (refl, tt));
+        outside = record { external = putchar_external; trailing = All-nil IsOpaqueTrailing };
+      },
+    ),
+  ),
+)
 
 main_typed : IsTypedStmt (body_of (home []) int_type main_function) [] main_function.body
-main_typed = (tt, (
-  (tt, ((tt, (b_set_typed, record { plain = refl; allowed = tt })), refl)),
-  ((tt, ((tt, (putchar_called, record { plain = refl; allowed = tt })), refl)),
-  ((tt, (number_typed [] 11 (pos 0) zero_in_int, int_complete, refl)), tt))))
+main_typed = (
+  tt,
+  (
+    (tt, ((tt, (b_set_typed, record { plain = refl; allowed = tt })), refl)),
+    (
+      (tt, ((tt, (putchar_called, record { plain = refl; allowed = tt })), refl)),
+      ((tt, (number_typed [] 11 (pos 0) zero_in_int, int_complete, refl)), tt),
+    ),
+  ),
+)
 
 main_defined : IsTypedFunction example None main_function
 unfolding IsDistinct

@@ -197,7 +197,7 @@ module _ (types : CTypes) (first second : CTy) where
         let rest = with_extends pairs more in
         let longer : new ≡ pairs ++ rest.0 = e ∙ rest.1 in
         let met : covers (in_pairs new) (needed_by_pair types pair) ≡ true =
-            ap (covers (in_pairs new)) same ∙ ap (λ p. list_all (counts_pair (in_pairs p)) more) e ∙ with_there pairs more in
+        ap (covers (in_pairs new)) same ∙ ap (λ p. list_all (counts_pair (in_pairs p)) more) e ∙ with_there pairs more in
         record {
           within = omega (arith, ap length longer, length-append pairs rest.0, slice_get_within pairs index pair found);
           meet = agree_needed types (in_pairs new) first second

@@ -3,8 +3,8 @@ ghost use Rattle.cx_core.specs.Compatible.{AreCompatible};
 ghost use Rattle.cx_core.specs.Needed.{needed, needed_by_pair, gathered, answer};
 ghost use Rattle.cx_core.specs.Views.{view_type, view_types};
 
-use crate::records::pair_meets;
 use crate::meets::types_meet;
+use crate::records::pair_meets;
 use crate::ty::{Ty, Types};
 use cr_base::{Items, Memory};
 use std::alloc::Global;

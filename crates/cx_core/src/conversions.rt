@@ -119,14 +119,38 @@ impl Basic {
     {
         match self {
             Basic::Truth => Scalar::Truth,
-            Basic::Char | Basic::SignedChar => Scalar::Whole { width: 8, signed: true },
-            Basic::UnsignedChar => Scalar::Whole { width: 8, signed: false },
-            Basic::Short => Scalar::Whole { width: 16, signed: true },
-            Basic::UnsignedShort => Scalar::Whole { width: 16, signed: false },
-            Basic::Int => Scalar::Whole { width: 32, signed: true },
-            Basic::Unsigned => Scalar::Whole { width: 32, signed: false },
-            Basic::Long | Basic::LongLong => Scalar::Whole { width: 64, signed: true },
-            Basic::UnsignedLong | Basic::UnsignedLongLong => Scalar::Whole { width: 64, signed: false },
+            Basic::Char | Basic::SignedChar => Scalar::Whole {
+                width: 8,
+                signed: true,
+            },
+            Basic::UnsignedChar => Scalar::Whole {
+                width: 8,
+                signed: false,
+            },
+            Basic::Short => Scalar::Whole {
+                width: 16,
+                signed: true,
+            },
+            Basic::UnsignedShort => Scalar::Whole {
+                width: 16,
+                signed: false,
+            },
+            Basic::Int => Scalar::Whole {
+                width: 32,
+                signed: true,
+            },
+            Basic::Unsigned => Scalar::Whole {
+                width: 32,
+                signed: false,
+            },
+            Basic::Long | Basic::LongLong => Scalar::Whole {
+                width: 64,
+                signed: true,
+            },
+            Basic::UnsignedLong | Basic::UnsignedLongLong => Scalar::Whole {
+                width: 64,
+                signed: false,
+            },
         }
     }
 

@@ -22,7 +22,11 @@ impl Ty {
 
     /// The array type of so many elements, or None where their number isn't known (ISO C99, 6.7.5.2).
     /// Refused only for want of memory.
-    pub fn array(alloc: Global, element: Boxed<Ty>, length: Option<u64>) -> Result<Boxed<Ty>, Memory>
+    pub fn array(
+        alloc: Global,
+        element: Boxed<Ty>,
+        length: Option<u64>,
+    ) -> Result<Boxed<Ty>, Memory>
         ensures { IfOk result (λ made. view_type made ≡ ty (array (view_type element) length) false) }
     {
         array_of(alloc, element, length, false)
@@ -30,7 +34,12 @@ impl Ty {
 
     /// The function type with this result, these parameters, and further arguments or not (ISO C99,
     /// 6.7.5.3). Refused only for want of memory.
-    pub fn function(alloc: Global, result_ty: Boxed<Ty>, params: Params, is_variadic: bool) -> Result<Boxed<Ty>, Memory>
+    pub fn function(
+        alloc: Global,
+        result_ty: Boxed<Ty>,
+        params: Params,
+        is_variadic: bool,
+    ) -> Result<Boxed<Ty>, Memory>
         ensures { IfOk result (λ made. view_type made ≡
             ty (function (view_type result_ty) (view_params params) is_variadic) false) }
     {
@@ -49,17 +58,35 @@ impl Ty {
             TyForm::Enum(number) => plain(alloc, TyForm::Enum(*number), is_const),
             TyForm::Record(number) => plain(alloc, TyForm::Record(*number), is_const),
             TyForm::Pointer(to) => copied_pointer(alloc, to.get(), to.get().copy(alloc), is_const),
-            TyForm::Array(element, length) => copied_array(alloc, element.get(), element.get().copy(alloc), *length, is_const),
+            TyForm::Array(element, length) => copied_array(
+                alloc,
+                element.get(),
+                element.get().copy(alloc),
+                *length,
+                is_const,
+            ),
             TyForm::Function(held) => {
                 let function = held.get();
                 let params = function.params.copy(alloc)?;
-                copied_function(alloc, &function.result_ty, function.result_ty.copy(alloc), params, function.is_variadic, is_const)
+                copied_function(
+                    alloc,
+                    &function.result_ty,
+                    function.result_ty.copy(alloc),
+                    params,
+                    function.is_variadic,
+                    is_const,
+                )
             }
         }
     }
 }
 
-fn array_of(alloc: Global, element: Boxed<Ty>, length: Option<u64>, is_const: bool) -> Result<Boxed<Ty>, Memory>
+fn array_of(
+    alloc: Global,
+    element: Boxed<Ty>,
+    length: Option<u64>,
+    is_const: bool,
+) -> Result<Boxed<Ty>, Memory>
     ensures { IfOk result (λ made. view_type made ≡ ty (array (view_type element) length) is_const) }
 {
     Boxed::new(
@@ -71,7 +98,13 @@ fn array_of(alloc: Global, element: Boxed<Ty>, length: Option<u64>, is_const: bo
     )
 }
 
-fn function_of(alloc: Global, result_ty: Boxed<Ty>, params: Params, is_variadic: bool, is_const: bool) -> Result<Boxed<Ty>, Memory>
+fn function_of(
+    alloc: Global,
+    result_ty: Boxed<Ty>,
+    params: Params,
+    is_variadic: bool,
+    is_const: bool,
+) -> Result<Boxed<Ty>, Memory>
     ensures { IfOk result (λ made. view_type made ≡
         ty (function (view_type result_ty) (view_params params) is_variadic) is_const) }
 {
@@ -93,7 +126,12 @@ fn function_of(alloc: Global, result_ty: Boxed<Ty>, params: Params, is_variadic:
 }
 
 // The pointer type to a type that was copied.
-fn copied_pointer(alloc: Global, _of: &Ty, copied: Result<Boxed<Ty>, Memory>, is_const: bool) -> Result<Boxed<Ty>, Memory>
+fn copied_pointer(
+    alloc: Global,
+    _of: &Ty,
+    copied: Result<Boxed<Ty>, Memory>,
+    is_const: bool,
+) -> Result<Boxed<Ty>, Memory>
     requires { IfOk copied (λ to. view_type to ≡ view_type _of.now) }
     ensures { IfOk result (λ made. view_type made ≡ ty (pointer (view_type _of.now)) is_const) }
 {
@@ -101,7 +139,13 @@ fn copied_pointer(alloc: Global, _of: &Ty, copied: Result<Boxed<Ty>, Memory>, is
 }
 
 // The array type with an element type that was copied.
-fn copied_array(alloc: Global, _of: &Ty, copied: Result<Boxed<Ty>, Memory>, length: Option<u64>, is_const: bool) -> Result<Boxed<Ty>, Memory>
+fn copied_array(
+    alloc: Global,
+    _of: &Ty,
+    copied: Result<Boxed<Ty>, Memory>,
+    length: Option<u64>,
+    is_const: bool,
+) -> Result<Boxed<Ty>, Memory>
     requires { IfOk copied (λ element. view_type element ≡ view_type _of.now) }
     ensures { IfOk result (λ made. view_type made ≡ ty (array (view_type _of.now) length) is_const) }
 {
@@ -109,7 +153,14 @@ fn copied_array(alloc: Global, _of: &Ty, copied: Result<Boxed<Ty>, Memory>, leng
 }
 
 // The function type with a result that was copied.
-fn copied_function(alloc: Global, _of: &Ty, copied: Result<Boxed<Ty>, Memory>, params: Params, is_variadic: bool, is_const: bool) -> Result<Boxed<Ty>, Memory>
+fn copied_function(
+    alloc: Global,
+    _of: &Ty,
+    copied: Result<Boxed<Ty>, Memory>,
+    params: Params,
+    is_variadic: bool,
+    is_const: bool,
+) -> Result<Boxed<Ty>, Memory>
     requires { IfOk copied (λ result_ty. view_type result_ty ≡ view_type _of.now) }
     ensures { IfOk result (λ made. view_type made ≡
         ty (function (view_type _of.now) (view_params params) is_variadic) is_const) }

@@ -17,8 +17,12 @@ mod unit;
 pub use compatibility::compatible;
 pub use conversions::{basic_of, promote, scalar_of, usual};
 pub use copies::copy_types;
-pub use laws::{common_is_promoted, compatible_is_reflexive, compatible_is_symmetric, conversions_are_tabulated, example_is_linked, promotion_gives_promoted, promotions_are_tabulated};
 pub use expr::{CoreExpr, Form, Op1, Op2, Put};
+pub use laws::{
+    common_is_promoted, compatible_is_reflexive, compatible_is_symmetric,
+    conversions_are_tabulated, example_is_linked, promotion_gives_promoted,
+    promotions_are_tabulated,
+};
 pub use program::{CoreObject, Fun, Linkage, Outer, Parts, Program};
 pub use stmt::{CoreStmt, StmtForm};
 pub use ty::{Basic, FunctionTy, Member, Params, RecordTag, RecordTy, Ty, TyForm, Types};

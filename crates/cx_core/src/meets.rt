@@ -12,7 +12,12 @@ use cr_base::{Items, Memory};
 
 // Whether two types can be compatible; the pairs of records that have to be so are put behind the others.
 #[cycle(meet)]
-pub(crate) fn types_meet(types: &Types, a: &Ty, b: &Ty, pairs: &mut Items<RecordPair>) -> Result<bool, Memory>
+pub(crate) fn types_meet(
+    types: &Types,
+    a: &Ty,
+    b: &Ty,
+    pairs: &mut Items<RecordPair>,
+) -> Result<bool, Memory>
     ensures { IfOk result (λ found. answer found pairs.new ≡
         gathered pairs.old (needed (view_types types.now) (view_type a.now) (view_type b.now))) }
 {
@@ -34,7 +39,12 @@ fn forms_meet(types: &Types, a: &Ty, b: &Ty, pairs: &mut Items<RecordPair>) -> R
         (TyForm::Basic(_), TyForm::Enum(_)) => Ok(meet_in_basic(types, a, b)),
         (TyForm::Enum(_), TyForm::Basic(_)) => Ok(meet_in_basic(types, a, b)),
         (TyForm::Enum(first), TyForm::Enum(second)) => Ok(enums_agree(types, *first, *second)),
-        (TyForm::Pointer(first), TyForm::Pointer(second)) => types_meet(types, first.get(), second.get(), pairs),
+        (TyForm::Pointer(first), TyForm::Pointer(second)) => types_meet(
+            types,
+            first.get(),
+            second.get(),
+            pairs,
+        ),
         (TyForm::Array(first, length), TyForm::Array(second, other_length)) => {
             if !lengths_agree(*length, *other_length) {
                 return Ok(false);
@@ -42,7 +52,12 @@ fn forms_meet(types: &Types, a: &Ty, b: &Ty, pairs: &mut Items<RecordPair>) -> R
             types_meet(types, first.get(), second.get(), pairs)
         }
         (TyForm::Record(first), TyForm::Record(second)) => pair_needed(*first, *second, pairs),
-        (TyForm::Function(first), TyForm::Function(second)) => functions_meet(types, first.get(), second.get(), pairs),
+        (TyForm::Function(first), TyForm::Function(second)) => functions_meet(
+            types,
+            first.get(),
+            second.get(),
+            pairs,
+        ),
         _ => Ok(false),
     }
 }
@@ -50,26 +65,49 @@ fn forms_meet(types: &Types, a: &Ty, b: &Ty, pairs: &mut Items<RecordPair>) -> R
 // The same of two function types.
 #[cycle(meet)]
 #[tactic(auto, using(crate::proofs::Gathers::gathered_met, crate::proofs::Gathers::gathered_none))]
-fn functions_meet(types: &Types, a: &FunctionTy, b: &FunctionTy, pairs: &mut Items<RecordPair>) -> Result<bool, Memory>
+fn functions_meet(
+    types: &Types,
+    a: &FunctionTy,
+    b: &FunctionTy,
+    pairs: &mut Items<RecordPair>,
+) -> Result<bool, Memory>
     ensures { IfOk result (λ found. answer found pairs.new ≡
         gathered pairs.old (needed_forms (view_types types.now) (view_function_type a.now) (view_function_type b.now))) }
 {
     if !types_meet(types, &a.result_ty, &b.result_ty, pairs)? {
         return Ok(false);
     }
-    let found = params_meet(types, &a.params, a.is_variadic, &b.params, b.is_variadic, pairs)?;
+    let found = params_meet(
+        types,
+        &a.params,
+        a.is_variadic,
+        &b.params,
+        b.is_variadic,
+        pairs,
+    )?;
     Ok(found)
 }
 
 #[cycle(meet)]
-fn params_meet(types: &Types, a: &Params, a_more: bool, b: &Params, b_more: bool, pairs: &mut Items<RecordPair>) -> Result<bool, Memory>
+fn params_meet(
+    types: &Types,
+    a: &Params,
+    a_more: bool,
+    b: &Params,
+    b_more: bool,
+    pairs: &mut Items<RecordPair>,
+) -> Result<bool, Memory>
     ensures { IfOk result (λ found. answer found pairs.new ≡
         gathered pairs.old (needed_params (view_types types.now) (view_params a.now) a_more (view_params b.now) b_more)) }
 {
     match (a, b) {
         (Params::Unlisted, Params::Unlisted) => Ok(true),
-        (Params::Unlisted, Params::Listed(params)) => Ok(!b_more && are_kept_by_promotions(params.as_slice())),
-        (Params::Listed(params), Params::Unlisted) => Ok(!a_more && are_kept_by_promotions(params.as_slice())),
+        (Params::Unlisted, Params::Listed(params)) => Ok(
+            !b_more && are_kept_by_promotions(params.as_slice()),
+        ),
+        (Params::Listed(params), Params::Unlisted) => Ok(
+            !a_more && are_kept_by_promotions(params.as_slice()),
+        ),
         (Params::Listed(first), Params::Listed(second)) => {
             if a_more != b_more {
                 return Ok(false);
@@ -80,7 +118,12 @@ fn params_meet(types: &Types, a: &Params, a_more: bool, b: &Params, b_more: bool
 }
 
 #[cycle(meet)]
-fn lists_meet(types: &Types, a: &[Ty], b: &[Ty], pairs: &mut Items<RecordPair>) -> Result<bool, Memory>
+fn lists_meet(
+    types: &Types,
+    a: &[Ty],
+    b: &[Ty],
+    pairs: &mut Items<RecordPair>,
+) -> Result<bool, Memory>
     ensures { IfOk result (λ found. answer found pairs.new ≡
         gathered pairs.old (needed_lists (view_types types.now) (types_of (map view_type a.now)) (types_of (map view_type b.now)))) }
 {

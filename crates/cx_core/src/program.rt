@@ -102,7 +102,12 @@ impl Model for Program {
 
 impl Program {
     /// The program of these parts, which are typed and linked.
-    pub fn new(types: Types, objects: Items<CoreObject>, functions: Items<Fun>, externals: Items<Outer>) -> Program
+    pub fn new(
+        types: Types,
+        objects: Items<CoreObject>,
+        functions: Items<Fun>,
+        externals: Items<Outer>,
+    ) -> Program
         requires { IsLinked (view_program (record {
           types = types;
           objects = objects;

@@ -12,7 +12,11 @@ use cr_base::{Items, Memory, Name};
 
 // Whether two records are of two units and can be compatible; the pairs of other records that have to be so are
 // put behind the others.
-pub(crate) fn pair_meets(types: &Types, pair: RecordPair, pairs: &mut Items<RecordPair>) -> Result<bool, Memory>
+pub(crate) fn pair_meets(
+    types: &Types,
+    pair: RecordPair,
+    pairs: &mut Items<RecordPair>,
+) -> Result<bool, Memory>
     ensures { IfOk result (λ found. answer found pairs.new ≡ gathered pairs.old (needed_by_pair (view_types types.now) pair)) }
 {
     if !of_two_units(types.record_units.as_slice(), pair.first, pair.second) {
@@ -56,7 +60,12 @@ fn record_with(types: &Types, number: u32) -> Option<&RecordTy>
 }
 
 // Whether the members of two records can correspond, where both are completed.
-fn contents_meet(types: &Types, is_union: bool, pair: RecordPair, pairs: &mut Items<RecordPair>) -> Result<bool, Memory>
+fn contents_meet(
+    types: &Types,
+    is_union: bool,
+    pair: RecordPair,
+    pairs: &mut Items<RecordPair>,
+) -> Result<bool, Memory>
     ensures { IfOk result (λ found. answer found pairs.new ≡ gathered pairs.old (needed_contents (view_types types.now) is_union
         (option_flatten (slice_get (view_types types.now).records pair.first))
         (option_flatten (slice_get (view_types types.now).records pair.second)))) }
@@ -68,13 +77,28 @@ fn contents_meet(types: &Types, is_union: bool, pair: RecordPair, pairs: &mut It
         return Ok(true);
     };
     if is_union {
-        meet_in_some_order(types, first.members.as_slice(), second.members.as_slice(), pairs)
+        meet_in_some_order(
+            types,
+            first.members.as_slice(),
+            second.members.as_slice(),
+            pairs,
+        )
     } else {
-        meet_in_order(types, first.members.as_slice(), second.members.as_slice(), pairs)
+        meet_in_order(
+            types,
+            first.members.as_slice(),
+            second.members.as_slice(),
+            pairs,
+        )
     }
 }
 
-fn members_meet(types: &Types, first: &Member, second: &Member, pairs: &mut Items<RecordPair>) -> Result<bool, Memory>
+fn members_meet(
+    types: &Types,
+    first: &Member,
+    second: &Member,
+    pairs: &mut Items<RecordPair>,
+) -> Result<bool, Memory>
     ensures { IfOk result (λ found. answer found pairs.new ≡
         gathered pairs.old (needed_members (view_types types.now) (view_member first.now) (view_member second.now))) }
 {
@@ -98,7 +122,12 @@ fn widths_agree(first: Option<u32>, second: Option<u32>) -> bool
 }
 
 // Whether the members of two structures can correspond in their order.
-fn meet_in_order(types: &Types, firsts: &[Member], seconds: &[Member], pairs: &mut Items<RecordPair>) -> Result<bool, Memory>
+fn meet_in_order(
+    types: &Types,
+    firsts: &[Member],
+    seconds: &[Member],
+    pairs: &mut Items<RecordPair>,
+) -> Result<bool, Memory>
     ensures { IfOk result (λ found. answer found pairs.new ≡ gathered pairs.old
         (needed_in_order (view_types types.now) (map view_member firsts.now) (map view_member seconds.now))) }
 {
@@ -116,7 +145,12 @@ fn meet_in_order(types: &Types, firsts: &[Member], seconds: &[Member], pairs: &m
 
 // Whether the members of two unions can correspond in some order.
 #[tactic(auto, using(crate::proofs::Gathers::gathered_none))]
-fn meet_in_some_order(types: &Types, firsts: &[Member], seconds: &[Member], pairs: &mut Items<RecordPair>) -> Result<bool, Memory>
+fn meet_in_some_order(
+    types: &Types,
+    firsts: &[Member],
+    seconds: &[Member],
+    pairs: &mut Items<RecordPair>,
+) -> Result<bool, Memory>
     ensures { IfOk result (λ found. answer found pairs.new ≡ gathered pairs.old
         (needed_in_some_order (view_types types.now) (map view_member firsts.now) (map view_member seconds.now))) }
 {
@@ -128,7 +162,13 @@ fn meet_in_some_order(types: &Types, firsts: &[Member], seconds: &[Member], pair
 }
 
 // Whether each member of a union can have its own in another; `back` where it is the second of two.
-fn partners_meet(types: &Types, back: bool, own: &[Member], others: &[Member], pairs: &mut Items<RecordPair>) -> Result<bool, Memory>
+fn partners_meet(
+    types: &Types,
+    back: bool,
+    own: &[Member],
+    others: &[Member],
+    pairs: &mut Items<RecordPair>,
+) -> Result<bool, Memory>
     ensures { IfOk result (λ found. answer found pairs.new ≡ gathered pairs.old
         (each (needed_by_one (view_types types.now) back (map view_member own.now) (map view_member others.now)) (map view_member own.now))) }
 {
@@ -141,7 +181,14 @@ fn partners_meet(types: &Types, back: bool, own: &[Member], others: &[Member], p
 }
 
 // Whether a member of a union can have its own in another.
-fn partner_meets(types: &Types, back: bool, own: &[Member], others: &[Member], one: &Member, pairs: &mut Items<RecordPair>) -> Result<bool, Memory>
+fn partner_meets(
+    types: &Types,
+    back: bool,
+    own: &[Member],
+    others: &[Member],
+    one: &Member,
+    pairs: &mut Items<RecordPair>,
+) -> Result<bool, Memory>
     ensures { IfOk result (λ found. answer found pairs.new ≡ gathered pairs.old
         (needed_by_one (view_types types.now) back (map view_member own.now) (map view_member others.now) (view_member one.now))) }
 {
@@ -154,7 +201,13 @@ fn partner_meets(types: &Types, back: bool, own: &[Member], others: &[Member], o
     }
 }
 
-fn members_meet_by(types: &Types, back: bool, one: &Member, other: &Member, pairs: &mut Items<RecordPair>) -> Result<bool, Memory>
+fn members_meet_by(
+    types: &Types,
+    back: bool,
+    one: &Member,
+    other: &Member,
+    pairs: &mut Items<RecordPair>,
+) -> Result<bool, Memory>
     ensures { IfOk result (λ found. answer found pairs.new ≡ gathered pairs.old
         (needed_partner (view_types types.now) back (view_member one.now) (Some (view_member other.now)))) }
 {

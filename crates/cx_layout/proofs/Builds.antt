@@ -132,9 +132,10 @@ built_below types layouts built number row is =
 large_by : (few many : CLayouts) (one : CRecord) (o : Option Laid) → record_extent few one ≡ o → Extends few many → IsTooLarge few one → IsTooLarge many one
 large_by few many one None same extends large = absurd (let h : IsSome {T = Laid} None = subst IsSome same large.0 in cc)
 large_by few many one (Some laid) same extends large =
-    let e : record_extent many one ≡ Some laid = record_more few many extends one laid same in
-    (subst IsSome (sym e) refl,
-    subst (λ o. IfSome o (λ l. most_bytes < l.size)) (same ∙ sym e) large.1)
+    let e : record_extent many one ≡ Some laid = record_more few many extends one laid same in (
+      subst IsSome (sym e) refl,
+      subst (λ o. IfSome o (λ l. most_bytes < l.size)) (same ∙ sym e) large.1,
+    )
 
 pub has_large : (types : CTypes) (layouts : CLayouts) (number : ℕ) (one : CRecord) → AreBuilt types layouts → record_at types number ≡ Some one → IsTooLarge layouts one → HasTooLarge types
 has_large types layouts number one built found large = record {

@@ -35,9 +35,9 @@ piece_align (Bits size width false) is = omega arith
 pub front_stays : (is_union : Bool) (pieces : List Piece) (index : ℕ) (front next : Front) (any : Piece) → index < length pieces → All IsPiece pieces → IsSome (laid_record is_union pieces) → IsFront front → after_all front (drop index pieces) ≡ after_all (no_front is_union) pieces → next ≡ after front (get_or pieces index any) → IsFront next
 front_stays is_union pieces index front next any within all some fine left step =
     let all_is : after_all next (drop (suc index) pieces) ≡ after_all (no_front is_union) pieces =
-        ap (λ f. after_all f (drop (suc index) pieces)) step ∙ sym (ap (after_all front) (drop-cons pieces index any within)) ∙ left in
+    ap (λ f. after_all f (drop (suc index) pieces)) step ∙ sym (ap (after_all front) (drop-cons pieces index any within)) ∙ left in
     let bits : next.bits ≤ 8 * most_bytes =
-        omega (arith, taken_grows (drop (suc index) pieces) next, ap (λ f. f.bits) all_is, fits_bits is_union pieces some) in
+    omega (arith, taken_grows (drop (suc index) pieces) next, ap (λ f. f.bits) all_is, fits_bits is_union pieces some) in
     let align : next.align ≡ max front.align (align_of (get_or pieces index any)) = ap (λ f. f.align) step in
     (bits, omega (arith, align), omega (arith, align, piece_align (get_or pieces index any) (All-get_or IsPiece pieces index any within all)))
 

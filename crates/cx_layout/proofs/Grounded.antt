@@ -214,19 +214,19 @@ module _ (types : CTypes) (are : AreTypes types) where
       let e : last.pass + suc extra ≡ suc (completed_count types.records) = omega (arith, last.below) in
       let f : suc last.pass + extra ≡ suc (completed_count types.records) = omega (arith, last.below) in
       let inner_early : late types (suc (completed_count types.records)) inner ≤ last.pass =
-          subst (λ n. late types n inner ≤ last.pass) e (early types last.pass (suc extra) inner some) in
+      subst (λ n. late types n inner ≤ last.pass) e (early types last.pass (suc extra) inner some) in
       let outer_late : last.pass < late types (suc (completed_count types.records)) number =
-          subst (λ n. last.pass < late types n number) f (later types last.pass extra number last.before) in
+      subst (λ n. last.pass < late types n number) f (later types last.pass extra number last.before) in
       omega arith
 
   is_grounded : (number : ℕ) (one : CRecord) → record_at types number ≡ Some one → IsGrounded types rank_of number one
   is_grounded number one found =
       let is = is_record number one found in
       let laid : IsSome (row_at (passes (completed_count types.records) types) number) =
-          subst (λ l. IsSome (row_at l number)) (layouts_are types) is.laid in
+      subst (λ l. IsSome (row_at l number)) (layouts_are types) is.laid in
       let last = last_pass types (completed_count types.records) number laid in
       let row : IsSome (row_of (passes last.pass types) one) =
-          subst IsSome (row_at-pass types (passes last.pass types) number ∙ ap (option_and_then (row_of (passes last.pass types))) found) last.after in
+      subst IsSome (row_at-pass types (passes last.pass types) number ∙ ap (option_and_then (row_of (passes last.pass types))) found) last.after in
       record {
         number_is = is.number_is;
         bits = fitting types (unit_of number one found).0 one.members is.members;

@@ -39,7 +39,7 @@ module _ {X : Type 0} (view : X → CMember) (layouts : CLayouts) (members : Lis
 pub member_has : {X : Type 0} (view : X → CMember) (members : List X) (index : ℕ) (P : CMember → Type 0) (member : X) → index < length members → member ≡ get_or members index member → All P (map view members) → P (view member)
 member_has view members index P member within is all =
     let e : get_or (map view members) index (view member) ≡ view member =
-        get_or-map view members index member (view member) within ∙ ap view (sym is) in
+    get_or-map view members index member (view member) within ∙ ap view (sym is) in
     let size : length (map view members) ≡ length members = simp length-map in
     subst P e (All-get_or P (map view members) index (view member) (omega arith) all)
 
@@ -63,7 +63,7 @@ module _ {X : Type 0} (view : X → CMember) (layouts : CLayouts) (members : Lis
   has_large front member within is all large left =
       let found = large_at (piece_of layouts (view member)) large in
       let rest_all : All (IsMemberComplete layouts) (map view (drop (index + 1) members)) =
-          subst (All (IsMemberComplete layouts)) (drop-map view (index + 1) members) (All-drop (IsMemberComplete layouts) (index + 1) (map view members) all) in
+      subst (All (IsMemberComplete layouts)) (drop-map view (index + 1) members) (All-drop (IsMemberComplete layouts) (index + 1) (map view members) all) in
       let rest = complete_pieces layouts (map view (drop (index + 1) members)) rest_all in
       record {
         front = front;
@@ -99,7 +99,7 @@ large_laid is_union front behind one large =
 too_large_by : (layouts : CLayouts) (one : CRecord) (found : Option (List Piece)) → pieces_of layouts one.members ≡ found → HasLarge found → IsTooLarge layouts one
 too_large_by layouts one found same has =
     let e : record_extent layouts one ≡ Some (laid_of one.is_union (has.front ++ has.one ∷ has.behind)) =
-        ap (option_map (laid_of one.is_union)) (same ∙ has.found_is) in
+    ap (option_map (laid_of one.is_union)) (same ∙ has.found_is) in
     (subst IsSome (sym e) refl, subst (λ o. IfSome o (λ laid. most_bytes < laid.size)) (sym e) (large_laid one.is_union has.front has.behind has.one has.large))
 
 pub large_is_too_large : (layouts : CLayouts) (one : CRecord) → HasLarge (pieces_of layouts one.members) → IsTooLarge layouts one

@@ -111,11 +111,11 @@ row_by : (is_union : Bool) (pieces : List Piece) (small : Bool) (row : CRow) →
     → row_with is_union pieces (laid_of is_union pieces) ≡ row
 row_by is_union pieces true row is same =
     let h : Some (row_with is_union pieces (laid_of is_union pieces)) ≡ Some row =
-        subst (λ b. option_map (row_with is_union pieces) (if b then Some (laid_of is_union pieces) else None) ≡ Some row) is same in
+    subst (λ b. option_map (row_with is_union pieces) (if b then Some (laid_of is_union pieces) else None) ≡ Some row) is same in
     cc
 row_by is_union pieces false row is same =
     let h : None ≡ Some row =
-        subst (λ b. option_map (row_with is_union pieces) (if b then Some (laid_of is_union pieces) else None) ≡ Some row) is same in
+    subst (λ b. option_map (row_with is_union pieces) (if b then Some (laid_of is_union pieces) else None) ≡ Some row) is same in
     absurd cc
 
 row_is_with : (layouts : CLayouts) (one : CRecord) (row : CRow) (pieces : List Piece) → IsLaidOut layouts one row pieces → row_with one.is_union pieces (laid_of one.is_union pieces) ≡ row

@@ -8,5 +8,7 @@ mod layouts;
 mod put;
 mod row;
 
-pub use laws::{adding_is_completing, members_do_not_overlap, members_lie_inside, types_are_grounded};
+pub use laws::{
+    adding_is_completing, members_do_not_overlap, members_lie_inside, types_are_grounded,
+};
 pub use layouts::{LayoutFault, Layouts};

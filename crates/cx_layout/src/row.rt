@@ -41,7 +41,11 @@ impl Row {
 }
 
 // Where the members of a record stand, in their order. The record isn't too large.
-pub(crate) fn spots_of(alloc: Global, is_union: bool, pieces: &[Piece]) -> Result<Items<Spot>, Memory>
+pub(crate) fn spots_of(
+    alloc: Global,
+    is_union: bool,
+    pieces: &[Piece],
+) -> Result<Items<Spot>, Memory>
     requires { All IsPiece pieces.now × IsSome (laid_record is_union pieces.now) }
     ensures { IfOk result (λ spots. spots ≡ spots_of is_union pieces.now) }
 {

@@ -19,9 +19,11 @@ returns-in_default c =
 
 pub returns-then-not-branch-2 : goal.returns-then-not-branch-2
 returns-then-not-branch-2 c =
-    let step = c.in_ok-pair_meets in
-    (λ h. absurd cc, λ other. absurd (never_by _ _ _ c.loop-index.pairs c.loop-index.index c.in-Some.found.now c.loop-index.invariant (sym c.in-Some.ensures.value)
-    (refused step.field-0 _ _ c.if-not-branch-2.true step.ensures) other))
+    let step = c.in_ok-pair_meets in (
+      λ h. absurd cc,
+      λ other. absurd (never_by _ _ _ c.loop-index.pairs c.loop-index.index c.in-Some.found.now c.loop-index.invariant (sym c.in-Some.ensures.value)
+          (refused step.field-0 _ _ c.if-not-branch-2.true step.ensures) other),
+    )
 
 pub loop-index-preserved : goal.loop-index-preserved
 loop-index-preserved c =

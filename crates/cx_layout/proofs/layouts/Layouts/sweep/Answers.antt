@@ -16,22 +16,22 @@ loop-found-preserved-in_default c =
 pub take-requires : goal.take-requires
 take-requires c =
     let found : record_at (view_types c.args.types.now) c.loop-found.found-index ≡ Some (view_record c.in-Some.one) =
-        ap (λ xs. option_flatten (slice_get (map (option_map view_record) xs) c.loop-found.found-index)) (sym c.as_slice-found-items.ensures)
-        ∙ record_found c.as_slice-found-items.result.now c.loop-found.found-index c.found-item.result c.in-Some.one c.loop-found-test.true c.found-item.is c.in-Some.is in
+    ap (λ xs. option_flatten (slice_get (map (option_map view_record) xs) c.loop-found.found-index)) (sym c.as_slice-found-items.ensures)
+    ∙ record_found c.as_slice-found-items.result.now c.loop-found.found-index c.found-item.result c.in-Some.one c.loop-found-test.true c.found-item.is c.in-Some.is in
     (c.requires.grounded.grounded c.loop-found.found-index (view_record c.in-Some.one) found).bits
 
 pub returns-in-Err-clause-too_large : goal.returns-in-Err-clause-too_large
 returns-in-Err-clause-too_large c = λ e.
     let found : record_at (view_types c.args.types.now) c.loop-found.found-index ≡ Some (view_record c.in-Some.one) =
-        ap (λ xs. option_flatten (slice_get (map (option_map view_record) xs) c.loop-found.found-index)) (sym c.as_slice-found-items.ensures)
-        ∙ record_found c.as_slice-found-items.result.now c.loop-found.found-index c.found-item.result c.in-Some.one c.loop-found-test.true c.found-item.is c.in-Some.is in
+    ap (λ xs. option_flatten (slice_get (map (option_map view_record) xs) c.loop-found.found-index)) (sym c.as_slice-found-items.ensures)
+    ∙ record_found c.as_slice-found-items.result.now c.loop-found.found-index c.found-item.result c.in-Some.one c.loop-found-test.true c.found-item.is c.in-Some.is in
     has_large (view_types c.args.types.now) c.loop-found.self c.loop-found.found-index (view_record c.in-Some.one) c.loop-found.invariant.built found (c.in-Err.ensures.too_large e)
 
 pub loop-found-preserved : goal.loop-found-preserved
 loop-found-preserved c =
     let found : record_at (view_types c.args.types.now) c.loop-found.found-index ≡ Some (view_record c.in-Some.one) =
-        ap (λ xs. option_flatten (slice_get (map (option_map view_record) xs) c.loop-found.found-index)) (sym c.as_slice-found-items.ensures)
-        ∙ record_found c.as_slice-found-items.result.now c.loop-found.found-index c.found-item.result c.in-Some.one c.loop-found-test.true c.found-item.is c.in-Some.is in
+    ap (λ xs. option_flatten (slice_get (map (option_map view_record) xs) c.loop-found.found-index)) (sym c.as_slice-found-items.ensures)
+    ∙ record_found c.as_slice-found-items.result.now c.loop-found.found-index c.found-item.result c.in-Some.one c.loop-found-test.true c.found-item.is c.in-Some.is in
     record_next _ _ c.loop-found.self c.take.new.self c.loop-found.added c.in-Ok.taken c.either-added.result c.loop-found.found-index (view_record c.in-Some.one) c.loop-found.invariant found
     (c.requires.grounded.grounded c.loop-found.found-index (view_record c.in-Some.one) found).number_is
     c.either-added.ensures c.in-Ok.ensures.taken c.in-Ok.ensures.passed
