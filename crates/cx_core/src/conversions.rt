@@ -37,10 +37,8 @@ pub fn scalar_of(t: &Ty, types: &Types) -> Option<Scalar>
     ensures { result ≡ scalar_of (view_types types.now) (form_of_type (view_type t.now)) }
 {
     match &t.form {
-        TyForm::Basic(which) => Some(which.scalar()),
-        TyForm::Enum(number) => scalar_of_enum(types, *number),
         TyForm::Pointer(to) => Some(scalar_of_pointer(to.get())),
-        _ => None,
+        _ => Some(basic_of(t, types)?.scalar()),
     }
 }
 
@@ -60,15 +58,6 @@ pub(crate) fn basic_of_enum(types: &Types, number: u32) -> Option<Basic>
     match types.enums.get(number as usize) {
         Some(&true) => Some(Basic::Int),
         Some(&false) => Some(Basic::Unsigned),
-        None => None,
-    }
-}
-
-fn scalar_of_enum(types: &Types, number: u32) -> Option<Scalar>
-    ensures { result ≡ option_map (λ is_int. scalar_of_basic (basic_of_enum is_int)) (slice_get (view_types types.now).enums number) }
-{
-    match basic_of_enum(types, number) {
-        Some(which) => Some(which.scalar()),
         None => None,
     }
 }
@@ -173,18 +162,10 @@ impl Basic {
     pub fn precision(self, width: Option<u32>) -> u32
         ensures { result ≡ precision self width }
     {
-        match width {
-            Some(bits) => self.without_sign(bits),
-            None => self.own_precision(),
-        }
-    }
-
-    fn own_precision(self) -> u32
-        ensures { result ≡ precision self None }
-    {
-        match self {
-            Basic::Truth => 1,
-            _ => self.without_sign(self.width()),
+        match (width, self) {
+            (Some(bits), _) => self.without_sign(bits),
+            (None, Basic::Truth) => 1,
+            (None, _) => self.without_sign(self.width()),
         }
     }
 

@@ -11,13 +11,7 @@ impl Ty {
     pub fn pointer(alloc: Global, to: Boxed<Ty>, is_const: bool) -> Result<Boxed<Ty>, Memory>
         ensures { IfOk result (λ made. view_type made ≡ ty (pointer (view_type to)) is_const) }
     {
-        Boxed::new(
-            alloc,
-            Ty {
-                form: TyForm::Pointer(to),
-                is_const,
-            },
-        )
+        boxed(alloc, TyForm::Pointer(to), is_const)
     }
 
     /// The array type of so many elements, or None where their number isn't known (ISO C99, 6.7.5.2).
@@ -29,7 +23,7 @@ impl Ty {
     ) -> Result<Boxed<Ty>, Memory>
         ensures { IfOk result (λ made. view_type made ≡ ty (array (view_type element) length) false) }
     {
-        array_of(alloc, element, length, false)
+        boxed(alloc, TyForm::Array(element, length), false)
     }
 
     /// The function type with this result, these parameters, and further arguments or not (ISO C99,
@@ -53,10 +47,10 @@ impl Ty {
     {
         let is_const = self.is_const;
         match &self.form {
-            TyForm::Void => plain(alloc, TyForm::Void, is_const),
-            TyForm::Basic(which) => plain(alloc, TyForm::Basic(*which), is_const),
-            TyForm::Enum(number) => plain(alloc, TyForm::Enum(*number), is_const),
-            TyForm::Record(number) => plain(alloc, TyForm::Record(*number), is_const),
+            TyForm::Void => boxed(alloc, TyForm::Void, is_const),
+            TyForm::Basic(which) => boxed(alloc, TyForm::Basic(*which), is_const),
+            TyForm::Enum(number) => boxed(alloc, TyForm::Enum(*number), is_const),
+            TyForm::Record(number) => boxed(alloc, TyForm::Record(*number), is_const),
             TyForm::Pointer(to) => copied_pointer(alloc, to.get(), to.get().copy(alloc), is_const),
             TyForm::Array(element, length) => copied_array(
                 alloc,
@@ -81,23 +75,6 @@ impl Ty {
     }
 }
 
-fn array_of(
-    alloc: Global,
-    element: Boxed<Ty>,
-    length: Option<u64>,
-    is_const: bool,
-) -> Result<Boxed<Ty>, Memory>
-    ensures { IfOk result (λ made. view_type made ≡ ty (array (view_type element) length) is_const) }
-{
-    Boxed::new(
-        alloc,
-        Ty {
-            form: TyForm::Array(element, length),
-            is_const,
-        },
-    )
-}
-
 fn function_of(
     alloc: Global,
     result_ty: Boxed<Ty>,
@@ -116,13 +93,7 @@ fn function_of(
             is_variadic,
         },
     )?;
-    Boxed::new(
-        alloc,
-        Ty {
-            form: TyForm::Function(function),
-            is_const,
-        },
-    )
+    boxed(alloc, TyForm::Function(function), is_const)
 }
 
 // The pointer type to a type that was copied.
@@ -149,7 +120,7 @@ fn copied_array(
     requires { IfOk copied (λ element. view_type element ≡ view_type _of.now) }
     ensures { IfOk result (λ made. view_type made ≡ ty (array (view_type _of.now) length) is_const) }
 {
-    array_of(alloc, copied?, length, is_const)
+    boxed(alloc, TyForm::Array(copied?, length), is_const)
 }
 
 // The function type with a result that was copied.
@@ -168,8 +139,8 @@ fn copied_function(
     function_of(alloc, copied?, params, is_variadic, is_const)
 }
 
-// A type that holds no other type.
-fn plain(alloc: Global, form: TyForm, is_const: bool) -> Result<Boxed<Ty>, Memory>
+// A type of this form.
+fn boxed(alloc: Global, form: TyForm, is_const: bool) -> Result<Boxed<Ty>, Memory>
     ensures { IfOk result (λ made. view_type made ≡ view_type (record { form = form; is_const = is_const })) }
 {
     Boxed::new(alloc, Ty { form, is_const })

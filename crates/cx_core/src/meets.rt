@@ -35,9 +35,6 @@ fn forms_meet(types: &Types, a: &Ty, b: &Ty, pairs: &mut Items<RecordPair>) -> R
 {
     match (&a.form, &b.form) {
         (TyForm::Void, TyForm::Void) => Ok(true),
-        (TyForm::Basic(first), TyForm::Basic(second)) => Ok(same_basic(*first, *second)),
-        (TyForm::Basic(_), TyForm::Enum(_)) => Ok(meet_in_basic(types, a, b)),
-        (TyForm::Enum(_), TyForm::Basic(_)) => Ok(meet_in_basic(types, a, b)),
         (TyForm::Enum(first), TyForm::Enum(second)) => Ok(enums_agree(types, *first, *second)),
         (TyForm::Pointer(first), TyForm::Pointer(second)) => types_meet(
             types,
@@ -58,7 +55,7 @@ fn forms_meet(types: &Types, a: &Ty, b: &Ty, pairs: &mut Items<RecordPair>) -> R
             second.get(),
             pairs,
         ),
-        _ => Ok(false),
+        _ => Ok(meet_in_basic(types, a, b)),
     }
 }
 

@@ -138,32 +138,4 @@ impl Program {
     {
         &self.parts
     }
-
-    /// Its record and enumerated types.
-    pub fn types(&self) -> &Types
-        ensures { result.now ≡ self.now.types }
-    {
-        &self.parts.types
-    }
-
-    /// Its objects in text order of their first declarations, unit by unit.
-    pub fn objects(&self) -> &[CoreObject]
-        ensures { result.now ≡ self.now.objects }
-    {
-        self.parts.objects.as_slice()
-    }
-
-    /// The functions that its units define, in text order, unit by unit.
-    pub fn functions(&self) -> &[Fun]
-        ensures { result.now ≡ self.now.functions }
-    {
-        self.parts.functions.as_slice()
-    }
-
-    /// The functions that are declared and that no unit defines, in text order, unit by unit.
-    pub fn externals(&self) -> &[Outer]
-        ensures { result.now ≡ self.now.externals }
-    {
-        self.parts.externals.as_slice()
-    }
 }
