@@ -1,14 +1,13 @@
 -- What types and records need of each other is just what makes them agree.
-use Rattle.std.proofs.Common.{◌≡◌, ℕ, ◌==◌, ◌&&◌, ◌||◌, nat_eq, Bool, true, false, not, List, [], ◌∷◌, ◌++◌, length, Option, None, Some, refl, sym, ap, ◌∙◌, subst, if◌then◌else◌, slice_get}
+use Rattle.std.proofs.Common.{◌≡◌, ℕ, ◌==◌, ◌&&◌, ◌||◌, Bool, true, false, List, [], ◌∷◌, Option, None, Some, refl, sym, ap, ◌∙◌, if◌then◌else◌, slice_get}
 use Rattle.std.proofs.Math.Bool.{and-true}
 use Rattle.std.proofs.lemmas.List.Folds.{list_all-append}
 use Rattle.std.specs.Bool.{beq}
-use Rattle.std.specs.List.{list_all, count_by}
-use Rattle.std.specs.Option.{option_flatten, is_none}
+use Rattle.std.specs.List.{list_all}
+use Rattle.std.specs.Option.{is_none}
 use Rattle.cx_core.specs.declared.compatibility.RecordPair.{RecordPair}
-use Rattle.cx_core.specs.Compatible.{agree, forms_agree, params_agree, lists_agree, correspond, in_order, has_partner, in_some_order, corresponds_to, named_as, members_agree, contents_agree, records_agree, pair_agrees, lengths_agree, are_kept_by_promotions, are_alike, names_agree, widths_agree, tags_agree, enums_agree, meet_in_basic, of_two_units}
-use Rattle.cx_core.specs.Conversions.{same_basic}
-use Rattle.cx_core.specs.Needed.{Need, when, only_if, with_both, both, pair_needed, each, pairwise, needed, needed_forms, needed_params, needed_lists, needed_members, needed_in_order, needed_partner, needed_by_one, needed_in_some_order, needed_by_members, needed_contents, needed_records, needed_by_pair}
+use Rattle.cx_core.specs.Compatible.{agree, forms_agree, params_agree, lists_agree, correspond, in_order, has_partner, corresponds_to, named_as, members_agree, contents_agree, records_agree, pair_agrees, lengths_agree, tags_agree, of_two_units}
+use Rattle.cx_core.specs.Needed.{Need, when, only_if, with_both, both, each, needed, needed_forms, needed_params, needed_lists, needed_members, needed_in_order, needed_partner, needed_by_one, needed_by_members, needed_contents, needed_records, needed_by_pair}
 use Rattle.cx_core.specs.Trees.{CTy, ty, CTyForm, void, basic, enum_type, pointer, array, record_type, function, CParams, unlisted, listed, CTys, no_types, more_types, CMember, CRecord, CRecordTag, CTypes}
 
 -- a pair counts

@@ -1,10 +1,10 @@
 -- Worked examples of compatible types, in one unit and in two.
-use Rattle.std.proofs.Common.{◌≡◌, ℕ, Bool, true, false, List, [], ◌∷◌, Option, Some, None, refl, codes, IsTrue}
+use Rattle.std.proofs.Common.{◌≡◌, ℕ, Bool, true, false, List, [], ◌∷◌, Option, Some, None, refl, codes}
 use Rattle.cx_core.specs.declared.compatibility.RecordPair.{RecordPair}
-use Rattle.cx_core.specs.declared.ty.Basic.TheVariants.{Char, Short, Int, Unsigned, Long}
-use Rattle.cx_core.specs.Compatible.{agree, is_good, in_pairs, pair_agrees, AreCompatible}
+use Rattle.cx_core.specs.declared.ty.Basic.TheVariants.{Char, Int, Unsigned, Long}
+use Rattle.cx_core.specs.Compatible.{agree, is_good, in_pairs, AreCompatible}
 use Rattle.cx_core.specs.Conversions.{same_basic as same}
-use Rattle.cx_core.specs.Trees.{CTy, ty, void, basic, enum_type, pointer, array, record_type, function, CParams, unlisted, listed, CTys, no_types, more_types, CMember, CRecord, CRecordTag, CTypes}
+use Rattle.cx_core.specs.Trees.{CTy, ty, basic, enum_type, pointer, array, record_type, function, unlisted, listed, CTys, no_types, more_types, CMember, CRecord, CRecordTag, CTypes}
 
 abbrev int_type : CTy
 int_type = ty (basic Int) false

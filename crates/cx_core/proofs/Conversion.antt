@@ -1,8 +1,8 @@
 -- The laws of the arithmetic conversions, by all their cases.
-use Rattle.std.proofs.Common.{◌≡◌, ℕ, Bool, true, false, Option, None, Some, refl, if◌then◌else◌}
+use Rattle.std.proofs.Common.{◌≡◌, ℕ, Bool, true, false, Option, None, refl, if◌then◌else◌}
 use Rattle.cx_core.specs.declared.ty.Basic.{Basic}
 use Rattle.cx_core.specs.declared.ty.Basic.TheVariants.{Truth, Char, SignedChar, UnsignedChar, Short, UnsignedShort, Int, Unsigned, Long, UnsignedLong, LongLong, UnsignedLongLong}
-use Rattle.cx_core.specs.Conversions.{promoted_basic, common_basic, is_promoted_basic, precision}
+use Rattle.cx_core.specs.Conversions.{promoted_basic, common_basic, is_promoted_basic}
 use Rattle.cx_core.specs.Tables.{promotion_table, common_table}
 
 int_or_unsigned : (b : Bool) → is_promoted_basic (if b then Int else Unsigned) ≡ true

@@ -1,9 +1,8 @@
 -- Worked examples of the arithmetic conversions.
-use Rattle.std.proofs.Common.{◌≡◌, ℕ, true, false, List, [], ◌∷◌, Some, None, refl}
-use Rattle.cx_core.specs.declared.ty.Basic.{Basic}
-use Rattle.cx_core.specs.declared.ty.Basic.TheVariants.{Truth, Char, SignedChar, UnsignedChar, Short, UnsignedShort, Int, Unsigned, Long, UnsignedLong, LongLong, UnsignedLongLong}
-use Rattle.cx_core.specs.Conversions.{promoted_basic, common_basic, promoted, common_type}
-use Rattle.cx_core.specs.Trees.{CTy, ty, basic, enum_type, pointer, void, CTypes}
+use Rattle.std.proofs.Common.{◌≡◌, true, false, [], ◌∷◌, Some, None, refl}
+use Rattle.cx_core.specs.declared.ty.Basic.TheVariants.{Truth, Char, UnsignedShort, Int, Unsigned, Long, UnsignedLong, LongLong, UnsignedLongLong}
+use Rattle.cx_core.specs.Conversions.{promoted_basic, common_basic, promoted}
+use Rattle.cx_core.specs.Trees.{ty, basic, enum_type, pointer, void, CTypes}
 
 -- `char`, `unsigned short` and `_Bool` are promoted to `int`, and `unsigned` stays
 char_promoted : promoted_basic Char None ≡ Int

@@ -1,16 +1,16 @@
 -- Trees that break a condition aren't typed.
-use Rattle.std.proofs.Common.{◌≡◌, ◌⊎◌, inl, inr, ℕ, ℤ, zero, suc, pos, ◌<◌, true, false, List, [], ◌∷◌, Option, Some, None, refl, ap, arith, codes}
+use Rattle.std.proofs.Common.{◌≡◌, inl, inr, ℕ, zero, suc, pos, true, false, List, [], ◌∷◌, Option, Some, None, refl, ap, arith, codes}
 use Rattle.std.proofs.lemmas.Int.{ints}
 use Rattle.std.specs.List.{Contains, IsDistinct}
 use Rattle.cx_core.specs.declared.expr.Op2.TheVariants.{Add, Less}
-use Rattle.cx_core.specs.declared.ty.Basic.TheVariants.{Truth, Char, Int, Unsigned, Long}
-use Rattle.cx_core.specs.Examples.{example, s_types, int_type, void_type, s_type, to_int, to_s, at_line, byte_at, b_spot, number_at, i_at, i_value_at, x_at, sum_type, putchar_type}
+use Rattle.cx_core.specs.declared.ty.Basic.TheVariants.{Truth, Char, Int, Unsigned}
+use Rattle.cx_core.specs.Examples.{example, s_types, int_type, void_type, to_int, at_line, byte_at, b_spot, number_at, i_at, x_at, sum_type}
 use Rattle.cx_core.specs.Layouts.{layouts_of}
 use Rattle.cx_core.specs.Linked.{home_of}
-use Rattle.cx_core.specs.Statements.{CBody, IsTypedStmt, IsSwitch, IsBegin}
-use Rattle.cx_core.specs.Trees.{CTy, ty, void, basic, pointer, array, function, unlisted, listed, no_types, more_types, CExpr, expr, whole, null, object, load, deref, member, address, convert, binary, assign, call, no_exprs, more_exprs, stmt, block, case, switch, expression, continue, break, goto, returns, begin, no_stmts, more_stmts}
-use Rattle.cx_core.specs.Typing.{CHome, IsTyped, IsLvalue, IsNamed, IsAddressOf, IsConversion, IsBinaryOf, IsAssignOf, IsStepOf, IsCallOf, IsLoadOf, IsPutOf}
-use Rattle.cx_core.specs.ValidTypes.{IsTypeIn, IsComplete, IsModifiable, holds_const, CPart, part_at}
+use Rattle.cx_core.specs.Statements.{CBody, IsTypedStmt, IsSwitch}
+use Rattle.cx_core.specs.Trees.{ty, basic, pointer, array, function, unlisted, listed, no_types, more_types, expr, member, binary, assign, no_exprs, more_exprs, stmt, block, case, expression, continue, break, goto, returns, begin, no_stmts, more_stmts}
+use Rattle.cx_core.specs.Typing.{CHome, IsTyped, IsNamed, IsAddressOf, IsConversion, IsBinaryOf, IsAssignOf, IsCallOf, IsLoadOf, IsPutOf}
+use Rattle.cx_core.specs.ValidTypes.{IsTypeIn, holds_const, CPart, part_at}
 
 abbrev home : CHome
 home = home_of example None 0

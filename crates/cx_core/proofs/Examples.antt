@@ -1,22 +1,18 @@
 -- The worked example is typed and linked, and trees that break a condition aren't.
-use Rattle.std.proofs.Common.{◌≡◌, ◌⊎◌, inl, inr, ℕ, ℤ, pos, ◌<◌, ◌≤◌, true, false, List, [], ◌∷◌, Some, None, IsSome, All, zero, suc, slice_get, subst, refl, sym, rules, arith, codes}
-use Rattle.std.proofs.lemmas.Int.{ints}
+use Rattle.std.proofs.Common.{◌≡◌, inl, inr, ℕ, ℤ, pos, true, List, [], ◌∷◌, Some, None, zero, suc, slice_get, subst, refl, rules, arith, codes}
 use Rattle.std.proofs.lemmas.List.Elements.{All-nil, All-cons}
 use Rattle.std.specs.List.{Contains, IsDistinct}
 use Rattle.cr_base.specs.Scalar.{IsInRange}
 use Rattle.cr_base.specs.declared.layout.Spot.{Spot}
 use Rattle.cr_base.specs.declared.scalar.Scalar.TheVariants.{Whole}
-use Rattle.cx_core.specs.declared.ty.Basic.TheVariants.{Int}
-use Rattle.cx_core.specs.Compatible.{AreCompatible}
-use Rattle.cx_core.specs.Conversions.{IsScalarType}
-use Rattle.cx_core.specs.Examples.{example, s_types, s_record, b_member, a_member, int_type, void_type, pair_type, s_type, to_int, to_s, at_line, byte_at, b_spot, number_at, i_at, i_value_at, p_at, elements_at, first_at, element_at, dropped_at, adds_at, below_at, x_at, b_set, sum_call, putchar_call, x_puts, i_puts, x_object, p_object, i_object, sum_stmts, sum_type, sum_function, main_stmts, main_type, main_function, putchar_type, putchar_outer}
+use Rattle.cx_core.specs.Examples.{example, s_types, s_record, b_member, a_member, int_type, pair_type, s_type, to_s, byte_at, b_spot, number_at, i_at, i_value_at, p_at, elements_at, first_at, element_at, adds_at, below_at, x_at, b_set, sum_call, putchar_call, x_puts, i_puts, x_object, p_object, i_object, sum_type, sum_function, main_function, putchar_type, putchar_outer}
 use Rattle.cx_core.specs.Externals.{known_functions, IsExternalType, IsOpaqueParam, IsOpaqueTrailing}
 use Rattle.cx_core.specs.Layouts.{layouts_of}
-use Rattle.cx_core.specs.Linked.{IsLinked, IsTypedObject, IsTypedFunction, IsTypedOuter, home_of}
-use Rattle.cx_core.specs.Statements.{CBody, body_of, IsTypedStmt, AreTypedStmts}
-use Rattle.cx_core.specs.Trees.{CTy, CExpr, expr, whole, object, load, put, form_of_type, CRecord, CProgram}
+use Rattle.cx_core.specs.Linked.{IsLinked, IsTypedObject, IsTypedFunction, IsTypedOuter}
+use Rattle.cx_core.specs.Statements.{CBody, body_of, IsTypedStmt}
+use Rattle.cx_core.specs.Trees.{CTy, put, form_of_type, CRecord}
 use Rattle.cx_core.specs.Typing.{CHome, IsTyped, IsLvalue, IsConstantOf, IsNamed, IsTypedPut, AreTypedPuts}
-use Rattle.cx_core.specs.ValidTypes.{IsTypeIn, IsComplete, IsPartOf, IsMemberOf, IsModifiable, holds_const, AreTypes, IsRecordIn, IsMemberIn}
+use Rattle.cx_core.specs.ValidTypes.{IsTypeIn, IsComplete, IsPartOf, IsMemberOf, IsModifiable, holds_const, IsRecordIn, IsMemberIn}
 use Rattle.cx_core.proofs.Relation.{compatible_reflexive}
 
 -- where a body of the unit stands, with these objects

@@ -1,15 +1,15 @@
 -- The pairs that are gathered from two types on are the least good set under which they agree; where none is found, there is no
 -- good set at all.
-use Rattle.std.proofs.Common.{◌≡◌, ℕ, zero, suc, ◌+◌, ◌<◌, ◌≤◌, ◌==◌, ◌&&◌, ◌||◌, Bool, true, false, List, [], ◌∷◌, ◌++◌, length, take, get_or, Option, None, Some, IsTrue, refl, sym, ap, ◌∙◌, subst, slice_get, ⊎_elim, ◌⊎◌, inl, inr, if◌then◌else◌, arith, add-one, length-append, append_assoc, append-nil}
+use Rattle.std.proofs.Common.{◌≡◌, ℕ, zero, suc, ◌+◌, ◌<◌, ◌≤◌, ◌==◌, ◌&&◌, Bool, true, false, List, [], ◌∷◌, ◌++◌, length, take, get_or, None, Some, refl, sym, ap, ◌∙◌, subst, slice_get, ⊎_elim, ◌⊎◌, inl, inr, if◌then◌else◌, arith, add-one, length-append, append_assoc, append-nil}
 use Rattle.std.proofs.Math.Seq.{take-suc, take-length}
 use Rattle.std.proofs.lemmas.Bool.{and_from, and_parts, or_left, or_right, or_cases, eqb-true}
 use Rattle.std.proofs.lemmas.Bool.Decides.{nat_tests}
 use Rattle.std.proofs.lemmas.List.{take-append-le}
 use Rattle.std.proofs.lemmas.List.Folds.{list_all-append, list_any-append}
 use Rattle.std.proofs.lemmas.Option.{slice_get_within, get_or_from_slice_get, slice_get_cases}
-use Rattle.std.specs.List.{list_all, list_any}
+use Rattle.std.specs.List.{list_all}
 use Rattle.cx_core.specs.declared.compatibility.RecordPair.{RecordPair}
-use Rattle.cx_core.specs.Compatible.{agree, pair_agrees, in_pairs, is_good, AreCompatible}
+use Rattle.cx_core.specs.Compatible.{agree, pair_agrees, in_pairs, AreCompatible}
 use Rattle.cx_core.specs.Needed.{Need, needed, needed_by_pair, with_pair, with_pairs, gathered}
 use Rattle.cx_core.specs.Trees.{CTy, CTypes}
 use Rattle.cx_core.proofs.Agree.{counts_pair, covers, agree_needed, pair_needed_is}

@@ -1,10 +1,9 @@
 -- Worked examples of the layouts of records that hold each other. The values are those of gcc on x86-64.
 use Rattle.std.proofs.Common.{◌≡◌, ℕ, true, false, List, [], ◌∷◌, Option, Some, None, refl, codes}
 use Rattle.cr_base.specs.declared.layout.Spot.{Spot}
-use Rattle.cr_base.specs.declared.layout.Laid.{Laid}
-use Rattle.cx_core.specs.declared.ty.Basic.TheVariants.{Truth, Char, Short, Int, Unsigned, Long}
+use Rattle.cx_core.specs.declared.ty.Basic.TheVariants.{Char, Short, Int}
 use Rattle.cx_core.specs.Layouts.{CRow, extent, layouts_of}
-use Rattle.cx_core.specs.Trees.{CTy, ty, basic, enum_type, pointer, array, record_type, void, CMember, CRecord, CTypes}
+use Rattle.cx_core.specs.Trees.{CTy, ty, basic, pointer, array, record_type, CMember, CRecord, CTypes}
 use Rattle.cx_core.specs.ValidTypes.{part_at, holds_const}
 
 abbrev named : List ℕ → CTy → CMember

@@ -1,9 +1,9 @@
 -- Compatibility is reflexive and symmetric.
-use Rattle.std.proofs.Common.{◌≡◌, ℕ, ◌==◌, ◌&&◌, ◌||◌, Bool, true, false, not, List, [], ◌∷◌, length, map, Option, None, Some, IsTrue, refl, sym, ap, ◌∙◌, subst, slice_get, arith, if◌then◌else◌}
+use Rattle.std.proofs.Common.{◌≡◌, ℕ, ◌==◌, ◌&&◌, ◌||◌, Bool, true, false, not, List, [], ◌∷◌, map, Option, None, Some, refl, sym, ap, ◌∙◌, slice_get, arith, if◌then◌else◌}
 use Rattle.std.proofs.lemmas.Bool.{and_from, and_parts, or_left}
 use Rattle.std.proofs.lemmas.Bool.Decides.{nat_tests}
 use Rattle.std.specs.Bool.{beq}
-use Rattle.std.specs.List.{list_all, list_any, count_by}
+use Rattle.std.specs.List.{list_all}
 use Rattle.cx_core.specs.declared.compatibility.RecordPair.{RecordPair}
 use Rattle.cx_core.specs.declared.ty.Basic.{Basic}
 use Rattle.cx_core.specs.declared.ty.Basic.TheVariants.{Truth, Char, SignedChar, UnsignedChar, Short, UnsignedShort, Int, Unsigned, Long, UnsignedLong, LongLong, UnsignedLongLong}
@@ -12,7 +12,7 @@ use Rattle.std.proofs.lemmas.Cmp.{nat_eq_equiv, nat_list_eq_equiv}
 use Rattle.std.specs.Cmp.{bool_eq_equiv}
 use Rattle.std.specs.Cmp.Lexicographic.{options_equiv}
 use Rattle.std.specs.Option.{option_flatten, is_none}
-use Rattle.cx_core.specs.Compatible.{agree, correspond, corresponds_to, in_order, has_partner, named_as, contents_agree, tags_agree, records_agree, pair_agrees, names_agree, widths_agree, are_of_two, forms_agree, params_agree, lists_agree, in_pairs, is_good, AreCompatible, lengths_agree, are_kept_by_promotions, enums_agree, meet_in_basic, same_basics, of_two_units}
+use Rattle.cx_core.specs.Compatible.{agree, correspond, corresponds_to, in_order, has_partner, named_as, contents_agree, tags_agree, records_agree, pair_agrees, names_agree, widths_agree, are_of_two, forms_agree, params_agree, lists_agree, in_pairs, AreCompatible, lengths_agree, enums_agree, same_basics}
 use Rattle.cx_core.specs.Conversions.{same_basic, basic_of}
 use Rattle.cx_core.specs.Trees.{CTy, ty, CTyForm, void, basic, enum_type, pointer, array, record_type, function, CParams, unlisted, listed, CTys, no_types, more_types, CMember, CRecord, CRecordTag, CTypes}
 

@@ -1,5 +1,5 @@
 -- Compatible types (ISO C99, 6.2.7, 6.7.2.2p4, 6.7.3p9, 6.7.5.1p2, 6.7.5.2p6 and 6.7.5.3p15).
-use Rattle.std.specs.Prelude.{◌≡◌, ℕ, ◌==◌, ◌&&◌, ◌||◌, not, nat_lt, Bool, true, false, if◌then◌else◌, List, [], ◌∷◌, Option, None, Some, IsTrue, slice_get, is_none}
+use Rattle.std.specs.Prelude.{ℕ, ◌==◌, ◌&&◌, ◌||◌, not, Bool, true, false, if◌then◌else◌, List, [], ◌∷◌, Option, None, Some, IsTrue, slice_get, is_none}
 use Rattle.std.specs.Bool.{beq}
 use Rattle.std.specs.List.{list_all, list_any, count_by}
 use Rattle.std.specs.Option.{option_eq, option_flatten}

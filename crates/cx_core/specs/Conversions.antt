@@ -1,5 +1,5 @@
 -- Integer types and the arithmetic conversions (ISO C99, 6.2.5, 6.3.1.1 and 6.3.1.8).
-use Rattle.std.specs.Prelude.{◌≡◌, ℕ, ◌-◌, ◌==◌, ◌&&◌, nat_le, Bool, true, false, if◌then◌else◌, Option, None, Some, option_map, IsSome, slice_get}
+use Rattle.std.specs.Prelude.{◌≡◌, ℕ, ◌-◌, nat_le, Bool, true, false, if◌then◌else◌, Option, None, Some, option_map, IsSome, slice_get}
 use Rattle.std.specs.Bool.{beq}
 use denote.Enum.Bare.{sameb}
 use Rattle.cr_base.specs.declared.scalar.Scalar.{Scalar}

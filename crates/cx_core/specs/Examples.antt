@@ -1,11 +1,11 @@
 -- A worked example of a typed program.
-use Rattle.std.specs.Prelude.{ℕ, ℤ, pos, true, false, [], ◌∷◌, Some, None, codes}
+use Rattle.std.specs.Prelude.{ℕ, ℤ, pos, false, [], ◌∷◌, Some, None, codes}
 use Rattle.cr_base.specs.declared.layout.Spot.{Spot}
 use Rattle.cr_base.specs.declared.refusal.Place.{Place}
 use Rattle.cx_core.specs.declared.expr.Op2.TheVariants.{Add, Less}
 use Rattle.cx_core.specs.declared.program.Linkage.TheVariants.{External, Internal, Nothing}
 use Rattle.cx_core.specs.declared.ty.Basic.TheVariants.{Int}
-use Rattle.cx_core.specs.Trees.{CTy, ty, void, basic, pointer, array, record_type, function, listed, no_types, more_types, CExpr, expr, CForm, whole, object, load, deref, member, address, convert, binary, assign, assign_by, call, no_exprs, more_exprs, CPut, put, CPuts, no_puts, more_puts, CStmt, stmt, CStmtForm, block, expression, while, returns, begin, CStmts, no_stmts, more_stmts, CMember, CRecord, CTypes, CObject, CFun, COuter, CProgram}
+use Rattle.cx_core.specs.Trees.{CTy, ty, void, basic, pointer, array, record_type, function, listed, no_types, more_types, CExpr, expr, whole, object, load, deref, member, address, convert, binary, assign, assign_by, call, no_exprs, more_exprs, put, CPuts, no_puts, more_puts, CStmt, stmt, block, expression, while, returns, begin, CStmts, no_stmts, more_stmts, CMember, CRecord, CTypes, CObject, CFun, COuter, CProgram}
 
 -- the program of one unit:
 --

@@ -1,11 +1,11 @@
 -- External functions of the profile: those whose meaning is known, with their types (ISO C99, 7.20.3, 7.20.4 and 7.21), and
 -- opaque ones. A type without parameter list counts here as one without parameters.
-use Rattle.std.specs.Prelude.{◌≡◌, ◌⊎◌, ℕ, Bool, true, false, List, [], ◌∷◌, map, Option, None, Some, codes, All}
+use Rattle.std.specs.Prelude.{◌≡◌, ◌⊎◌, ℕ, true, false, List, [], ◌∷◌, map, Option, None, Some, codes, All}
 use Rattle.std.specs.List.{find}
 use Rattle.std.specs.Str.{bytes_eq}
 use Rattle.cx_core.specs.declared.ty.Basic.TheVariants.{Char, SignedChar, UnsignedChar, Int, UnsignedLong}
 use Rattle.cx_core.specs.Conversions.{IsIntegerType, IsPromoted}
-use Rattle.cx_core.specs.Trees.{CTy, ty, CTyForm, void, basic, enum_type, pointer, array, record_type, function, CParams, unlisted, listed, types_in, form_of_type, unqualified, CTypes}
+use Rattle.cx_core.specs.Trees.{CTy, ty, CTyForm, void, basic, pointer, function, CParams, unlisted, listed, types_in, form_of_type, unqualified, CTypes}
 
 -- a function type without qualifiers of its result and its parameters
 pub record CSignature : Type 0 where

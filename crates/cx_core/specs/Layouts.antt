@@ -1,6 +1,6 @@
 -- Sizes and alignments of the types of a program, and where the members of its records stand (ISO C99, 6.2.6.1, 6.5.3.4
 -- and 6.7.2.1; in the manner of the System V ABI for x86-64).
-use Rattle.std.specs.Prelude.{ℕ, zero, suc, ◌*◌, ◌/◌, nat_le, Bool, true, false, if◌then◌else◌, List, [], ◌∷◌, map, Option, None, Some, option_map, is_some, slice_get, slice_set, length}
+use Rattle.std.specs.Prelude.{ℕ, zero, suc, ◌*◌, ◌/◌, nat_le, Bool, if◌then◌else◌, List, [], ◌∷◌, map, Option, None, Some, option_map, is_some, slice_get, length}
 use Rattle.std.specs.Option.{option_and_then, option_flatten}
 use Rattle.cr_base.specs.declared.layout.Laid.{Laid}
 use Rattle.cr_base.specs.declared.layout.Piece.{Piece}

@@ -1,12 +1,12 @@
 -- Typed units, and programs that are typed and linked (ISO C99, 5.1.2.2.1, 6.2.2, 6.2.4, 6.7.8 and 6.9).
-use Rattle.std.specs.Prelude.{◌≡◌, ◌⊎◌, ℕ, ◌&&◌, Bool, true, false, eqb, List, [], ◌∷◌, ◌++◌, map, Option, Some, None, if◌then◌else◌, IfSome, IsSome, codes, bytes_eq, All}
+use Rattle.std.specs.Prelude.{◌≡◌, ℕ, ◌&&◌, Bool, true, false, eqb, List, [], ◌∷◌, ◌++◌, map, Option, Some, None, if◌then◌else◌, IfSome, IsSome, codes, bytes_eq, All}
 use Rattle.std.specs.List.{IsDistinct, find}
 use Rattle.cx_core.specs.declared.program.Linkage.{Linkage}
 use Rattle.cx_core.specs.declared.program.Linkage.TheVariants.{External, Internal, Nothing}
 use Rattle.cx_core.specs.declared.ty.Basic.TheVariants.{Char, Int}
 use Rattle.cx_core.specs.Externals.{IsExternalType}
 use Rattle.cx_core.specs.Statements.{objects_in, IsDefinitionOf}
-use Rattle.cx_core.specs.Trees.{CTy, ty, CTyForm, basic, array, function, CParams, unlisted, listed, no_types, form_of_type, CPuts, CTypes, CObject, CFun, COuter, CProgram, CDoes, declares, defines, CMention, CUnit}
+use Rattle.cx_core.specs.Trees.{CTy, CTyForm, basic, array, function, CParams, unlisted, listed, no_types, form_of_type, CPuts, CTypes, CObject, CFun, COuter, CProgram, CDoes, declares, defines, CMention, CUnit}
 use Rattle.cx_core.specs.Typing.{CHome, IsMentionedIn, AreTypedPuts, AreConstantPuts}
 use Rattle.cx_core.specs.ValidTypes.{IsTypeIn, IsObjectForm, IsComplete, AreTypes}
 

@@ -1,8 +1,8 @@
 -- The pairs of different records that have to be compatible so that two types, or two records, are; and how they are gathered.
 -- Named by the contracts of `compatible`'s parts alone.
-use Rattle.std.specs.Prelude.{ℕ, ◌==◌, ◌&&◌, not, Bool, true, false, if◌then◌else◌, List, [], ◌∷◌, ◌++◌, length, Option, None, Some, slice_get, is_none, option_map}
+use Rattle.std.specs.Prelude.{ℕ, ◌==◌, ◌&&◌, not, Bool, true, false, if◌then◌else◌, List, [], ◌∷◌, ◌++◌, Option, None, Some, slice_get, is_none, option_map}
 use Rattle.std.specs.Bool.{beq}
-use Rattle.std.specs.List.{list_all, count_by}
+use Rattle.std.specs.List.{count_by}
 use Rattle.std.specs.Option.{option_and_then, option_flatten}
 use Rattle.cx_core.specs.declared.compatibility.RecordPair.{RecordPair}
 use Rattle.cx_core.specs.Compatible.{of_two_units, meet_in_basic, enums_agree, lengths_agree, are_kept_by_promotions, names_agree, widths_agree, named_as, are_alike, tags_agree, in_pairs}

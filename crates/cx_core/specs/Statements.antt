@@ -1,12 +1,11 @@
 -- Typed statements and functions (ISO C99, 6.8 and 6.9.1).
-use Rattle.std.specs.Prelude.{◌≡◌, ◌⊎◌, ℕ, zero, suc, ◌+◌, ◌≤◌, ◌==◌, ℤ, Bool, true, false, ◌||◌, List, [], ◌∷◌, ◌++◌, map, Option, Some, None, IfSome, IsSome, IsTrue, ◌&&◌, bytes_eq}
+use Rattle.std.specs.Prelude.{◌≡◌, ◌⊎◌, ℕ, ◌+◌, ◌≤◌, ℤ, Bool, true, false, ◌||◌, List, [], ◌∷◌, ◌++◌, Option, Some, None, IfSome, IsSome, IsTrue, ◌&&◌, bytes_eq}
 use Rattle.std.specs.List.{Contains, IsDistinct}
 use Rattle.std.specs.Ordering.{int_eq}
 use Rattle.cr_base.specs.Scalar.{IsInRange}
-use Rattle.cx_core.specs.declared.program.Linkage.{Linkage}
-use Rattle.cx_core.specs.declared.program.Linkage.TheVariants.{External, Internal, Nothing}
+use Rattle.cx_core.specs.declared.program.Linkage.TheVariants.{Nothing}
 use Rattle.cx_core.specs.Conversions.{scalar_of, IsPromoted, IsScalarType}
-use Rattle.cx_core.specs.Trees.{CTy, ty, CTyForm, void, function, CParams, unlisted, listed, CTys, no_types, more_types, form_of_type, unqualified, CExpr, type_of, CPuts, CStmt, stmt, CStmtForm, label, case, default, block, expression, if_then, switch, while, do_while, for_loop, goto, continue, break, returns, begin, COtherwise, no_else, else_do, CStmts, no_stmts, more_stmts, CObject, CFun}
+use Rattle.cx_core.specs.Trees.{CTy, CTyForm, void, function, CParams, unlisted, listed, CTys, no_types, more_types, form_of_type, unqualified, CExpr, type_of, CPuts, CStmt, stmt, CStmtForm, label, case, default, block, expression, if_then, switch, while, do_while, for_loop, goto, continue, break, returns, begin, COtherwise, no_else, else_do, CStmts, no_stmts, more_stmts, CObject, CFun}
 use Rattle.cx_core.specs.Typing.{CHome, types_of_home, object_with, IsTyped, AreTypedPuts, IsResult}
 use Rattle.cx_core.specs.ValidTypes.{IsComplete}
 

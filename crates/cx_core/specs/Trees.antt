@@ -1,5 +1,5 @@
 -- The typed program as plain trees, without memory. All that is defined of programs is defined of these.
-use Rattle.std.specs.Prelude.{ℕ, ℤ, Bool, true, false, List, [], ◌∷◌, Option, Some, None}
+use Rattle.std.specs.Prelude.{ℕ, ℤ, Bool, false, List, [], ◌∷◌, Option}
 use Rattle.cr_base.specs.declared.layout.Spot.{Spot}
 use Rattle.cr_base.specs.declared.refusal.Place.{Place}
 use Rattle.cx_core.specs.declared.expr.Op1.{Op1}

@@ -9,7 +9,7 @@ use Rattle.cx_core.specs.declared.ty.Basic.{Basic}
 use Rattle.cx_core.specs.declared.ty.Basic.TheVariants.{Truth, Int}
 use Rattle.cx_core.specs.Conversions.{basic_of, rank, width_of_basic, IsIntegerType}
 use Rattle.cx_core.specs.Layouts.{CRow, extent, layouts_of, row_at, completed_count}
-use Rattle.cx_core.specs.Trees.{CTy, ty, CTyForm, void, basic, enum_type, pointer, array, record_type, function, CParams, unlisted, listed, CTys, no_types, more_types, form_of_type, is_const_type, CMember, CRecord, CRecordTag, CTypes}
+use Rattle.cx_core.specs.Trees.{CTy, ty, CTyForm, void, basic, enum_type, pointer, array, record_type, function, CParams, unlisted, listed, CTys, no_types, more_types, form_of_type, is_const_type, CMember, CRecord, CTypes}
 
 -- ---- types
 

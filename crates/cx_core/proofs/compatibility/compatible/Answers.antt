@@ -1,4 +1,4 @@
-use Rattle.std.proofs.Common.{◌≡◌, ◌≤◌, arith, sym, refl}
+use Rattle.std.proofs.Common.{arith, sym, refl}
 use Rattle.cx_core.proofs.Gathers.{answered, refused}
 use Rattle.cx_core.proofs.GoodSets.{begins, never, never_by, goes, ends, past_end}
 use Rattle.cx_core.proofs.compatibility.compatible.Goals as goal

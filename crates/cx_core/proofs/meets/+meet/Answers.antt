@@ -1,8 +1,8 @@
-use Rattle.std.proofs.Common.{rules, ◌≡◌, ◌∙◌, ◌<◌, ◌≤◌, Bool, arith, ap, sym, IfOk, map}
+use Rattle.std.proofs.Common.{◌∙◌, arith, ap, sym, map}
 use Rattle.std.proofs.lemmas.Bool.Decides.{nat_tests}
 use Rattle.cx_core.proofs.Gathers.{gathered_met, functions_need, answered, refused, pairwise_next, pairwise_fails, pairwise_short, pairwise_ends, lists_pairwise}
-use Rattle.cx_core.specs.Needed.{both, needed, needed_params, gathered, answer}
-use Rattle.cx_core.specs.Views.{view_type, view_types, view_params}
+use Rattle.cx_core.specs.Needed.{gathered, answer}
+use Rattle.cx_core.specs.Views.{view_type, view_types}
 use Rattle.cx_core.proofs.meets.+meet.Goals as goal
 
 pub functions_meet-returns : goal.functions_meet-returns

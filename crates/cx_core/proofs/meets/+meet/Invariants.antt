@@ -1,4 +1,4 @@
-use Rattle.std.proofs.Common.{◌≡◌, ◌+◌, ◌≤◌, map, drop, length, option_map}
+use Rattle.std.proofs.Common.{◌≡◌, ◌≤◌, map, drop, length}
 use Rattle.cx_core.specs.Needed.{gathered, pairwise, needed_lists, needed_unqualified}
 use Rattle.cx_core.specs.Views.{view_type, view_types, types_of}
 use Rattle.cx_core.proofs.meets.+meet.Given as goal

@@ -1,4 +1,4 @@
-use Rattle.std.proofs.Common.{◌≡◌, ◌+◌, ◌≤◌, map, drop, length, option_map}
+use Rattle.std.proofs.Common.{◌≡◌, map, drop}
 use Rattle.cx_core.specs.Compatible.{are_kept_by_promotions}
 use Rattle.cx_core.specs.Views.{view_type, types_of}
 use Rattle.cx_core.proofs.meets.are_kept_by_promotions.Given as goal

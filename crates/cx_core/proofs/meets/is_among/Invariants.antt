@@ -1,4 +1,4 @@
-use Rattle.std.proofs.Common.{◌≡◌, ◌+◌, ◌≤◌, map, drop, length, option_map}
+use Rattle.std.proofs.Common.{◌≡◌, drop}
 use Rattle.cx_core.specs.Compatible.{in_pairs}
 use Rattle.cx_core.proofs.meets.is_among.Given as goal
 

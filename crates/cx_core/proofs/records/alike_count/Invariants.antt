@@ -1,4 +1,4 @@
-use Rattle.std.proofs.Common.{◌≡◌, ◌+◌, ◌≤◌, map, drop, length, option_map}
+use Rattle.std.proofs.Common.{◌≡◌, ◌+◌, ◌≤◌, map, drop}
 use Rattle.std.specs.List.{count_by}
 use Rattle.cx_core.specs.Compatible.{are_alike}
 use Rattle.cx_core.specs.Views.{view_member, view_types}

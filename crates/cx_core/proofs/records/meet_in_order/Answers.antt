@@ -1,4 +1,4 @@
-use Rattle.std.proofs.Common.{◌≡◌, arith}
+use Rattle.std.proofs.Common.{arith}
 use Rattle.std.proofs.lemmas.Bool.Decides.{nat_tests}
 use Rattle.cx_core.proofs.Gathers.{answered, refused, pairwise_next, pairwise_fails, pairwise_short, pairwise_ends}
 use Rattle.cx_core.proofs.records.meet_in_order.Goals as goal

@@ -1,4 +1,4 @@
-use Rattle.std.proofs.Common.{◌≡◌, ◌+◌, ◌≤◌, map, drop, length, option_map}
+use Rattle.std.proofs.Common.{◌≡◌, ◌≤◌, map, drop, length}
 use Rattle.cx_core.specs.Needed.{gathered, needed_in_order}
 use Rattle.cx_core.specs.Views.{view_member, view_types}
 use Rattle.cx_core.proofs.records.meet_in_order.Given as goal

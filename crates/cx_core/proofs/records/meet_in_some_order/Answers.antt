@@ -1,4 +1,3 @@
-use Rattle.std.proofs.Common.{◌≡◌}
 use Rattle.cx_core.proofs.Gathers.{gathered_met}
 use Rattle.cx_core.specs.Needed.{answer}
 use Rattle.cx_core.proofs.records.meet_in_some_order.Goals as goal

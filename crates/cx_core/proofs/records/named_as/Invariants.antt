@@ -1,4 +1,4 @@
-use Rattle.std.proofs.Common.{◌≡◌, ◌+◌, ◌≤◌, map, drop, length, option_map}
+use Rattle.std.proofs.Common.{◌≡◌, map, drop}
 use Rattle.cx_core.specs.Compatible.{named_as}
 use Rattle.cx_core.specs.Views.{view_member}
 use Rattle.cx_core.proofs.records.named_as.Given as goal

@@ -1,4 +1,3 @@
-use Rattle.std.proofs.Common.{◌≡◌, arith}
 use Rattle.cx_core.proofs.Gathers.{answered, refused, each_next, each_fails}
 use Rattle.cx_core.proofs.records.partners_meet.Goals as goal
 

@@ -1,4 +1,4 @@
-use Rattle.std.proofs.Common.{◌≡◌, ◌+◌, ◌≤◌, map, drop, length, option_map}
+use Rattle.std.proofs.Common.{◌≡◌, map, drop}
 use Rattle.cx_core.specs.Needed.{gathered, each, needed_by_one}
 use Rattle.cx_core.specs.Views.{view_member, view_types}
 use Rattle.cx_core.proofs.records.partners_meet.Given as goal
