@@ -1,17 +1,17 @@
 -- All records of a program are laid out, one after the other.
 use Rattle.std.proofs.lemmas.Bool.{cases_eq, and_from}
 use Rattle.std.proofs.lemmas.Option.{slice_get_within}
-use Rattle.std.proofs.Common.{◌≡◌, ◌⊎◌, inl, inr, ℕ, zero, suc, ◌+◌, ◌-◌, ◌<◌, ◌≤◌, ◌||◌, Bool, true, false, List, [], ◌∷◌, length, get_or, map, Option, None, Some, is_some, IsSome, IfSome, option_map, slice_get, refl, sym, ap, ◌∙◌, arith, subst, if◌then◌else◌, All, add-one}
-use Rattle.std.proofs.lemmas.List.Elements.{All-nil, All-cons, All-head, All-tail}
+use Rattle.std.proofs.Common.{◌≡◌, ◌⊎◌, inl, inr, ℕ, zero, suc, ◌+◌, ◌<◌, ◌≤◌, true, false, List, [], ◌∷◌, length, get_or, map, Option, None, Some, is_some, IsSome, IfSome, option_map, slice_get, refl, sym, ap, ◌∙◌, arith, subst, if◌then◌else◌, All}
+use Rattle.std.proofs.lemmas.List.Elements.{All-head, All-tail}
 use Rattle.std.specs.Option.{option_and_then, option_flatten}
 use Rattle.cr_base.specs.declared.layout.Laid.{Laid}
 use Rattle.cr_base.specs.Layout.{most_bytes}
 use Rattle.cx_core.specs.declared.ty.RecordTy.{RecordTy}
-use Rattle.cx_core.specs.Layouts.{CLayouts, CRow, row_at, elements, array_extent, whole_extent, row_of, passes, completed_count, layouts_of}
-use Rattle.cx_core.specs.Trees.{CTy, ty, CTyForm, void, basic, enum_type, pointer, array, record_type, function, CMember, CRecord, CTypes}
+use Rattle.cx_core.specs.Layouts.{CLayouts, CRow, row_at, array_extent, whole_extent, row_of, passes, completed_count, layouts_of}
+use Rattle.cx_core.specs.Trees.{CTy, ty, void, basic, enum_type, pointer, array, record_type, function, CMember, CRecord, CTypes}
 use Rattle.cx_core.specs.Views.{view_record}
-use Rattle.cx_layout.specs.Building.{unlaid, unlaid_from, are_complete, AreBuilt, IsNoneReady, AddsNew, IsPassed}
-use Rattle.cx_layout.specs.Calls.{record_at, record_extent, IsMemberComplete, IsTooLarge, HasTooLarge, HoldsOnly, IsGrounded, AreGrounded, AreLayoutsOf, AreAllLaidOut, AddsRecord}
+use Rattle.cx_layout.specs.Building.{unlaid, unlaid_from, are_complete, AreBuilt, IsNoneReady, AddsNew}
+use Rattle.cx_layout.specs.Calls.{record_at, record_extent, IsTooLarge, HasTooLarge, HoldsOnly, AreGrounded, AreLayoutsOf, AreAllLaidOut}
 use Rattle.cx_layout.proofs.Passes.{Extends, row_more, record_more, row_at-pass, passes_none, passes_more, passes_after}
 
 -- ---- the records of a list

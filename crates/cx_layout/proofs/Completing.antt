@@ -1,8 +1,8 @@
 -- Completing a record adds just its row to the layouts of a program.
-use Rattle.std.proofs.Common.{◌≡◌, ◌⊎◌, inl, inr, ℕ, zero, suc, ◌+◌, ◌<◌, ◌≤◌, List, [], ◌∷◌, length, Option, None, Some, is_some, IsSome, slice_get, slice_set, refl, sym, ap, ◌∙◌, arith, subst}
+use Rattle.std.proofs.Common.{◌≡◌, ◌⊎◌, inl, inr, ℕ, zero, suc, List, [], ◌∷◌, Option, None, Some, IsSome, slice_get, slice_set, refl, sym, ap, ◌∙◌, subst}
 use Rattle.std.proofs.lemmas.Bool.{cases_eq}
 use Rattle.std.specs.Option.{option_and_then, option_flatten}
-use Rattle.cx_core.specs.Layouts.{CLayouts, CRow, row_at, row_of, pass, passes, completed_count, layouts_of}
+use Rattle.cx_core.specs.Layouts.{CLayouts, row_at, row_of, pass, passes, completed_count, layouts_of}
 use Rattle.cx_core.specs.Trees.{CRecord, CTypes}
 use Rattle.cx_layout.specs.Calls.{record_at, AreLayoutsOf, AreAllLaidOut, AddsRecord, Completes}
 use Rattle.cx_layout.proofs.Builds.{layouts_are, some_of}

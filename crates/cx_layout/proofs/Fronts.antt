@@ -1,5 +1,5 @@
 -- While the members of a record that isn't too large are laid out, none of its fronts is.
-use Rattle.std.proofs.Common.{◌≡◌, ℕ, zero, suc, ◌+◌, ◌*◌, ◌<◌, ◌≤◌, nat_le, Bool, true, false, List, [], ◌∷◌, length, get_or, drop, drop-cons, Option, None, Some, IsSome, All, refl, sym, ap, ◌∙◌, arith, add-one, if◌then◌else◌, max, subst}
+use Rattle.std.proofs.Common.{◌≡◌, ℕ, suc, ◌*◌, ◌<◌, ◌≤◌, nat_le, Bool, true, false, List, [], ◌∷◌, length, get_or, drop, drop-cons, None, Some, IsSome, All, refl, sym, ap, ◌∙◌, arith, if◌then◌else◌, max, subst}
 use Rattle.std.proofs.lemmas.Bool.Decides.{nat_tests}
 use Rattle.std.proofs.lemmas.List.Elements.{All-get_or, All-head, All-tail}
 use Rattle.cx_layout.specs.Rows.{IsFine}
@@ -7,7 +7,7 @@ use Rattle.cr_base.specs.declared.layout.Front.{Front}
 use Rattle.cr_base.specs.declared.layout.Laid.{Laid}
 use Rattle.cr_base.specs.declared.layout.Piece.{Piece}
 use Rattle.cr_base.specs.declared.layout.Piece.TheVariants.{Plain, Bits}
-use Rattle.cr_base.specs.Layout.{most_bytes, align_of, laid, laid_of, laid_record, no_front, after, after_all, IsPiece, IsFront}
+use Rattle.cr_base.specs.Layout.{most_bytes, align_of, laid_of, laid_record, no_front, after, after_all, IsPiece, IsFront}
 use Rattle.cr_base.proofs.Layouts.{stays_too_large, taken_grows, align_grows}
 
 -- a record that isn't too large has no more bits than the most bytes have

@@ -1,19 +1,19 @@
 -- The records of a program can be ranked, by the pass after which each is laid out.
-use Rattle.std.proofs.Common.{◌≡◌, ◌⊎◌, inl, inr, ℕ, zero, suc, ◌+◌, ◌-◌, ◌<◌, ◌≤◌, Bool, true, false, List, [], ◌∷◌, length, get_or, Option, None, Some, is_some, IsSome, IfSome, option_map, slice_get, All, refl, sym, ap, ◌∙◌, arith, subst, if◌then◌else◌}
+use Rattle.std.proofs.Common.{◌≡◌, ℕ, zero, suc, ◌+◌, ◌-◌, ◌<◌, ◌≤◌, Bool, true, false, List, [], ◌∷◌, length, get_or, Option, None, Some, is_some, IsSome, IfSome, option_map, slice_get, All, refl, sym, ap, ◌∙◌, arith, subst, if◌then◌else◌}
 use Rattle.std.proofs.lemmas.List.Elements.{All-nil, All-cons, All-head, All-tail}
 use Rattle.std.proofs.lemmas.Option.{slice_get_within, slice_get-get_or}
 use Rattle.std.specs.Option.{option_and_then, option_flatten}
 use Rattle.cr_base.specs.declared.layout.Laid.{Laid}
 use Rattle.cr_base.specs.declared.layout.Piece.{Piece}
 use Rattle.cx_core.specs.declared.ty.Basic.{Basic}
-use Rattle.cx_core.specs.declared.ty.Basic.TheVariants.{Truth, Int, Unsigned}
+use Rattle.cx_core.specs.declared.ty.Basic.TheVariants.{Truth}
 use Rattle.cx_core.specs.Conversions.{basic_of, basic_of_enum, width_of_basic}
-use Rattle.cx_core.specs.Layouts.{CLayouts, CRow, row_at, elements, array_extent, whole_extent, whole_extent_of, piece, piece_of, put_front, pieces_of, row_of, row_of_pieces, passes, completed_count, layouts_of}
+use Rattle.cx_core.specs.Layouts.{CLayouts, CRow, row_at, array_extent, whole_extent, piece, piece_of, put_front, pieces_of, row_of, row_of_pieces, passes, completed_count}
 use Rattle.cx_core.specs.Trees.{CTy, ty, CTyForm, void, basic, enum_type, pointer, array, record_type, function, form_of_type, CMember, CRecord, CTypes}
 use Rattle.cx_core.specs.ValidTypes.{most_bits, IsBitFieldOf, IsMemberIn, IsRecordIn, AreTypes}
 use Rattle.cx_layout.specs.Calls.{record_at, IsWideEnough, HasFittingBits, HoldsOnly, IsGrounded, AreGrounded}
 use Rattle.cx_layout.proofs.Builds.{layouts_are, some_of}
-use Rattle.cx_layout.proofs.Passes.{Extends, row_at-pass, passes_none, passes_more, passes_after}
+use Rattle.cx_layout.proofs.Passes.{row_at-pass, passes_none, passes_after}
 
 -- ---- the pass after which a record is laid out
 

@@ -1,9 +1,9 @@
 -- What is laid out by a table is so by every table that has all its rows; so passes only add.
-use Rattle.std.proofs.Common.{◌≡◌, ℕ, zero, suc, ◌+◌, ◌*◌, ◌<◌, ◌≤◌, Bool, true, false, List, [], ◌∷◌, map, Option, None, Some, IsSome, IfSome, option_map, slice_get, refl, sym, ap, ◌∙◌, arith, subst}
+use Rattle.std.proofs.Common.{◌≡◌, ℕ, zero, suc, ◌+◌, ◌*◌, List, [], ◌∷◌, map, Option, None, Some, option_map, slice_get, refl, sym, ap, ◌∙◌, arith, subst}
 use Rattle.std.specs.Option.{option_and_then, option_flatten}
 use Rattle.cr_base.specs.declared.layout.Laid.{Laid}
 use Rattle.cr_base.specs.declared.layout.Piece.{Piece}
-use Rattle.cx_core.specs.Layouts.{CLayouts, CRow, row_at, elements, array_extent, whole_extent, whole_extent_of, piece, piece_of, put_front, pieces_of, row_of_pieces, row_of, pass, passes, completed_count, layouts_of}
+use Rattle.cx_core.specs.Layouts.{CLayouts, row_at, elements, array_extent, whole_extent, whole_extent_of, piece, piece_of, put_front, pieces_of, row_of_pieces, row_of, pass, passes}
 use Rattle.cx_core.specs.Trees.{CTy, ty, CTyForm, void, basic, enum_type, pointer, array, record_type, function, CMember, CRecord, CTypes}
 use Rattle.cx_layout.specs.Calls.{record_at, record_extent}
 

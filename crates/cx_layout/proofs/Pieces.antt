@@ -1,13 +1,12 @@
 -- The members of a record, one behind the other.
-use Rattle.std.proofs.Common.{◌≡◌, ℕ, zero, suc, ◌+◌, ◌*◌, ◌<◌, ◌≤◌, Bool, true, false, List, [], ◌∷◌, ◌++◌, length, get_or, drop, drop-cons, map, Option, None, Some, IsSome, IfSome, option_map, All, refl, sym, ap, ◌∙◌, arith, add-one, append_assoc, append-nil, subst, if◌then◌else◌, nat_le, max}
-use Rattle.std.proofs.lemmas.Bool.Decides.{nat_tests}
+use Rattle.std.proofs.Common.{◌≡◌, ℕ, suc, ◌+◌, ◌*◌, ◌<◌, Bool, List, [], ◌∷◌, ◌++◌, length, get_or, drop, drop-cons, map, Option, None, Some, IsSome, IfSome, option_map, All, refl, sym, ap, ◌∙◌, arith, add-one, append_assoc, subst}
 use Rattle.std.proofs.lemmas.List.{get_or-map, drop-map, length-map}
 use Rattle.std.proofs.lemmas.List.Elements.{All-get_or, All-drop, All-head, All-tail}
 use Rattle.cr_base.specs.declared.layout.Front.{Front}
 use Rattle.cr_base.specs.declared.layout.Laid.{Laid}
 use Rattle.cr_base.specs.declared.layout.Piece.{Piece}
 use Rattle.cr_base.specs.declared.layout.Piece.TheVariants.{Plain, Bits}
-use Rattle.cr_base.specs.Layout.{most_bytes, laid, laid_of, no_front, after, after_all, start, width_of}
+use Rattle.cr_base.specs.Layout.{most_bytes, laid, laid_of, no_front, after, after_all}
 use Rattle.cr_base.proofs.Layouts.{stays_too_large, align_grows}
 use Rattle.cx_core.specs.Layouts.{CLayouts, piece, piece_of, pieces_of, put_front, whole_extent}
 use Rattle.cx_core.specs.Trees.{CMember, CRecord}

@@ -1,7 +1,6 @@
 -- The members of a record lie inside it, and those of a structure don't overlap.
-use Rattle.std.proofs.Common.{◌≡◌, ℕ, zero, suc, ◌+◌, ◌-◌, ◌*◌, ◌/◌, ◌%◌, ◌<◌, ◌≤◌, Bool, true, false, List, [], ◌∷◌, Option, None, Some, slice_get, option_map, All, refl, sym, ap, ◌∙◌, arith, subst, if◌then◌else◌, nat_le, max}
+use Rattle.std.proofs.Common.{◌≡◌, ℕ, zero, suc, ◌+◌, ◌*◌, ◌/◌, ◌%◌, ◌<◌, ◌≤◌, Bool, true, false, List, [], ◌∷◌, None, Some, slice_get, option_map, All, refl, sym, ap, ◌∙◌, arith, subst, if◌then◌else◌, nat_le}
 use Rattle.std.proofs.Math.Nat.{mul_assoc}
-use Rattle.std.proofs.lemmas.Bool.Decides.{nat_tests}
 use Rattle.std.proofs.lemmas.List.Elements.{All-head, All-tail}
 use Rattle.std.specs.Int.{next_multiple_of}
 use Rattle.std.specs.Option.{option_and_then}
@@ -10,9 +9,9 @@ use Rattle.cr_base.specs.declared.layout.Laid.{Laid}
 use Rattle.cr_base.specs.declared.layout.Piece.{Piece}
 use Rattle.cr_base.specs.declared.layout.Piece.TheVariants.{Plain, Bits}
 use Rattle.cr_base.specs.declared.layout.Spot.{Spot}
-use Rattle.cr_base.specs.Layout.{width_of, align_of, bits_start, struct_start, start, after, after_all, no_front, spot, spots_behind, spots_of, laid, laid_of, laid_record, most_bytes}
+use Rattle.cr_base.specs.Layout.{width_of, align_of, bits_start, struct_start, start, after, after_all, no_front, spot, spots_behind, spots_of, laid, laid_of, most_bytes}
 use Rattle.cr_base.proofs.Layouts.{rounded, taken_grows, align_grows}
-use Rattle.cx_core.specs.Layouts.{CLayouts, CRow, row_of, row_of_pieces, pieces_of}
+use Rattle.cx_core.specs.Layouts.{CLayouts, CRow, row_of_pieces}
 use Rattle.cx_core.specs.Trees.{CRecord}
 use Rattle.cx_layout.specs.Places.{first_bit, end_bit, IsLaidOut, IsAt}
 

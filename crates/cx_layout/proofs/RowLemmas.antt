@@ -1,8 +1,6 @@
 -- Tables of rows: what is put behind them or into them.
-use Rattle.std.proofs.Common.{◌≡◌, ℕ, zero, suc, ◌<◌, ◌≤◌, List, [], ◌∷◌, ◌++◌, length, Option, None, Some, slice_get, slice_set, refl, sym, ap, ◌∙◌, arith, All}
+use Rattle.std.proofs.Common.{◌≡◌, ℕ, zero, suc, ◌<◌, [], ◌∷◌, ◌++◌, length, None, Some, slice_set, refl, ap, arith}
 use Rattle.cx_core.specs.Layouts.{CLayouts, CRow, row_at}
-use Rattle.cx_layout.specs.Calls.{HaveSameRows}
-use Rattle.cx_layout.specs.Rows.{IsFine, IsFineRow, AreFine, PutsRow}
 
 -- a record that isn't laid out changes nothing behind the others
 pub row_at-push : (rows : CLayouts) (number : ℕ) → row_at rows number ≡ row_at (rows ++ None ∷ []) number

@@ -1,11 +1,11 @@
 -- One sweep over the records of a program.
-use Rattle.std.proofs.Common.{◌≡◌, ◌⊎◌, inl, inr, ℕ, suc, ◌+◌, ◌<◌, ◌≤◌, ◌||◌, Bool, true, false, Option, None, Some, refl, sym, ap, ◌∙◌, arith, subst, map, All}
+use Rattle.std.proofs.Common.{◌≡◌, ◌⊎◌, inl, inr, ℕ, ◌+◌, ◌<◌, ◌≤◌, ◌||◌, Bool, true, false, None, Some, refl, sym, ap, ◌∙◌, arith, subst}
 use Rattle.std.proofs.lemmas.Bool.{cases_eq}
-use Rattle.cx_core.specs.Layouts.{CLayouts, CRow, row_at}
-use Rattle.cx_core.specs.Trees.{CMember, CRecord, CTypes}
+use Rattle.cx_core.specs.Layouts.{CLayouts, row_at}
+use Rattle.cx_core.specs.Trees.{CRecord, CTypes}
 use Rattle.cx_layout.specs.Building.{unlaid, are_complete, AreBuilt, IsNoneReady, AddsNew, IsPassed}
-use Rattle.cx_layout.specs.Calls.{record_at, AreGrounded, IsTooLarge, HasTooLarge}
-use Rattle.cx_layout.proofs.Builds.{falls, built_new, has_large}
+use Rattle.cx_layout.specs.Calls.{record_at}
+use Rattle.cx_layout.proofs.Builds.{falls, built_new}
 
 -- a sweep came to an index: whether a record was laid out, and that none in front of the index can be laid out next otherwise
 pub record Sweeps (types : CTypes) (start layouts : CLayouts) (added : Bool) (index : ℕ) : Type 0 where

@@ -1,10 +1,10 @@
 -- How the layouts of all records are built: record by record, each once those that it holds are there. Named by the contracts of
 -- the parts of `build` alone.
-use Rattle.std.specs.Prelude.{◌≡◌, ℕ, zero, suc, ◌+◌, ◌<◌, Bool, true, false, if◌then◌else◌, List, [], ◌∷◌, Option, None, Some, is_some, IsSome, All}
+use Rattle.std.specs.Prelude.{◌≡◌, ℕ, suc, ◌+◌, ◌<◌, Bool, false, if◌then◌else◌, List, [], ◌∷◌, Option, None, Some, is_some}
 use Rattle.std.specs.List.{list_all}
 use Rattle.cx_core.specs.Layouts.{CLayouts, CRow, row_at, whole_extent, passes, completed_count}
 use Rattle.cx_core.specs.Trees.{CMember, CRecord, CTypes}
-use Rattle.cx_layout.specs.Calls.{IsMemberComplete, AddsRecord, record_at, HasFittingBits}
+use Rattle.cx_layout.specs.Calls.{AddsRecord, record_at}
 
 -- how many completed records, from a number on, aren't laid out
 abbrev pub unlaid_from : ℕ → List (Option CRecord) → CLayouts → ℕ

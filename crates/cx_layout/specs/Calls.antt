@@ -1,11 +1,11 @@
 -- What the calls on layouts do (ISO C99, 6.5.3.4 and 6.7.2.1).
-use Rattle.std.specs.Prelude.{◌≡◌, ℕ, ◌≤◌, ◌<◌, nat_le, Bool, true, false, if◌then◌else◌, List, [], ◌∷◌, Option, None, Some, option_map, IsSome, IfSome, All, slice_get, slice_set}
+use Rattle.std.specs.Prelude.{◌≡◌, ℕ, ◌≤◌, ◌<◌, Option, None, Some, option_map, IsSome, IfSome, All, slice_get, slice_set}
 use Rattle.std.specs.Option.{option_and_then, option_flatten}
 use Rattle.cr_base.specs.declared.layout.Laid.{Laid}
 use Rattle.cr_base.specs.declared.layout.Spot.{Spot}
 use Rattle.cr_base.specs.Layout.{most_bytes, laid_of}
 use Rattle.cx_core.specs.Conversions.{width_of_basic}
-use Rattle.cx_core.specs.Layouts.{CLayouts, CRow, row_at, row_of, pieces_of, whole_extent, layouts_of}
+use Rattle.cx_core.specs.Layouts.{CLayouts, row_at, row_of, pieces_of, whole_extent, layouts_of}
 use Rattle.cx_core.specs.Trees.{CTy, ty, CTyForm, void, basic, enum_type, pointer, array, record_type, function, form_of_type, CMember, CRecord, CTypes}
 
 -- ---- what is laid out

@@ -1,5 +1,5 @@
 -- The extent of a type as the code has it: its size may be more than numbers of 64 bits hold.
-use Rattle.std.specs.Prelude.{ℕ, zero, suc, ◌*◌, nat_le, if◌then◌else◌, Option, None, Some}
+use Rattle.std.specs.Prelude.{nat_le, if◌then◌else◌, Option, None, Some}
 use Rattle.cr_base.specs.declared.layout.Laid.{Laid}
 use Rattle.cr_base.specs.Layout.{most_bytes}
 use Rattle.cx_layout.specs.declared.extent.Extent.{Extent}

@@ -1,5 +1,5 @@
 -- Where the members of a record stand beside each other.
-use Rattle.std.specs.Prelude.{◌≡◌, ℕ, ◌+◌, ◌*◌, ◌≤◌, ◌<◌, Bool, false, List, Option, Some, slice_get, All}
+use Rattle.std.specs.Prelude.{◌≡◌, ℕ, ◌+◌, ◌*◌, ◌<◌, List, Some, slice_get, All}
 use Rattle.cr_base.specs.declared.layout.Piece.{Piece}
 use Rattle.cr_base.specs.declared.layout.Spot.{Spot}
 use Rattle.cr_base.specs.Layout.{width_of, align_of}

@@ -1,4 +1,4 @@
-use Rattle.std.proofs.Common.{◌≡◌, ◌<◌, sym, ◌∙◌}
+use Rattle.std.proofs.Common.{sym, ◌∙◌}
 use Rattle.cx_layout.proofs.RowLemmas.{row_at-set, row_at-set_other}
 use Rattle.cx_layout.proofs.put.put.Goals as goal
 

@@ -1,4 +1,4 @@
-use Rattle.std.proofs.Common.{◌≡◌, arith, rules}
+use Rattle.std.proofs.Common.{arith, rules}
 use Rattle.std.proofs.lemmas.Grind.{common_steps}
 use Rattle.cx_layout.proofs.Fronts.{front_stays}
 use Rattle.cx_layout.proofs.row.spots_of.Goals as goal

@@ -1,4 +1,3 @@
-use Rattle.std.proofs.Common.{◌≡◌}
 use Rattle.cx_core.specs.Views.{view_types}
 use Rattle.cx_layout.proofs.Builds.{built_none, all_laid, all_same}
 use Rattle.cx_layout.proofs.layouts.Layouts.build.Goals as goal

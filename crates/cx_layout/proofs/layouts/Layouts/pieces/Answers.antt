@@ -1,4 +1,3 @@
-use Rattle.std.proofs.Common.{◌≡◌}
 use Rattle.cx_core.specs.Views.{view_member}
 use Rattle.cx_layout.proofs.Pieces.{member_has, has_large}
 use Rattle.cx_layout.specs.Calls.{IsMemberComplete, HasFittingBits}

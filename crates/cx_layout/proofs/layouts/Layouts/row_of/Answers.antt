@@ -1,4 +1,4 @@
-use Rattle.std.proofs.Common.{◌≡◌, All, map, subst, sym}
+use Rattle.std.proofs.Common.{All, map, subst, sym}
 use Rattle.cr_base.specs.Layout.{IsPiece}
 use Rattle.cx_core.specs.Layouts.{pieces_of}
 use Rattle.cx_core.specs.Views.{view_member, view_record}

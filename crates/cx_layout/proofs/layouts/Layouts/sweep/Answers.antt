@@ -1,7 +1,6 @@
-use Rattle.std.proofs.Common.{◌≡◌, map, All, Option, subst, sym, refl, arith, ap, ◌∙◌, option_map, slice_get, length, ℕ, None, Some}
-use Rattle.std.proofs.lemmas.List.{length-map}
+use Rattle.std.proofs.Common.{◌≡◌, map, sym, ap, ◌∙◌, option_map, slice_get, Some}
 use Rattle.std.specs.Option.{option_flatten}
-use Rattle.cx_core.specs.Views.{view_types, view_record, view_member}
+use Rattle.cx_core.specs.Views.{view_types, view_record}
 use Rattle.cx_layout.proofs.Builds.{record_found, record_missing, has_large}
 use Rattle.cx_layout.proofs.Sweeps.{missing_next, record_next}
 use Rattle.cx_layout.specs.Calls.{record_at}
