@@ -7,13 +7,13 @@ bit-field by the bits that a store of -1 changes.
 Without a word it compares the two and says how many records agree. `--rows` writes the records as rows of tests, and
 `--answers` the answers to these rows as gcc gives them. Where gcc isn't there it says so, and ends with 0.
 
-A row is `layout`, and then records with ` ; ` between them, the first of which has the number 0. A record is `struct`
-or `union` and its members in order. A member is its type, `TYPE:WIDTH` for a bit-field, and `~TYPE:WIDTH` for one
-without name. A type is a word of BASIC, `enum`, `*` for a pointer, or `#K` for record K, and for an array the numbers
-of its elements, outermost first, stand in front of it: `[3][4]int`.
+A row is `layout`, and then records with ` | ` between them, the first of which has the number 0. A record is `struct`
+or `union`, and then its members in order. A member is its type, or `TYPE:WIDTH` for a bit-field, with `~` in front
+where this has no name. A type is a word of BASIC, `pointer`, or `#NUMBER` for a record in front; the lengths of an
+array stand behind it as C writes them, as in `int[3][4]`.
 
-An answer has, for each record, its size and alignment in bytes, and then where its members stand: `BYTE`, or
-`BYTE.BIT.WIDTH` for a bit-field, or `-` where it has no name. Records have ` ; ` between them.
+An answer has for each record its size and alignment in bytes, and then where its members stand: `BYTE`, or
+`BYTE.BIT.WIDTH` for a bit-field, or `-` where it has no name. Records have ` | ` between them.
 """
 
 import argparse
@@ -41,9 +41,9 @@ BASIC = {
     "ullong": ("unsigned long long", 8, 64),
     "enum": ("enum e", 4, 32),
 }
-POINTER = "*"
+POINTER = "pointer"
 POINTER_SIZE = 8
-MOST_BYTES = 16777216
+BETWEEN = " | "
 
 
 @dataclass(frozen=True)
@@ -58,7 +58,7 @@ class Member:
     def row(self):
         shape = "".join(f"[{count}]" for count in self.dimensions)
         bits = "" if self.width is None else f":{self.width}"
-        return ("" if self.is_named else "~") + shape + self.word + bits
+        return ("" if self.is_named else "~") + self.word + shape + bits
 
 
 @dataclass(frozen=True)
@@ -74,7 +74,7 @@ class Record:
 
 
 def row_of(records):
-    return "layout " + " ; ".join(record.row() for record in records)
+    return "layout " + BETWEEN.join(record.row() for record in records)
 
 
 # ---- the model
@@ -142,7 +142,7 @@ def answer_by_model(records):
     laid = []
     for record in records:
         laid.append(laid_out(record, laid))
-    return " ; ".join(one.answer() for one in laid)
+    return BETWEEN.join(one.answer() for one in laid)
 
 
 # ---- gcc
@@ -210,7 +210,7 @@ def program(rows):
     for row, records in enumerate(rows):
         for number, record in enumerate(records):
             if number > 0:
-                body.append('printf(" ; ");')
+                body.append(f'printf("{BETWEEN}");')
             declarations.append(declared(record, number, records, row))
             body.extend(asked(record, number, row))
         body.append('printf("\\n");')
@@ -232,7 +232,7 @@ def answers_by_gcc(rows, folder):
 # records with their answers, worked out by hand
 WORKED = [
     ("struct char int:3 int:30 ~unsigned:0 char", "12 4 0 1.0.3 4.0.30 - 8"),
-    ("union [9]char int", "12 4 0 0"),
+    ("union char[9] int", "12 4 0 0"),
     ("struct short:9 short:9", "4 2 0.0.9 2.0.9"),
     ("struct char int:31", "8 4 0 4.0.31"),
     ("struct char ~long:7 char", "3 1 0 - 2"),
@@ -243,13 +243,10 @@ WORKED = [
 
 
 def member_of(text):
-    is_named = not text.startswith("~")
-    word, _, width = text.removeprefix("~").partition(":")
-    dimensions = []
-    while word.startswith("["):
-        count, _, word = word[1:].partition("]")
-        dimensions.append(int(count))
-    return Member(word, tuple(dimensions), int(width) if width else None, is_named)
+    of, _, width = text.removeprefix("~").partition(":")
+    word, *lengths = of.split("[")
+    dimensions = tuple(int(length.removesuffix("]")) for length in lengths)
+    return Member(word, dimensions, int(width) if width else None, not text.startswith("~"))
 
 
 def record_of(text):
