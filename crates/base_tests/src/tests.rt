@@ -1,0 +1,4 @@
+mod busy;
+mod slow;
+mod sure;
+mod trees;

@@ -1,0 +1,117 @@
+//! The stages that rows are asked of, a module each.
+
+mod bytes;
+mod copy;
+mod files;
+mod host;
+mod lex;
+mod memory;
+mod name;
+mod rule;
+mod stream;
+mod transpile;
+mod value;
+
+use crate::answer::Answer;
+use crate::asked::{Asked, under_name};
+use std::alloc::Global;
+use std::rt::Files;
+
+/// What a row is asked of.
+#[derive(Clone, Copy)]
+pub(crate) enum Stage {
+    /// What needs nothing but memory.
+    Inside(Inside),
+    /// What reads or writes files of the system.
+    Outside(Outside),
+}
+
+#[derive(Clone, Copy)]
+pub(crate) enum Inside {
+    /// The rules of the profile.
+    Rule,
+    /// Numbers of the C types.
+    Value,
+    /// Copies of names, texts and lists.
+    Copy,
+    /// Values as the cells that they have in memory.
+    Bytes,
+    /// Calls of a store.
+    Memory,
+    /// Calls of a host.
+    Host,
+    /// The tokens of a unit.
+    Lex,
+    /// Names of a written crate.
+    Name,
+    /// Calls of a shelf, and whole jobs over it.
+    Files,
+    /// The same over a shelf that never fails.
+    Sure,
+    /// The translation of a unit.
+    Transpile,
+}
+
+#[derive(Clone, Copy)]
+pub(crate) enum Outside {
+    /// Writes to a sink.
+    Stream,
+    /// Calls of a shelf over the files of the system, and whole jobs over it.
+    Disk,
+}
+
+const STAGES: [(&str, Stage); 13] = [
+    ("rule", Stage::Inside(Inside::Rule)),
+    ("value", Stage::Inside(Inside::Value)),
+    ("copy", Stage::Inside(Inside::Copy)),
+    ("bytes", Stage::Inside(Inside::Bytes)),
+    ("memory", Stage::Inside(Inside::Memory)),
+    ("host", Stage::Inside(Inside::Host)),
+    ("lex", Stage::Inside(Inside::Lex)),
+    ("name", Stage::Inside(Inside::Name)),
+    ("files", Stage::Inside(Inside::Files)),
+    ("sure", Stage::Inside(Inside::Sure)),
+    ("transpile", Stage::Inside(Inside::Transpile)),
+    ("stream", Stage::Outside(Outside::Stream)),
+    ("disk", Stage::Outside(Outside::Disk)),
+];
+
+impl Stage {
+    /// The stage of this name.
+    pub(crate) fn of(name: &str) -> Option<Stage> {
+        under_name(&STAGES, name)
+    }
+
+    /// Writes the answer to what the stage is asked.
+    pub(crate) fn answer<R: Files>(
+        self,
+        rt: &R,
+        alloc: Global,
+        asked: &mut Asked,
+        out: &mut Answer,
+    ) {
+        match self {
+            Stage::Inside(stage) => stage.answer(alloc, asked, out),
+            Stage::Outside(Outside::Stream) => stream::answer(rt, alloc, asked, out),
+            Stage::Outside(Outside::Disk) => files::answer_on_disk(rt, alloc, asked, out),
+        }
+    }
+}
+
+impl Inside {
+    fn answer(self, alloc: Global, asked: &mut Asked, out: &mut Answer) {
+        match self {
+            Inside::Rule => rule::answer(asked, out),
+            Inside::Value => value::answer(asked, out),
+            Inside::Copy => copy::answer(alloc, asked, out),
+            Inside::Bytes => bytes::answer(alloc, asked, out),
+            Inside::Memory => memory::answer(alloc, asked, out),
+            Inside::Host => host::answer(alloc, asked, out),
+            Inside::Lex => lex::answer(alloc, asked, out),
+            Inside::Name => name::answer(alloc, asked, out),
+            Inside::Files => files::answer(alloc, asked, out),
+            Inside::Sure => files::answer_surely(alloc, asked, out),
+            Inside::Transpile => transpile::answer(alloc, asked, out),
+        }
+    }
+}
