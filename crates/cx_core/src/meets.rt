@@ -55,6 +55,7 @@ fn forms_meet(types: &Types, a: &Ty, b: &Ty, pairs: &mut Items<RecordPair>) -> R
             second.get(),
             pairs,
         ),
+        // Two integer types of which one is basic at least, or types of two kinds.
         _ => Ok(meet_in_basic(types, a, b)),
     }
 }

@@ -85,6 +85,16 @@ impl Layouts {
         }
     }
 
+    /// Whether a type is complete by now (ISO C99, 6.2.5p1). Its size may be more than 16,777,216 bytes.
+    pub fn is_complete(&self, t: &Ty) -> bool
+        ensures { result ≡ is_some (whole_extent self.now (view_type t.now)) }
+    {
+        match self.extent(t) {
+            Extent::Unknown => false,
+            _ => true,
+        }
+    }
+
     /// Where a member stands, by its number from 0 in text order and the number of its record, or None where
     /// there is no such member (ISO C99, 6.7.2.1p10 to p14).
     pub fn member(&self, r: u32, k: u32) -> Option<Spot>
@@ -225,15 +235,5 @@ impl Layouts {
             }
         }
         true
-    }
-
-    // Whether a type is complete by now.
-    fn is_complete(&self, t: &Ty) -> bool
-        ensures { result ≡ is_some (whole_extent self.now (view_type t.now)) }
-    {
-        match self.extent(t) {
-            Extent::Unknown => false,
-            _ => true,
-        }
     }
 }

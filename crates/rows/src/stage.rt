@@ -4,6 +4,7 @@ mod bytes;
 mod copy;
 mod files;
 mod host;
+mod layout;
 mod lex;
 mod memory;
 mod name;
@@ -40,6 +41,8 @@ pub(crate) enum Inside {
     Memory,
     /// Calls of a host.
     Host,
+    /// Records with their sizes and places.
+    Layout,
     /// The tokens of a unit.
     Lex,
     /// Names of a written crate.
@@ -60,13 +63,14 @@ pub(crate) enum Outside {
     Disk,
 }
 
-const STAGES: [(&str, Stage); 13] = [
+const STAGES: [(&str, Stage); 14] = [
     ("rule", Stage::Inside(Inside::Rule)),
     ("value", Stage::Inside(Inside::Value)),
     ("copy", Stage::Inside(Inside::Copy)),
     ("bytes", Stage::Inside(Inside::Bytes)),
     ("memory", Stage::Inside(Inside::Memory)),
     ("host", Stage::Inside(Inside::Host)),
+    ("layout", Stage::Inside(Inside::Layout)),
     ("lex", Stage::Inside(Inside::Lex)),
     ("name", Stage::Inside(Inside::Name)),
     ("files", Stage::Inside(Inside::Files)),
@@ -107,6 +111,7 @@ impl Inside {
             Inside::Bytes => bytes::answer(alloc, asked, out),
             Inside::Memory => memory::answer(alloc, asked, out),
             Inside::Host => host::answer(alloc, asked, out),
+            Inside::Layout => layout::answer(alloc, asked, out),
             Inside::Lex => lex::answer(alloc, asked, out),
             Inside::Name => name::answer(alloc, asked, out),
             Inside::Files => files::answer(alloc, asked, out),
