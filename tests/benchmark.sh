@@ -64,11 +64,11 @@ awk -v none="$none" -v small="$small" -v large="$large" 'BEGIN {
 
 command -v gcc >/dev/null 2>&1 || { echo "skipped: transpile against gcc (gcc isn't there)"; exit 0; }
 
-# straight_unit SIZE OBJECTS: a straight unit of about this many bytes: so many objects of two letters, and
+# straight_unit SIZE OBJECTS: a straight unit of about this many bytes: so many objects of two letters (no u8), and
 # statements that use them in turn.
 straight_unit() {
   awk -v size="$1" -v objects="$2" 'BEGIN {
-    first = "ABCDEFGHIJKLMNOPQRSTUVWXYZbceghjklmnopqrstuvwxyz"
+    first = "ABCDEFGHIJKLMNOPQRSTUVWXYZbceghjklmnopqrstvwxyz"
     second = "ABCDEFGHIJKLMNOPQRSTUVWXYZ0123456789_"
     for (i = 0; i < objects; i++) {
       name[i] = substr(first, i % length(first) + 1, 1) substr(second, int(i / length(first)) % length(second) + 1, 1)

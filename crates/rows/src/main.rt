@@ -7,7 +7,8 @@
 //!
 //! The text of a row stands as it is, but for what `$` begins: `$n` is a newline, and `$` with two hexadecimal
 //! digits is the byte of that number, so that `$24` is `$` itself. Texts of C don't need it otherwise, since
-//! `$` isn't in the basic source character set (ISO C99, 5.2.1). Answers are written in the same way.
+//! `$` isn't in the basic source character set (ISO C99, 5.2.1). Where a row asks several steps, which ` | `
+//! separates, a text in it needs `$7c` for the bar between two blanks. Answers are written in the same way.
 #![tactic(auto)]
 
 mod answer;

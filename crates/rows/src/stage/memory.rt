@@ -79,7 +79,7 @@ const CALLS: [(&str, Call); 12] = [
 ];
 
 impl Call {
-    fn write(self, store: &mut ListStore, asked: &mut Asked, out: &mut Answer) {
+    fn write<S: Store>(self, store: &mut S, asked: &mut Asked, out: &mut Answer) {
         match self {
             Call::Alloc => alloc(store, asked, out),
             Call::Kill => kill(store, asked, out),
@@ -94,7 +94,7 @@ impl Call {
 }
 
 impl Look {
-    fn write(self, store: &ListStore, asked: &mut Asked, out: &mut Answer) {
+    fn write<S: Store>(self, store: &S, asked: &mut Asked, out: &mut Answer) {
         match self {
             Look::Load => load(store, asked, out),
             Look::LoadBits => load_bits(store, asked, out),
@@ -105,23 +105,23 @@ impl Look {
     }
 }
 
-fn kill(store: &mut ListStore, asked: &mut Asked, out: &mut Answer) {
+fn kill<S: Store>(store: &mut S, asked: &mut Asked, out: &mut Answer) {
     write_done(store.kill(asked.number()), out);
 }
 
-fn copy(store: &mut ListStore, asked: &mut Asked, out: &mut Answer) {
+fn copy<S: Store>(store: &mut S, asked: &mut Asked, out: &mut Answer) {
     let from = place(asked);
     let to = place(asked);
     write_done(store.copy(from, to, asked.number()), out);
 }
 
-fn fill(store: &mut ListStore, asked: &mut Asked, out: &mut Answer) {
+fn fill<S: Store>(store: &mut S, asked: &mut Asked, out: &mut Answer) {
     let at = place(asked);
     let byte = asked.number();
     write_done(store.fill(at, byte, asked.number()), out);
 }
 
-fn put_cell(store: &mut ListStore, asked: &mut Asked, out: &mut Answer) {
+fn put_cell<S: Store>(store: &mut S, asked: &mut Asked, out: &mut Answer) {
     let at = place(asked);
     write_done(store.put_cell(at, cell(asked)), out);
 }
@@ -134,8 +134,8 @@ fn write_done(outcome: Result<(), Fault>, out: &mut Answer) {
 }
 
 // Whether the store may make one more block.
-fn has_room(store: &ListStore) -> bool
-    ensures { IsTrue result → length store.now < 2 ^ 60 }
+fn has_room<S: Store>(store: &S) -> bool
+    ensures { IsTrue result → length (S.memory store.now) < 2 ^ 60 }
 {
     store.state(MOST_BLOCKS).is_none()
 }
@@ -162,7 +162,7 @@ fn alignment(asked: &mut Asked) -> u64
     align
 }
 
-fn alloc(store: &mut ListStore, asked: &mut Asked, out: &mut Answer) {
+fn alloc<S: Store>(store: &mut S, asked: &mut Asked, out: &mut Answer) {
     let size = block_size(asked);
     let align = alignment(asked);
     if !has_room(store) {
@@ -175,27 +175,27 @@ fn alloc(store: &mut ListStore, asked: &mut Asked, out: &mut Answer) {
     }
 }
 
-fn load(store: &ListStore, asked: &mut Asked, out: &mut Answer) {
+fn load<S: Store>(store: &S, asked: &mut Asked, out: &mut Answer) {
     match store.load(place(asked), scalar(asked)) {
         Ok(value) => write_value(value, out),
         Err(fault) => out.variant(fault),
     }
 }
 
-fn put(store: &mut ListStore, asked: &mut Asked, out: &mut Answer) {
+fn put<S: Store>(store: &mut S, asked: &mut Asked, out: &mut Answer) {
     let at = place(asked);
     let scalar = scalar(asked);
     write_done(store.put(at, scalar, value(asked, scalar)), out);
 }
 
-fn write_cell_at(store: &ListStore, at: Ptr, out: &mut Answer) {
+fn write_cell_at<S: Store>(store: &S, at: Ptr, out: &mut Answer) {
     match store.cell(at) {
         Ok(cell) => write_cell(cell, out),
         Err(fault) => out.variant(fault),
     }
 }
 
-fn bytes(store: &ListStore, asked: &mut Asked, out: &mut Answer) {
+fn bytes<S: Store>(store: &S, asked: &mut Asked, out: &mut Answer) {
     let block = asked.number();
     let count: u64 = asked.number();
     for offset in 0..count {
@@ -206,7 +206,7 @@ fn bytes(store: &ListStore, asked: &mut Asked, out: &mut Answer) {
     }
 }
 
-fn state(store: &ListStore, asked: &mut Asked, out: &mut Answer) {
+fn state<S: Store>(store: &S, asked: &mut Asked, out: &mut Answer) {
     match store.state(asked.number()) {
         None => out.text("none"),
         Some(state) if state.live => {
@@ -239,7 +239,7 @@ fn field_place(asked: &mut Asked) -> FieldPlace
     }
 }
 
-fn load_bits(store: &ListStore, asked: &mut Asked, out: &mut Answer) {
+fn load_bits<S: Store>(store: &S, asked: &mut Asked, out: &mut Answer) {
     let at = place(asked);
     let field = field_place(asked);
     match store.load_bits(at, field.bit, field.width) {
@@ -248,7 +248,7 @@ fn load_bits(store: &ListStore, asked: &mut Asked, out: &mut Answer) {
     }
 }
 
-fn put_bits(store: &mut ListStore, asked: &mut Asked, out: &mut Answer) {
+fn put_bits<S: Store>(store: &mut S, asked: &mut Asked, out: &mut Answer) {
     let at = place(asked);
     let field = field_place(asked);
     let number = asked.number();

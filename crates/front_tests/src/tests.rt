@@ -1,0 +1,4 @@
+mod full;
+mod jobs;
+mod large;
+mod sure;

@@ -1,0 +1,6 @@
+//! Tests of the libraries of the written crate, `rs_items` today, through their public items: what no row of `rows`
+//! shows.
+#![tactic(auto)]
+
+#[cfg(test)]
+mod tests;
