@@ -160,11 +160,23 @@ straight_mutants() {
   fi
 }
 
+# Random records of C: a model of the ABI and gcc lay them out alike. The model's answers are rows of the gate.
+random_records() {
+  local said
+  tools_for 'random records' python3 gcc || return
+  if ! said=$(python3 "$top/tests/layout_records.py" 2>&1); then
+    bad "random records: $said"
+  else
+    ok "random records: $said"
+  fi
+}
+
 one answer
 one letter
 refused_in_turn
 straight_units
 straight_mutants
+random_records
 usage='c2rs: usage: transpile -o DIR FILE..'
 report 2 "$usage"
 report 2 "$usage" transpile -o out -o out answer.c

@@ -3,6 +3,7 @@
 
 mod build;
 mod extent;
+mod laid;
 mod laws;
 mod layouts;
 mod put;
