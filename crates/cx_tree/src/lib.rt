@@ -1,0 +1,19 @@
+//! The syntax trees of a C unit (ISO C99, 6.5 to 6.9), their tokens, their depth, the names in scope in
+//! them, and which tree a list of tokens derives.
+#![tactic(auto)]
+
+mod declaration;
+mod declarator;
+mod expr;
+mod initialiser;
+mod specifier;
+mod stmt;
+mod unit;
+
+pub use declaration::{Decl, InitDeclarator};
+pub use declarator::{Brackets, Declarator, Param};
+pub use expr::Expr;
+pub use initialiser::{Designator, Entry, Initialiser, InitialiserList};
+pub use specifier::{Enumerator, MemberDecl, MemberDeclarator, Spec, TypeName};
+pub use stmt::{BlockItem, ForFirst, Stmt};
+pub use unit::{Definition, External, Unit};
