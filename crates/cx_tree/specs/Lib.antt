@@ -1,2 +1,9 @@
+pub mod Depth
+pub mod Derives
+pub mod Levels
+pub mod Names
+pub mod Tokens
 pub mod Trees
+pub mod Valid
 pub mod Views
+pub mod Words

@@ -34,7 +34,7 @@ mutual
     SizeofType : TypeNameTree → List ℕ → ExprTree
     Cast : TypeNameTree → ExprTree → List ℕ → ExprTree
     Binary : ExprTree → Punct → ExprTree → List ℕ → ExprTree
-    -- `condition ? then : otherwise`
+    -- `condition ? if_true : if_false`
     Cond : ExprTree → ExprTree → ExprTree → List ℕ → ExprTree
     Assign : ExprTree → Punct → ExprTree → List ℕ → ExprTree
     Comma : ExprTree → ExprTree → List ℕ → ExprTree
@@ -188,7 +188,7 @@ mutual
     Default : StmtTree → List ℕ → StmtTree
     Block : ItemTrees → List ℕ → StmtTree
     ExprStmt : OptionExprTree → List ℕ → StmtTree
-    -- `if ( condition ) then else otherwise`
+    -- `if ( condition ) branch else otherwise`
     If : ExprTree → StmtTree → OptionStmtTree → List ℕ → StmtTree
     Switch : ExprTree → StmtTree → List ℕ → StmtTree
     While : ExprTree → StmtTree → List ℕ → StmtTree

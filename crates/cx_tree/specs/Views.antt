@@ -125,7 +125,7 @@ expr_step (o.Expr-F.SizeofExpr on lines) = tree.SizeofExpr on lines
 expr_step (o.Expr-F.SizeofType of lines) = tree.SizeofType of lines
 expr_step (o.Expr-F.Cast to on lines) = tree.Cast to on lines
 expr_step (o.Expr-F.Binary left op right lines) = tree.Binary left op right lines
-expr_step (o.Expr-F.Cond condition then otherwise lines) = tree.Cond condition then otherwise lines
+expr_step (o.Expr-F.Cond condition if_true if_false lines) = tree.Cond condition if_true if_false lines
 expr_step (o.Expr-F.Assign left op right lines) = tree.Assign left op right lines
 expr_step (o.Expr-F.Comma left right lines) = tree.Comma left right lines
 
@@ -222,7 +222,7 @@ stmt_step (s.Stmt-F.Case value stmt lines) = tree.Case (expr_view value) stmt li
 stmt_step (s.Stmt-F.Default stmt lines) = tree.Default stmt lines
 stmt_step (s.Stmt-F.Block list lines) = tree.Block (items list) lines
 stmt_step (s.Stmt-F.Expr expr lines) = tree.ExprStmt (option_expr (option_map expr_view expr)) lines
-stmt_step (s.Stmt-F.If condition then otherwise lines) = tree.If (expr_view condition) then (option_stmt otherwise) lines
+stmt_step (s.Stmt-F.If condition branch otherwise lines) = tree.If (expr_view condition) branch (option_stmt otherwise) lines
 stmt_step (s.Stmt-F.Switch on body lines) = tree.Switch (expr_view on) body lines
 stmt_step (s.Stmt-F.While condition body lines) = tree.While (expr_view condition) body lines
 stmt_step (s.Stmt-F.Do body condition lines) = tree.Do body (expr_view condition) lines

@@ -10,7 +10,10 @@ pub enum Declarator {
     /// No name: the bottom of an abstract declarator. It is no node and prints nothing.
     Missing,
     /// The declared identifier.
-    Identifier { name: Name, lines: Items<u32> },
+    Identifier {
+        name: Name,
+        lines: Items<u32>,
+    },
     /// `( inner )`.
     Group {
         inner: Boxed<Declarator>,
@@ -50,7 +53,9 @@ pub enum Declarator {
 #[derive(Drop)]
 pub enum Brackets {
     /// `[ qualifiers ]`
-    Unsized { qualifiers: Items<Keyword> },
+    Unsized {
+        qualifiers: Items<Keyword>,
+    },
     /// `[ qualifiers length ]`
     Length {
         qualifiers: Items<Keyword>,
@@ -67,7 +72,9 @@ pub enum Brackets {
         length: Boxed<Expr>,
     },
     /// `[ qualifiers * ]`
-    Star { qualifiers: Items<Keyword> },
+    Star {
+        qualifiers: Items<Keyword>,
+    },
 }
 
 /// A parameter declaration (6.7.5), whose declarator may be missing or abstract. It prints no token itself.

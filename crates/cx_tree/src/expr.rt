@@ -9,7 +9,10 @@ use cx_lex::{Punct, Ty0};
 #[derive(Drop)]
 pub enum Expr {
     /// An identifier (6.5.1).
-    Name { name: Name, lines: Items<u32> },
+    Name {
+        name: Name,
+        lines: Items<u32>,
+    },
     /// An integer constant (6.5.1, 6.4.4.1): its value and its type.
     Number {
         value: u64,
@@ -17,7 +20,10 @@ pub enum Expr {
         lines: Items<u32>,
     },
     /// A character constant (6.5.1, 6.4.4.4): its value, from -128 to 127.
-    Letter { value: i32, lines: Items<u32> },
+    Letter {
+        value: i32,
+        lines: Items<u32>,
+    },
     /// One string literal or more that are adjacent (6.5.1, 6.4.5): the bytes of each, without a zero
     /// byte at the end, and the line of each.
     Text {
@@ -25,7 +31,10 @@ pub enum Expr {
         lines: Items<u32>,
     },
     /// `( inner )` (6.5.1).
-    Paren { inner: Boxed<Expr>, lines: Items<u32> },
+    Paren {
+        inner: Boxed<Expr>,
+        lines: Items<u32>,
+    },
     /// `of [ index ]` (6.5.2.1).
     Index {
         of: Boxed<Expr>,
@@ -51,9 +60,15 @@ pub enum Expr {
         lines: Items<u32>,
     },
     /// `of ++` (6.5.2.4).
-    PostUp { of: Boxed<Expr>, lines: Items<u32> },
+    PostUp {
+        of: Boxed<Expr>,
+        lines: Items<u32>,
+    },
     /// `of --` (6.5.2.4).
-    PostDown { of: Boxed<Expr>, lines: Items<u32> },
+    PostDown {
+        of: Boxed<Expr>,
+        lines: Items<u32>,
+    },
     /// `( of ) { .. }`, a compound literal (6.5.2.5); its own tokens are the parentheses.
     Literal {
         of: Boxed<TypeName>,
@@ -61,9 +76,15 @@ pub enum Expr {
         lines: Items<u32>,
     },
     /// `++ on` (6.5.3.1).
-    PreUp { on: Boxed<Expr>, lines: Items<u32> },
+    PreUp {
+        on: Boxed<Expr>,
+        lines: Items<u32>,
+    },
     /// `-- on` (6.5.3.1).
-    PreDown { on: Boxed<Expr>, lines: Items<u32> },
+    PreDown {
+        on: Boxed<Expr>,
+        lines: Items<u32>,
+    },
     /// A unary operator and its operand (6.5.3.2, 6.5.3.3).
     Unary {
         op: Punct,
@@ -71,7 +92,10 @@ pub enum Expr {
         lines: Items<u32>,
     },
     /// `sizeof on` (6.5.3.4).
-    SizeofExpr { on: Boxed<Expr>, lines: Items<u32> },
+    SizeofExpr {
+        on: Boxed<Expr>,
+        lines: Items<u32>,
+    },
     /// `sizeof ( of )` (6.5.3.4).
     SizeofType {
         of: Boxed<TypeName>,
@@ -90,11 +114,11 @@ pub enum Expr {
         right: Boxed<Expr>,
         lines: Items<u32>,
     },
-    /// `condition ? then : otherwise` (6.5.15).
+    /// `condition ? if_true : if_false` (6.5.15).
     Cond {
         condition: Boxed<Expr>,
-        then: Boxed<Expr>,
-        otherwise: Boxed<Expr>,
+        if_true: Boxed<Expr>,
+        if_false: Boxed<Expr>,
         lines: Items<u32>,
     },
     /// An assignment operator between its operands (6.5.16).

@@ -9,9 +9,15 @@ use cx_lex::Keyword;
 pub enum Spec {
     /// A storage class (6.7.1), a type specifier that is one keyword (6.7.2), a qualifier (6.7.3) or
     /// `inline` (6.7.4).
-    Key { word: Keyword, lines: Items<u32> },
+    Key {
+        word: Keyword,
+        lines: Items<u32>,
+    },
     /// A typedef name (6.7.7).
-    Typedef { name: Name, lines: Items<u32> },
+    Typedef {
+        name: Name,
+        lines: Items<u32>,
+    },
     /// A structure or union specifier (6.7.2.1): a tag, a list of members or both. Its own tokens are
     /// `struct` or `union`, the tag and the braces.
     Record {

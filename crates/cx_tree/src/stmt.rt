@@ -1,10 +1,9 @@
 mod items;
 
-pub use items::BlockItem;
-
 use crate::declaration::Decl;
 use crate::expr::Expr;
 use cr_base::{Boxed, Items, Name};
+pub use items::BlockItem;
 
 /// A statement (ISO C99, 6.8). Each has `lines`, the line of each token that it prints itself, in text order.
 #[cycle(statement)]
@@ -23,7 +22,10 @@ pub enum Stmt {
         lines: Items<u32>,
     },
     /// `default : stmt` (6.8.1).
-    Default { stmt: Boxed<Stmt>, lines: Items<u32> },
+    Default {
+        stmt: Boxed<Stmt>,
+        lines: Items<u32>,
+    },
     /// `{ items }` (6.8.2).
     Block {
         items: Items<BlockItem>,
@@ -34,10 +36,10 @@ pub enum Stmt {
         expr: Option<Boxed<Expr>>,
         lines: Items<u32>,
     },
-    /// `if ( condition ) then`, or that and `else otherwise` (6.8.4.1).
+    /// `if ( condition ) branch`, or that and `else otherwise` (6.8.4.1).
     If {
         condition: Boxed<Expr>,
-        then: Boxed<Stmt>,
+        branch: Boxed<Stmt>,
         otherwise: Option<Boxed<Stmt>>,
         lines: Items<u32>,
     },
@@ -69,11 +71,18 @@ pub enum Stmt {
         lines: Items<u32>,
     },
     /// `goto name ;` (6.8.6.1).
-    Goto { name: Name, lines: Items<u32> },
+    Goto {
+        name: Name,
+        lines: Items<u32>,
+    },
     /// `continue ;` (6.8.6.2).
-    Continue { lines: Items<u32> },
+    Continue {
+        lines: Items<u32>,
+    },
     /// `break ;` (6.8.6.3).
-    Break { lines: Items<u32> },
+    Break {
+        lines: Items<u32>,
+    },
     /// `return value ;`, or `return ;` (6.8.6.4).
     Return {
         value: Option<Boxed<Expr>>,

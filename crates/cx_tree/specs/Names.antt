@@ -1,0 +1,532 @@
+-- The names in scope in a tree (ISO C99, 6.2.1), so far as they decide whether an identifier is a typedef name (6.7.7).
+--
+-- Names in scope are a list of bindings, the newest first. `new_x x` is what the tree `x` leaves in scope behind it, so the names
+-- behind it are `new_x x ++ names`. `XStands names x` says that in `x`, which stands where these names are in scope, each
+-- identifier is a typedef name exactly where it has to be one. Members, tags, labels and designators are no names of this kind
+-- (6.2.3).
+use Rattle.std.specs.Prelude.{◌≡◌, ℕ, ⊤, Bool, true, false, ◌||◌, if◌then◌else◌, List, [], ◌∷◌, ◌++◌, Option, Some, None, bytes_eq}
+use Rattle.cx_tree.specs.Trees.{ExprTree, Name, Number, Letter, Text, Paren, Index, Call, Dot, Arrow, PostUp, PostDown, Literal, PreUp, PreDown, Unary, SizeofExpr, SizeofType, Cast, Binary, Cond, Assign, Comma, ExprTrees, no_exprs, more_exprs, OptionExprTree, no_expr, some_expr, TypeNameTree, TypeName, SpecTree, Key, Typedef, Record, Enum, SpecTrees, no_specs, more_specs, MemberDeclTree, MemberDecl, MemberDeclTrees, no_member_decls, more_member_decls, OptionMemberDeclTrees, no_members, some_members, MemberDeclaratorTree, MemberDeclarator, MemberDeclaratorTrees, no_member_declarators, more_member_declarators, EnumeratorTree, Enumerator, EnumeratorTrees, no_enumerators, more_enumerators, OptionEnumeratorTrees, no_enumerator_list, some_enumerator_list, DeclaratorTree, Missing, Identifier, Group, Pointer, Array, Function, Identifiers, BracketsTree, Unsized, Length, StaticFirst, StaticLast, Star, ParamTree, Param, ParamTrees, no_params, more_params, InitialiserTree, Single, Braced, InitialiserListTree, InitialiserList, EntryTree, Entry, EntryTrees, no_entries, more_entries, DesignatorTree, Element, Member, DesignatorTrees, no_designators, more_designators, InitDeclaratorTree, DeclTree, ForFirstTree, FirstValue, FirstDeclared, StmtTree, Label, Case, Default, Block, ExprStmt, If, Switch, While, Do, For, Goto, Continue, Break, Return, OptionStmtTree, no_stmt, some_stmt, ItemTree, Statement, Declared, ItemTrees, no_items, more_items, DefinitionTree, ExternalTree, Defined, Declaration, UnitTree}
+use Rattle.cx_tree.specs.Words.{is_type_word, is_typedef_word}
+
+-- ---- bindings
+
+-- a declared name: a typedef name, or that of an object, a function or an enumerator
+pub record Binding : Type 0 where
+  pub name : List ℕ
+  pub is_typedef : Bool
+
+-- an identifier is a typedef name where its innermost declaration makes it one
+abbrev pub is_type : List Binding → List ℕ → Bool
+is_type [] name = false
+is_type (binding ∷ names) name = if bytes_eq binding.name name then binding.is_typedef else is_type names name
+
+-- an identifier, where there is one, isn't a typedef name
+abbrev pub IsOrdinary : List Binding → Option (List ℕ) → Type 0
+IsOrdinary names None = ⊤
+IsOrdinary names (Some name) = is_type names name ≡ false
+
+abbrev pub AreOrdinary : List Binding → List (List ℕ) → Type 0
+AreOrdinary names [] = ⊤
+AreOrdinary names (name ∷ others) = (is_type names name ≡ false) × AreOrdinary names others
+
+-- the binding of a name, where there is one
+abbrev pub bound : Bool → Option (List ℕ) → List Binding
+bound is_typedef None = []
+bound is_typedef (Some name) = record { name = name; is_typedef = is_typedef } ∷ []
+
+-- ---- specifiers
+
+-- a type specifier (6.7.2)
+abbrev pub is_type_specifier : SpecTree → Bool
+is_type_specifier (Key word lines) = is_type_word word
+is_type_specifier (Typedef name lines) = true
+is_type_specifier (Record is_union tag members lines) = true
+is_type_specifier (Enum tag list last_comma lines) = true
+
+abbrev pub has_type_specifier : SpecTrees → Bool
+has_type_specifier no_specs = false
+has_type_specifier (more_specs s ss) = is_type_specifier s || has_type_specifier ss
+
+-- the keyword `typedef` (6.7.1)
+abbrev pub is_typedef_specifier : SpecTree → Bool
+is_typedef_specifier (Key word lines) = is_typedef_word word
+is_typedef_specifier (Typedef name lines) = false
+is_typedef_specifier (Record is_union tag members lines) = false
+is_typedef_specifier (Enum tag list last_comma lines) = false
+
+-- what is declared is a typedef name (6.7.7)
+abbrev pub declares_typedef : SpecTrees → Bool
+declares_typedef no_specs = false
+declares_typedef (more_specs s ss) = is_typedef_specifier s || declares_typedef ss
+
+-- ---- declarators
+
+-- the identifier that a declarator declares; an abstract one declares none
+abbrev pub declared_name : DeclaratorTree → Option (List ℕ)
+declared_name Missing = None
+declared_name (Identifier name lines) = Some name
+declared_name (Group inner lines) = declared_name inner
+declared_name (Pointer qualifiers of lines) = declared_name of
+declared_name (Array of brackets lines) = declared_name of
+declared_name (Function of params variadic lines) = declared_name of
+declared_name (Identifiers of names lines) = declared_name of
+
+-- the identifier that a declarator begins with
+abbrev pub first_name : DeclaratorTree → Option (List ℕ)
+first_name Missing = None
+first_name (Identifier name lines) = Some name
+first_name (Group inner lines) = None
+first_name (Pointer qualifiers of lines) = None
+first_name (Array of brackets lines) = first_name of
+first_name (Function of params variadic lines) = first_name of
+first_name (Identifiers of names lines) = first_name of
+
+-- Behind specifiers, of which this one says whether a type specifier is among them: where there is none, an identifier that can
+-- be a typedef name is one, and belongs to the specifiers. So a declarator behind them doesn't begin with such an identifier.
+abbrev pub StandsBehind : Bool → List Binding → DeclaratorTree → Type 0
+StandsBehind true names declarator = ⊤
+StandsBehind false names declarator = IsOrdinary names (first_name declarator)
+
+-- In a parameter (true), an identifier behind `(` that can be a typedef name is one, and begins a list of parameters (6.7.5.3p11).
+-- So a declarator in parentheses doesn't begin with such an identifier.
+abbrev pub StandsInGroup : Bool → List Binding → DeclaratorTree → Type 0
+StandsInGroup true names inner = IsOrdinary names (first_name inner)
+StandsInGroup false names inner = ⊤
+
+-- ---- what stays in scope behind a tree: expressions, and what stands in them (6.5, 6.7)
+
+abbrev mutual
+  pub new_expr : ExprTree → List Binding
+  new_expr (Name name lines) = []
+  new_expr (Number value ty lines) = []
+  new_expr (Letter value lines) = []
+  new_expr (Text parts lines) = []
+  new_expr (Paren inner lines) = new_expr inner
+  new_expr (Index of index lines) = new_expr index ++ new_expr of
+  new_expr (Call of args lines) = new_exprs args ++ new_expr of
+  new_expr (Dot of member lines) = new_expr of
+  new_expr (Arrow of member lines) = new_expr of
+  new_expr (PostUp of lines) = new_expr of
+  new_expr (PostDown of lines) = new_expr of
+  new_expr (Literal of list lines) = new_initialiser_list list ++ new_type_name of
+  new_expr (PreUp on lines) = new_expr on
+  new_expr (PreDown on lines) = new_expr on
+  new_expr (Unary op on lines) = new_expr on
+  new_expr (SizeofExpr on lines) = new_expr on
+  new_expr (SizeofType of lines) = new_type_name of
+  new_expr (Cast to on lines) = new_expr on ++ new_type_name to
+  new_expr (Binary left op right lines) = new_expr right ++ new_expr left
+  new_expr (Cond condition if_true if_false lines) = new_expr if_false ++ (new_expr if_true ++ new_expr condition)
+  new_expr (Assign left op right lines) = new_expr right ++ new_expr left
+  new_expr (Comma left right lines) = new_expr right ++ new_expr left
+
+  pub new_exprs : ExprTrees → List Binding
+  new_exprs no_exprs = []
+  new_exprs (more_exprs e es) = new_exprs es ++ new_expr e
+
+  pub new_option : OptionExprTree → List Binding
+  new_option no_expr = []
+  new_option (some_expr e) = new_expr e
+
+  pub new_type_name : TypeNameTree → List Binding
+  new_type_name (TypeName specs declarator lines) = new_declarator declarator ++ new_specs specs
+
+  -- the enumerators; those among a record's members are in scope behind the record too
+  pub new_spec : SpecTree → List Binding
+  new_spec (Key word lines) = []
+  new_spec (Typedef name lines) = []
+  new_spec (Record is_union tag members lines) = new_members members
+  new_spec (Enum tag list last_comma lines) = new_enumerator_list list
+
+  pub new_specs : SpecTrees → List Binding
+  new_specs no_specs = []
+  new_specs (more_specs s ss) = new_specs ss ++ new_spec s
+
+  pub new_members : OptionMemberDeclTrees → List Binding
+  new_members no_members = []
+  new_members (some_members list) = new_member_decls list
+
+  pub new_member_decl : MemberDeclTree → List Binding
+  new_member_decl (MemberDecl specs list lines) = new_member_declarators list ++ new_specs specs
+
+  pub new_member_decls : MemberDeclTrees → List Binding
+  new_member_decls no_member_decls = []
+  new_member_decls (more_member_decls m ms) = new_member_decls ms ++ new_member_decl m
+
+  pub new_member_declarator : MemberDeclaratorTree → List Binding
+  new_member_declarator (MemberDeclarator declarator width lines) = new_option width ++ new_declarator declarator
+
+  pub new_member_declarators : MemberDeclaratorTrees → List Binding
+  new_member_declarators no_member_declarators = []
+  new_member_declarators (more_member_declarators m ms) = new_member_declarators ms ++ new_member_declarator m
+
+  pub new_enumerator_list : OptionEnumeratorTrees → List Binding
+  new_enumerator_list no_enumerator_list = []
+  new_enumerator_list (some_enumerator_list list) = new_enumerators list
+
+  -- an enumerator is in scope behind its value (6.2.1p7)
+  pub new_enumerator : EnumeratorTree → List Binding
+  new_enumerator (Enumerator name value lines) = record { name = name; is_typedef = false } ∷ new_option value
+
+  pub new_enumerators : EnumeratorTrees → List Binding
+  new_enumerators no_enumerators = []
+  new_enumerators (more_enumerators e es) = new_enumerators es ++ new_enumerator e
+
+  -- what the lengths in a declarator declare; what a list of parameters declares ends with the list (6.2.1p4)
+  pub new_declarator : DeclaratorTree → List Binding
+  new_declarator Missing = []
+  new_declarator (Identifier name lines) = []
+  new_declarator (Group inner lines) = new_declarator inner
+  new_declarator (Pointer qualifiers of lines) = new_declarator of
+  new_declarator (Array of brackets lines) = new_brackets brackets ++ new_declarator of
+  new_declarator (Function of params variadic lines) = new_declarator of
+  new_declarator (Identifiers of names lines) = new_declarator of
+
+  pub new_brackets : BracketsTree → List Binding
+  new_brackets (Unsized qualifiers) = []
+  new_brackets (Length qualifiers size) = new_expr size
+  new_brackets (StaticFirst qualifiers size) = new_expr size
+  new_brackets (StaticLast qualifiers size) = new_expr size
+  new_brackets (Star qualifiers) = []
+
+  -- a parameter is in scope behind its declarator
+  pub new_param : ParamTree → List Binding
+  new_param (Param specs declarator lines) = bound (declares_typedef specs) (declared_name declarator) ++ (new_declarator declarator ++ new_specs specs)
+
+  pub new_params : ParamTrees → List Binding
+  new_params no_params = []
+  new_params (more_params p ps) = new_params ps ++ new_param p
+
+  pub new_initialiser : InitialiserTree → List Binding
+  new_initialiser (Single e) = new_expr e
+  new_initialiser (Braced list) = new_initialiser_list list
+
+  pub new_initialiser_list : InitialiserListTree → List Binding
+  new_initialiser_list (InitialiserList entries last_comma lines) = new_entries entries
+
+  pub new_entry : EntryTree → List Binding
+  new_entry (Entry designators init lines) = new_initialiser init ++ new_designators designators
+
+  pub new_entries : EntryTrees → List Binding
+  new_entries no_entries = []
+  new_entries (more_entries e es) = new_entries es ++ new_entry e
+
+  pub new_designator : DesignatorTree → List Binding
+  new_designator (Element at lines) = new_expr at
+  new_designator (Member name lines) = []
+
+  pub new_designators : DesignatorTrees → List Binding
+  new_designators no_designators = []
+  new_designators (more_designators d ds) = new_designators ds ++ new_designator d
+
+-- ---- how a tree stands: expressions, and what stands in them (6.5, 6.7)
+
+-- three parts, in text order
+pub record AllThree (First Second Third : Type 0) : Type 0 where
+  pub first : First
+  pub second : Second
+  pub third : Third
+
+-- specifiers, the first declarator behind them, and what they declare
+pub record InDeclaration (Specs Behind Declared : Type 0) : Type 0 where
+  pub specs : Specs
+  pub behind : Behind
+  pub declared : Declared
+
+abbrev mutual
+  pub ExprStands : List Binding → ExprTree → Type 0
+  ExprStands names (Name name lines) = is_type names name ≡ false
+  ExprStands names (Number value ty lines) = ⊤
+  ExprStands names (Letter value lines) = ⊤
+  ExprStands names (Text parts lines) = ⊤
+  ExprStands names (Paren inner lines) = ExprStands names inner
+  ExprStands names (Index of index lines) = ExprStands names of × ExprStands (new_expr of ++ names) index
+  ExprStands names (Call of args lines) = ExprStands names of × ExprsStand (new_expr of ++ names) args
+  ExprStands names (Dot of member lines) = ExprStands names of
+  ExprStands names (Arrow of member lines) = ExprStands names of
+  ExprStands names (PostUp of lines) = ExprStands names of
+  ExprStands names (PostDown of lines) = ExprStands names of
+  ExprStands names (Literal of list lines) = TypeNameStands names of × InitialiserListStands (new_type_name of ++ names) list
+  ExprStands names (PreUp on lines) = ExprStands names on
+  ExprStands names (PreDown on lines) = ExprStands names on
+  ExprStands names (Unary op on lines) = ExprStands names on
+  ExprStands names (SizeofExpr on lines) = ExprStands names on
+  ExprStands names (SizeofType of lines) = TypeNameStands names of
+  ExprStands names (Cast to on lines) = TypeNameStands names to × ExprStands (new_type_name to ++ names) on
+  ExprStands names (Binary left op right lines) = ExprStands names left × ExprStands (new_expr left ++ names) right
+  ExprStands names (Cond condition if_true if_false lines) =
+      AllThree (ExprStands names condition) (ExprStands (new_expr condition ++ names) if_true) (ExprStands (new_expr if_true ++ (new_expr condition ++ names)) if_false)
+  ExprStands names (Assign left op right lines) = ExprStands names left × ExprStands (new_expr left ++ names) right
+  ExprStands names (Comma left right lines) = ExprStands names left × ExprStands (new_expr left ++ names) right
+
+  pub ExprsStand : List Binding → ExprTrees → Type 0
+  ExprsStand names no_exprs = ⊤
+  ExprsStand names (more_exprs e es) = ExprStands names e × ExprsStand (new_expr e ++ names) es
+
+  pub OptionStands : List Binding → OptionExprTree → Type 0
+  OptionStands names no_expr = ⊤
+  OptionStands names (some_expr e) = ExprStands names e
+
+  -- its declarator is abstract, and begins with no identifier
+  pub TypeNameStands : List Binding → TypeNameTree → Type 0
+  TypeNameStands names (TypeName specs declarator lines) =
+      InDeclaration (SpecsStand names false specs) (StandsBehind (has_type_specifier specs) (new_specs specs ++ names) declarator)
+      (DeclaratorStands false (new_specs specs ++ names) declarator)
+
+  -- the truth value says whether a type specifier stands before it
+  pub SpecStands : List Binding → Bool → SpecTree → Type 0
+  SpecStands names typed (Key word lines) = ⊤
+  SpecStands names typed (Typedef name lines) = (is_type names name ≡ true) × (typed ≡ false)
+  SpecStands names typed (Record is_union tag members lines) = MembersStand names members
+  SpecStands names typed (Enum tag list last_comma lines) = EnumeratorListStands names list
+
+  pub SpecsStand : List Binding → Bool → SpecTrees → Type 0
+  SpecsStand names typed no_specs = ⊤
+  SpecsStand names typed (more_specs s ss) = SpecStands names typed s × SpecsStand (new_spec s ++ names) (typed || is_type_specifier s) ss
+
+  pub MembersStand : List Binding → OptionMemberDeclTrees → Type 0
+  MembersStand names no_members = ⊤
+  MembersStand names (some_members list) = MemberDeclsStand names list
+
+  pub MemberDeclStands : List Binding → MemberDeclTree → Type 0
+  MemberDeclStands names (MemberDecl specs list lines) =
+      InDeclaration (SpecsStand names false specs) (MembersStandBehind (has_type_specifier specs) (new_specs specs ++ names) list)
+      (MemberDeclaratorsStand (new_specs specs ++ names) list)
+
+  pub MemberDeclsStand : List Binding → MemberDeclTrees → Type 0
+  MemberDeclsStand names no_member_decls = ⊤
+  MemberDeclsStand names (more_member_decls m ms) = MemberDeclStands names m × MemberDeclsStand (new_member_decl m ++ names) ms
+
+  pub MemberDeclaratorStands : List Binding → MemberDeclaratorTree → Type 0
+  MemberDeclaratorStands names (MemberDeclarator declarator width lines) =
+      DeclaratorStands false names declarator × OptionStands (new_declarator declarator ++ names) width
+
+  pub MemberDeclaratorsStand : List Binding → MemberDeclaratorTrees → Type 0
+  MemberDeclaratorsStand names no_member_declarators = ⊤
+  MemberDeclaratorsStand names (more_member_declarators m ms) =
+      MemberDeclaratorStands names m × MemberDeclaratorsStand (new_member_declarator m ++ names) ms
+
+  -- the first declarator alone stands behind the specifiers
+  pub MembersStandBehind : Bool → List Binding → MemberDeclaratorTrees → Type 0
+  MembersStandBehind typed names no_member_declarators = ⊤
+  MembersStandBehind typed names (more_member_declarators (MemberDeclarator declarator width lines) ms) = StandsBehind typed names declarator
+
+  pub EnumeratorListStands : List Binding → OptionEnumeratorTrees → Type 0
+  EnumeratorListStands names no_enumerator_list = ⊤
+  EnumeratorListStands names (some_enumerator_list list) = EnumeratorsStand names list
+
+  pub EnumeratorStands : List Binding → EnumeratorTree → Type 0
+  EnumeratorStands names (Enumerator name value lines) = OptionStands names value
+
+  pub EnumeratorsStand : List Binding → EnumeratorTrees → Type 0
+  EnumeratorsStand names no_enumerators = ⊤
+  EnumeratorsStand names (more_enumerators e es) = EnumeratorStands names e × EnumeratorsStand (new_enumerator e ++ names) es
+
+  -- the truth value says whether the declarator is a parameter's
+  pub DeclaratorStands : Bool → List Binding → DeclaratorTree → Type 0
+  DeclaratorStands in_parameter names Missing = ⊤
+  DeclaratorStands in_parameter names (Identifier name lines) = ⊤
+  DeclaratorStands in_parameter names (Group inner lines) = StandsInGroup in_parameter names inner × DeclaratorStands in_parameter names inner
+  DeclaratorStands in_parameter names (Pointer qualifiers of lines) = DeclaratorStands in_parameter names of
+  DeclaratorStands in_parameter names (Array of brackets lines) =
+      DeclaratorStands in_parameter names of × BracketsStand (new_declarator of ++ names) brackets
+  DeclaratorStands in_parameter names (Function of params variadic lines) =
+      DeclaratorStands in_parameter names of × ParamsStand (new_declarator of ++ names) params
+  DeclaratorStands in_parameter names (Identifiers of listed lines) =
+      DeclaratorStands in_parameter names of × AreOrdinary (new_declarator of ++ names) listed
+
+  pub BracketsStand : List Binding → BracketsTree → Type 0
+  BracketsStand names (Unsized qualifiers) = ⊤
+  BracketsStand names (Length qualifiers size) = ExprStands names size
+  BracketsStand names (StaticFirst qualifiers size) = ExprStands names size
+  BracketsStand names (StaticLast qualifiers size) = ExprStands names size
+  BracketsStand names (Star qualifiers) = ⊤
+
+  pub ParamStands : List Binding → ParamTree → Type 0
+  ParamStands names (Param specs declarator lines) =
+      InDeclaration (SpecsStand names false specs) (StandsBehind (has_type_specifier specs) (new_specs specs ++ names) declarator)
+      (DeclaratorStands true (new_specs specs ++ names) declarator)
+
+  pub ParamsStand : List Binding → ParamTrees → Type 0
+  ParamsStand names no_params = ⊤
+  ParamsStand names (more_params p ps) = ParamStands names p × ParamsStand (new_param p ++ names) ps
+
+  pub InitialiserStands : List Binding → InitialiserTree → Type 0
+  InitialiserStands names (Single e) = ExprStands names e
+  InitialiserStands names (Braced list) = InitialiserListStands names list
+
+  pub InitialiserListStands : List Binding → InitialiserListTree → Type 0
+  InitialiserListStands names (InitialiserList entries last_comma lines) = EntriesStand names entries
+
+  pub EntryStands : List Binding → EntryTree → Type 0
+  EntryStands names (Entry designators init lines) = DesignatorsStand names designators × InitialiserStands (new_designators designators ++ names) init
+
+  pub EntriesStand : List Binding → EntryTrees → Type 0
+  EntriesStand names no_entries = ⊤
+  EntriesStand names (more_entries e es) = EntryStands names e × EntriesStand (new_entry e ++ names) es
+
+  pub DesignatorStands : List Binding → DesignatorTree → Type 0
+  DesignatorStands names (Element at lines) = ExprStands names at
+  DesignatorStands names (Member name lines) = ⊤
+
+  pub DesignatorsStand : List Binding → DesignatorTrees → Type 0
+  DesignatorsStand names no_designators = ⊤
+  DesignatorsStand names (more_designators d ds) = DesignatorStands names d × DesignatorsStand (new_designator d ++ names) ds
+
+-- ---- declarations (6.7)
+
+abbrev pub new_init : Option InitialiserTree → List Binding
+new_init None = []
+new_init (Some init) = new_initialiser init
+
+-- the declared name is in scope behind its declarator, and in the initialiser (6.2.1p7); true: it is a typedef name
+abbrev pub new_declared : Bool → DeclaratorTree → List Binding
+new_declared is_typedef declarator = bound is_typedef (declared_name declarator) ++ new_declarator declarator
+
+abbrev pub new_init_declarator : Bool → InitDeclaratorTree → List Binding
+new_init_declarator is_typedef d = new_init d.init ++ new_declared is_typedef d.declarator
+
+abbrev pub new_init_declarators : Bool → List InitDeclaratorTree → List Binding
+new_init_declarators is_typedef [] = []
+new_init_declarators is_typedef (d ∷ ds) = new_init_declarators is_typedef ds ++ new_init_declarator is_typedef d
+
+abbrev pub new_decl : DeclTree → List Binding
+new_decl d = new_init_declarators (declares_typedef d.specs) d.list ++ new_specs d.specs
+
+abbrev pub InitStands : List Binding → Option InitialiserTree → Type 0
+InitStands names None = ⊤
+InitStands names (Some init) = InitialiserStands names init
+
+abbrev pub InitDeclaratorStands : Bool → List Binding → InitDeclaratorTree → Type 0
+InitDeclaratorStands is_typedef names d = DeclaratorStands false names d.declarator × InitStands (new_declared is_typedef d.declarator ++ names) d.init
+
+abbrev pub InitDeclaratorsStand : Bool → List Binding → List InitDeclaratorTree → Type 0
+InitDeclaratorsStand is_typedef names [] = ⊤
+InitDeclaratorsStand is_typedef names (d ∷ ds) =
+    InitDeclaratorStands is_typedef names d × InitDeclaratorsStand is_typedef (new_init_declarator is_typedef d ++ names) ds
+
+-- the first declarator alone stands behind the specifiers
+abbrev pub DeclaratorsStandBehind : Bool → List Binding → List InitDeclaratorTree → Type 0
+DeclaratorsStandBehind typed names [] = ⊤
+DeclaratorsStandBehind typed names (d ∷ ds) = StandsBehind typed names d.declarator
+
+abbrev pub DeclStands : List Binding → DeclTree → Type 0
+DeclStands names d =
+    InDeclaration (SpecsStand names false d.specs) (DeclaratorsStandBehind (has_type_specifier d.specs) (new_specs d.specs ++ names) d.list)
+    (InitDeclaratorsStand (declares_typedef d.specs) (new_specs d.specs ++ names) d.list)
+
+-- ---- statements (6.8)
+
+abbrev pub new_first : ForFirstTree → List Binding
+new_first (FirstValue value) = new_option value
+new_first (FirstDeclared decl) = new_decl decl
+
+-- A block, a selection statement and an iteration statement are scopes (6.8.2, 6.8.4p3, 6.8.5p5), and leave nothing behind. What
+-- the expressions of any other statement declare stays to the end of the block that it stands in.
+abbrev pub new_stmt : StmtTree → List Binding
+new_stmt (Label name stmt lines) = new_stmt stmt
+new_stmt (Case value stmt lines) = new_stmt stmt ++ new_expr value
+new_stmt (Default stmt lines) = new_stmt stmt
+new_stmt (Block items lines) = []
+new_stmt (ExprStmt expr lines) = new_option expr
+new_stmt (If condition branch otherwise lines) = []
+new_stmt (Switch on body lines) = []
+new_stmt (While condition body lines) = []
+new_stmt (Do body condition lines) = []
+new_stmt (For first second third body lines) = []
+new_stmt (Goto name lines) = []
+new_stmt (Continue lines) = []
+new_stmt (Break lines) = []
+new_stmt (Return value lines) = new_option value
+
+abbrev pub new_item : ItemTree → List Binding
+new_item (Statement stmt) = new_stmt stmt
+new_item (Declared decl) = new_decl decl
+
+abbrev pub FirstStands : List Binding → ForFirstTree → Type 0
+FirstStands names (FirstValue value) = OptionStands names value
+FirstStands names (FirstDeclared decl) = DeclStands names decl
+
+-- the clauses of a `for` statement and its body, in text order
+pub record InFor (First Second Third Body : Type 0) : Type 0 where
+  pub first : First
+  pub second : Second
+  pub third : Third
+  pub body : Body
+
+abbrev mutual
+  -- a branch and a body are scopes of their own (6.8.4p3, 6.8.5p5): what they declare isn't seen behind them
+  pub StmtStands : List Binding → StmtTree → Type 0
+  StmtStands names (Label name stmt lines) = StmtStands names stmt
+  StmtStands names (Case value stmt lines) = ExprStands names value × StmtStands (new_expr value ++ names) stmt
+  StmtStands names (Default stmt lines) = StmtStands names stmt
+  StmtStands names (Block items lines) = ItemsStand names items
+  StmtStands names (ExprStmt expr lines) = OptionStands names expr
+  StmtStands names (If condition branch otherwise lines) =
+      AllThree (ExprStands names condition) (StmtStands (new_expr condition ++ names) branch) (ElseStands (new_expr condition ++ names) otherwise)
+  StmtStands names (Switch on body lines) = ExprStands names on × StmtStands (new_expr on ++ names) body
+  StmtStands names (While condition body lines) = ExprStands names condition × StmtStands (new_expr condition ++ names) body
+  StmtStands names (Do body condition lines) = StmtStands names body × ExprStands names condition
+  StmtStands names (For first second third body lines) =
+      InFor (FirstStands names first) (OptionStands (new_first first ++ names) second) (OptionStands (new_option second ++ (new_first first ++ names)) third)
+      (StmtStands (new_option third ++ (new_option second ++ (new_first first ++ names))) body)
+  StmtStands names (Goto name lines) = ⊤
+  StmtStands names (Continue lines) = ⊤
+  StmtStands names (Break lines) = ⊤
+  StmtStands names (Return value lines) = OptionStands names value
+
+  pub ElseStands : List Binding → OptionStmtTree → Type 0
+  ElseStands names no_stmt = ⊤
+  ElseStands names (some_stmt stmt) = StmtStands names stmt
+
+  pub ItemStands : List Binding → ItemTree → Type 0
+  ItemStands names (Statement stmt) = StmtStands names stmt
+  ItemStands names (Declared decl) = DeclStands names decl
+
+  pub ItemsStand : List Binding → ItemTrees → Type 0
+  ItemsStand names no_items = ⊤
+  ItemsStand names (more_items i is) = ItemStands names i × ItemsStand (new_item i ++ names) is
+
+-- ---- units (6.9)
+
+-- a declared identifier, which may stand in parentheses
+abbrev pub is_identifier : DeclaratorTree → Bool
+is_identifier (Identifier name lines) = true
+is_identifier (Group inner lines) = is_identifier inner
+is_identifier _ = false
+
+-- The parameters of the function that a declarator declares, which are in scope in its body (6.2.1p4): those of the list that
+-- follows the identifier.
+abbrev pub new_in_body : DeclaratorTree → List Binding
+new_in_body Missing = []
+new_in_body (Identifier name lines) = []
+new_in_body (Group inner lines) = new_in_body inner
+new_in_body (Pointer qualifiers of lines) = new_in_body of
+new_in_body (Array of brackets lines) = new_in_body of
+new_in_body (Function of params variadic lines) = if is_identifier of then new_params params else new_in_body of
+new_in_body (Identifiers of names lines) = new_in_body of
+
+abbrev pub new_definition : DefinitionTree → List Binding
+new_definition d = new_declared (declares_typedef d.specs) d.declarator ++ new_specs d.specs
+
+-- a function definition: the function's name is in scope in its body, and is older there than the parameters
+pub record DefinitionStands (names : List Binding) (d : DefinitionTree) : Type 0 where
+  pub specs : SpecsStand names false d.specs
+  pub behind : StandsBehind (has_type_specifier d.specs) (new_specs d.specs ++ names) d.declarator
+  pub declarator : DeclaratorStands false (new_specs d.specs ++ names) d.declarator
+  pub body : StmtStands (new_in_body d.declarator ++ (new_definition d ++ names)) d.body
+
+abbrev pub new_external : ExternalTree → List Binding
+new_external (Defined definition) = new_definition definition
+new_external (Declaration decl) = new_decl decl
+
+abbrev pub ExternalStands : List Binding → ExternalTree → Type 0
+ExternalStands names (Defined definition) = DefinitionStands names definition
+ExternalStands names (Declaration decl) = DeclStands names decl
+
+abbrev pub ExternalsStand : List Binding → List ExternalTree → Type 0
+ExternalsStand names [] = ⊤
+ExternalsStand names (e ∷ es) = ExternalStands names e × ExternalsStand (new_external e ++ names) es
+
+abbrev pub UnitStands : List Binding → UnitTree → Type 0
+UnitStands names unit = ExternalsStand names unit.parts
