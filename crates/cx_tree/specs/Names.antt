@@ -29,11 +29,6 @@ abbrev pub AreOrdinary : List Binding → List (List ℕ) → Type 0
 AreOrdinary names [] = ⊤
 AreOrdinary names (name ∷ others) = (is_type names name ≡ false) × AreOrdinary names others
 
--- the binding of a name, where there is one
-abbrev pub bound : Bool → Option (List ℕ) → List Binding
-bound is_typedef None = []
-bound is_typedef (Some name) = record { name = name; is_typedef = is_typedef } ∷ []
-
 -- ---- specifiers
 
 -- a type specifier (6.7.2)
@@ -55,11 +50,16 @@ is_typedef_specifier (Record is_union tag members lines) = false
 is_typedef_specifier (Enum tag list last_comma lines) = false
 
 -- what is declared is a typedef name (6.7.7)
-abbrev pub declares_typedef : SpecTrees → Bool
-declares_typedef no_specs = false
-declares_typedef (more_specs s ss) = is_typedef_specifier s || declares_typedef ss
+abbrev pub says_typedef : SpecTrees → Bool
+says_typedef no_specs = false
+says_typedef (more_specs s ss) = is_typedef_specifier s || says_typedef ss
 
 -- ---- declarators
+
+-- the binding of a name, where there is one
+abbrev pub binding_of : Bool → Option (List ℕ) → List Binding
+binding_of is_typedef None = []
+binding_of is_typedef (Some name) = record { name = name; is_typedef = is_typedef } ∷ []
 
 -- the identifier that a declarator declares; an abstract one declares none
 abbrev pub declared_name : DeclaratorTree → Option (List ℕ)
@@ -70,6 +70,10 @@ declared_name (Pointer qualifiers of lines) = declared_name of
 declared_name (Array of brackets lines) = declared_name of
 declared_name (Function of params variadic lines) = declared_name of
 declared_name (Identifiers of names lines) = declared_name of
+
+-- the binding that a declarator with a name makes behind these specifiers
+abbrev pub bound : SpecTrees → DeclaratorTree → List Binding
+bound specs declarator = binding_of (says_typedef specs) (declared_name declarator)
 
 -- the identifier that a declarator begins with
 abbrev pub first_name : DeclaratorTree → Option (List ℕ)
@@ -191,7 +195,7 @@ abbrev mutual
 
   -- a parameter is in scope behind its declarator
   pub new_param : ParamTree → List Binding
-  new_param (Param specs declarator lines) = bound (declares_typedef specs) (declared_name declarator) ++ (new_declarator declarator ++ new_specs specs)
+  new_param (Param specs declarator lines) = bound specs declarator ++ (new_declarator declarator ++ new_specs specs)
 
   pub new_params : ParamTrees → List Binding
   new_params no_params = []
@@ -379,31 +383,31 @@ abbrev pub new_init : Option InitialiserTree → List Binding
 new_init None = []
 new_init (Some init) = new_initialiser init
 
--- the declared name is in scope behind its declarator, and in the initialiser (6.2.1p7); true: it is a typedef name
-abbrev pub new_declared : Bool → DeclaratorTree → List Binding
-new_declared is_typedef declarator = bound is_typedef (declared_name declarator) ++ new_declarator declarator
+-- the declared name is in scope behind its declarator, and in the initialiser (6.2.1p7)
+abbrev pub new_declared : SpecTrees → DeclaratorTree → List Binding
+new_declared specs declarator = bound specs declarator ++ new_declarator declarator
 
-abbrev pub new_init_declarator : Bool → InitDeclaratorTree → List Binding
-new_init_declarator is_typedef d = new_init d.init ++ new_declared is_typedef d.declarator
+abbrev pub new_init_declarator : SpecTrees → InitDeclaratorTree → List Binding
+new_init_declarator specs d = new_init d.init ++ new_declared specs d.declarator
 
-abbrev pub new_init_declarators : Bool → List InitDeclaratorTree → List Binding
-new_init_declarators is_typedef [] = []
-new_init_declarators is_typedef (d ∷ ds) = new_init_declarators is_typedef ds ++ new_init_declarator is_typedef d
+abbrev pub new_init_declarators : SpecTrees → List InitDeclaratorTree → List Binding
+new_init_declarators specs [] = []
+new_init_declarators specs (d ∷ ds) = new_init_declarators specs ds ++ new_init_declarator specs d
 
 abbrev pub new_decl : DeclTree → List Binding
-new_decl d = new_init_declarators (declares_typedef d.specs) d.list ++ new_specs d.specs
+new_decl d = new_init_declarators d.specs d.list ++ new_specs d.specs
 
 abbrev pub InitStands : List Binding → Option InitialiserTree → Type 0
 InitStands names None = ⊤
 InitStands names (Some init) = InitialiserStands names init
 
-abbrev pub InitDeclaratorStands : Bool → List Binding → InitDeclaratorTree → Type 0
-InitDeclaratorStands is_typedef names d = DeclaratorStands false names d.declarator × InitStands (new_declared is_typedef d.declarator ++ names) d.init
+abbrev pub InitDeclaratorStands : SpecTrees → List Binding → InitDeclaratorTree → Type 0
+InitDeclaratorStands specs names d = DeclaratorStands false names d.declarator × InitStands (new_declared specs d.declarator ++ names) d.init
 
-abbrev pub InitDeclaratorsStand : Bool → List Binding → List InitDeclaratorTree → Type 0
-InitDeclaratorsStand is_typedef names [] = ⊤
-InitDeclaratorsStand is_typedef names (d ∷ ds) =
-    InitDeclaratorStands is_typedef names d × InitDeclaratorsStand is_typedef (new_init_declarator is_typedef d ++ names) ds
+abbrev pub InitDeclaratorsStand : SpecTrees → List Binding → List InitDeclaratorTree → Type 0
+InitDeclaratorsStand specs names [] = ⊤
+InitDeclaratorsStand specs names (d ∷ ds) =
+    InitDeclaratorStands specs names d × InitDeclaratorsStand specs (new_init_declarator specs d ++ names) ds
 
 -- the first declarator alone stands behind the specifiers
 abbrev pub DeclaratorsStandBehind : Bool → List Binding → List InitDeclaratorTree → Type 0
@@ -413,7 +417,7 @@ DeclaratorsStandBehind typed names (d ∷ ds) = StandsBehind typed names d.decla
 abbrev pub DeclStands : List Binding → DeclTree → Type 0
 DeclStands names d =
     InDeclaration (SpecsStand names false d.specs) (DeclaratorsStandBehind (has_type_specifier d.specs) (new_specs d.specs ++ names) d.list)
-    (InitDeclaratorsStand (declares_typedef d.specs) (new_specs d.specs ++ names) d.list)
+    (InitDeclaratorsStand d.specs (new_specs d.specs ++ names) d.list)
 
 -- ---- statements (6.8)
 
@@ -497,24 +501,24 @@ is_identifier _ = false
 
 -- The parameters of the function that a declarator declares, which are in scope in its body (6.2.1p4): those of the list that
 -- follows the identifier.
-abbrev pub new_in_body : DeclaratorTree → List Binding
-new_in_body Missing = []
-new_in_body (Identifier name lines) = []
-new_in_body (Group inner lines) = new_in_body inner
-new_in_body (Pointer qualifiers of lines) = new_in_body of
-new_in_body (Array of brackets lines) = new_in_body of
-new_in_body (Function of params variadic lines) = if is_identifier of then new_params params else new_in_body of
-new_in_body (Identifiers of names lines) = new_in_body of
+abbrev pub own_params : DeclaratorTree → ParamTrees
+own_params Missing = no_params
+own_params (Identifier name lines) = no_params
+own_params (Group inner lines) = own_params inner
+own_params (Pointer qualifiers of lines) = own_params of
+own_params (Array of brackets lines) = own_params of
+own_params (Function of params variadic lines) = if is_identifier of then params else own_params of
+own_params (Identifiers of names lines) = own_params of
 
 abbrev pub new_definition : DefinitionTree → List Binding
-new_definition d = new_declared (declares_typedef d.specs) d.declarator ++ new_specs d.specs
+new_definition d = new_declared d.specs d.declarator ++ new_specs d.specs
 
--- a function definition: the function's name is in scope in its body, and is older there than the parameters
+-- a function definition; the function's name is in scope in its body, and is older there than the parameters
 pub record DefinitionStands (names : List Binding) (d : DefinitionTree) : Type 0 where
   pub specs : SpecsStand names false d.specs
   pub behind : StandsBehind (has_type_specifier d.specs) (new_specs d.specs ++ names) d.declarator
   pub declarator : DeclaratorStands false (new_specs d.specs ++ names) d.declarator
-  pub body : StmtStands (new_in_body d.declarator ++ (new_definition d ++ names)) d.body
+  pub body : StmtStands (new_params (own_params d.declarator) ++ (new_definition d ++ names)) d.body
 
 abbrev pub new_external : ExternalTree → List Binding
 new_external (Defined definition) = new_definition definition

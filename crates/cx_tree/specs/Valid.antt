@@ -174,24 +174,24 @@ is_direct (Pointer qualifiers of lines) = false
 is_direct _ = true
 
 -- an identifier stands in it; an abstract declarator (6.7.6) has none
-abbrev pub is_named : DeclaratorTree → Bool
-is_named Missing = false
-is_named (Identifier name lines) = true
-is_named (Group inner lines) = is_named inner
-is_named (Pointer qualifiers of lines) = is_named of
-is_named (Array of brackets lines) = is_named of
-is_named (Function of params variadic lines) = is_named of
-is_named (Identifiers of names lines) = is_named of
+abbrev pub has_name : DeclaratorTree → Bool
+has_name Missing = false
+has_name (Identifier name lines) = true
+has_name (Group inner lines) = has_name inner
+has_name (Pointer qualifiers of lines) = has_name of
+has_name (Array of brackets lines) = has_name of
+has_name (Function of params variadic lines) = has_name of
+has_name (Identifiers of names lines) = has_name of
 
 -- a member's declarator has a name, or is missing where a width stands (6.7.2.1)
 abbrev pub is_member : DeclaratorTree → OptionExprTree → Bool
-is_member declarator no_expr = is_named declarator
-is_member declarator (some_expr width) = is_named declarator || not (is_present declarator)
+is_member declarator no_expr = has_name declarator
+is_member declarator (some_expr width) = has_name declarator || not (is_present declarator)
 
 -- a list of identifiers stands on a declarator with a name, unless it is empty (6.7.5.3, 6.7.6)
 abbrev pub may_list : List (List ℕ) → DeclaratorTree → Bool
 may_list [] of = true
-may_list (name ∷ names) of = is_named of
+may_list (name ∷ names) of = has_name of
 
 abbrev pub AreQualifiers : List Keyword → Type 0
 AreQualifiers [] = ⊤
@@ -279,7 +279,7 @@ abbrev mutual
   pub IsValidTypeName : TypeNameTree → Type 0
   IsValidTypeName (TypeName specs declarator lines) =
       OfType (OneOrMore (specs_count specs) (AreValidSpecs specs)) (IsValidDeclarator declarator)
-      (IsTrue (are_qualifying specs && not (is_named declarator))) lines
+      (IsTrue (are_qualifying specs && not (has_name declarator))) lines
 
   pub IsValidSpec : SpecTree → Type 0
   IsValidSpec (Key word lines) = OfOne (IsTrue (is_specifier_word word)) lines 1
@@ -393,7 +393,7 @@ IsValidInit (Some init) = IsValidInitialiser init
 
 -- the declarator has a name
 abbrev pub IsValidInitDeclarator : InitDeclaratorTree → Type 0
-IsValidInitDeclarator d = OfDeclarator (IsValidDeclarator d.declarator) (IsTrue (is_named d.declarator)) (IsValidInit d.init) d.lines (init_own d.init)
+IsValidInitDeclarator d = OfDeclarator (IsValidDeclarator d.declarator) (IsTrue (has_name d.declarator)) (IsValidInit d.init) d.lines (init_own d.init)
 
 abbrev pub AreValidInitDeclarators : List InitDeclaratorTree → Type 0
 AreValidInitDeclarators [] = ⊤
@@ -488,7 +488,7 @@ is_block _ = false
 pub record IsValidDefinition (definition : DefinitionTree) : Type 0 where
   pub specs : OneOrMore (specs_count definition.specs) (AreValidSpecs definition.specs)
   pub declarator : IsValidDeclarator definition.declarator
-  pub named : IsTrue (is_named definition.declarator)
+  pub named : IsTrue (has_name definition.declarator)
   pub body : IsValidStmt definition.body
   pub block : IsTrue (is_block definition.body)
   pub own : Lines definition.lines 0
