@@ -6,14 +6,20 @@ mod declaration;
 mod declarator;
 mod expr;
 mod initialiser;
+mod levels;
 mod specifier;
 mod stmt;
 mod unit;
+mod words;
 
 pub use declaration::{Decl, InitDeclarator};
 pub use declarator::{Brackets, Declarator, Param};
 pub use expr::Expr;
 pub use initialiser::{Designator, Entry, Initialiser, InitialiserList};
+pub use levels::{binary_level, is_assignment_operator, is_unary_operator, level};
 pub use specifier::{Enumerator, MemberDecl, MemberDeclarator, Spec, TypeName};
 pub use stmt::{BlockItem, ForFirst, Stmt};
 pub use unit::{Definition, External, Unit};
+pub use words::{
+    is_function_specifier, is_qualifier, is_storage_class, is_type_word, is_typedef_word,
+};
