@@ -1,24 +1,28 @@
 -- The names in scope in a tree (ISO C99, 6.2.1), so far as they decide whether an identifier is a typedef name (6.7.7).
 --
--- Names in scope are a list of bindings, the newest first. `new_x x` is what the tree `x` leaves in scope behind it, so the names
--- behind it are `new_x x ++ names`. `XStands names x` says that in `x`, which stands where these names are in scope, each
--- identifier is a typedef name exactly where it has to be one. Members, tags, labels and designators are no names of this kind
--- (6.2.3).
+-- Names in scope are a list of bindings, the oldest first. `new_x x` is what the tree `x` leaves in scope behind it, so the names
+-- behind it are `names ++ new_x x`, and a scope is left by taking as many as there were. `XStands names x` says that in `x`, which
+-- stands where these names are in scope, each identifier is a typedef name exactly where it has to be one. Members, tags, labels
+-- and designators are no names of this kind (6.2.3).
 use Rattle.std.specs.Prelude.{◌≡◌, ℕ, ⊤, Bool, true, false, ◌||◌, if◌then◌else◌, List, [], ◌∷◌, ◌++◌, Option, Some, None, bytes_eq}
 use Rattle.cx_tree.specs.Trees.{ExprTree, Name, Number, Letter, Text, Paren, Index, Call, Dot, Arrow, PostUp, PostDown, Literal, PreUp, PreDown, Unary, SizeofExpr, SizeofType, Cast, Binary, Cond, Assign, Comma, ExprTrees, no_exprs, more_exprs, OptionExprTree, no_expr, some_expr, TypeNameTree, TypeName, SpecTree, Key, Typedef, Record, Enum, SpecTrees, no_specs, more_specs, MemberDeclTree, MemberDecl, MemberDeclTrees, no_member_decls, more_member_decls, OptionMemberDeclTrees, no_members, some_members, MemberDeclaratorTree, MemberDeclarator, MemberDeclaratorTrees, no_member_declarators, more_member_declarators, EnumeratorTree, Enumerator, EnumeratorTrees, no_enumerators, more_enumerators, OptionEnumeratorTrees, no_enumerator_list, some_enumerator_list, DeclaratorTree, Missing, Identifier, Group, Pointer, Array, Function, Identifiers, BracketsTree, Unsized, Length, StaticFirst, StaticLast, Star, ParamTree, Param, ParamTrees, no_params, more_params, InitialiserTree, Single, Braced, InitialiserListTree, InitialiserList, EntryTree, Entry, EntryTrees, no_entries, more_entries, DesignatorTree, Element, Member, DesignatorTrees, no_designators, more_designators, InitDeclaratorTree, DeclTree, ForFirstTree, FirstValue, FirstDeclared, StmtTree, Label, Case, Default, Block, ExprStmt, If, Switch, While, Do, For, Goto, Continue, Break, Return, OptionStmtTree, no_stmt, some_stmt, ItemTree, Statement, Declared, ItemTrees, no_items, more_items, DefinitionTree, ExternalTree, Defined, Declaration, UnitTree}
 use Rattle.cx_tree.specs.Words.{is_type_word, is_typedef_word}
 
 -- ---- bindings
 
--- a declared name: a typedef name, or that of an object, a function or an enumerator
+-- a declared name of an object, a function or an enumerator, or where `is_type` is true a typedef name
 pub record Binding : Type 0 where
   pub name : List ℕ
-  pub is_typedef : Bool
+  pub is_type : Bool
+
+-- what the newest binding of a name says, or `found` where there is none
+abbrev pub latest : Bool → List Binding → List ℕ → Bool
+latest found [] name = found
+latest found (binding ∷ names) name = latest (if bytes_eq binding.name name then binding.is_type else found) names name
 
 -- an identifier is a typedef name where its innermost declaration makes it one
 abbrev pub is_type : List Binding → List ℕ → Bool
-is_type [] name = false
-is_type (binding ∷ names) name = if bytes_eq binding.name name then binding.is_typedef else is_type names name
+is_type names name = latest false names name
 
 -- an identifier, where there is one, isn't a typedef name
 abbrev pub IsOrdinary : List Binding → Option (List ℕ) → Type 0
@@ -58,8 +62,8 @@ says_typedef (more_specs s ss) = is_typedef_specifier s || says_typedef ss
 
 -- the binding of a name, where there is one
 abbrev pub binding_of : Bool → Option (List ℕ) → List Binding
-binding_of is_typedef None = []
-binding_of is_typedef (Some name) = record { name = name; is_typedef = is_typedef } ∷ []
+binding_of is_type None = []
+binding_of is_type (Some name) = record { name = name; is_type = is_type } ∷ []
 
 -- the identifier that a declarator declares; an abstract one declares none
 abbrev pub declared_name : DeclaratorTree → Option (List ℕ)
@@ -106,34 +110,34 @@ abbrev mutual
   new_expr (Letter value lines) = []
   new_expr (Text parts lines) = []
   new_expr (Paren inner lines) = new_expr inner
-  new_expr (Index of index lines) = new_expr index ++ new_expr of
-  new_expr (Call of args lines) = new_exprs args ++ new_expr of
+  new_expr (Index of index lines) = new_expr of ++ new_expr index
+  new_expr (Call of args lines) = new_expr of ++ new_exprs args
   new_expr (Dot of member lines) = new_expr of
   new_expr (Arrow of member lines) = new_expr of
   new_expr (PostUp of lines) = new_expr of
   new_expr (PostDown of lines) = new_expr of
-  new_expr (Literal of list lines) = new_initialiser_list list ++ new_type_name of
+  new_expr (Literal of list lines) = new_type_name of ++ new_initialiser_list list
   new_expr (PreUp on lines) = new_expr on
   new_expr (PreDown on lines) = new_expr on
   new_expr (Unary op on lines) = new_expr on
   new_expr (SizeofExpr on lines) = new_expr on
   new_expr (SizeofType of lines) = new_type_name of
-  new_expr (Cast to on lines) = new_expr on ++ new_type_name to
-  new_expr (Binary left op right lines) = new_expr right ++ new_expr left
-  new_expr (Cond condition if_true if_false lines) = new_expr if_false ++ (new_expr if_true ++ new_expr condition)
-  new_expr (Assign left op right lines) = new_expr right ++ new_expr left
-  new_expr (Comma left right lines) = new_expr right ++ new_expr left
+  new_expr (Cast to on lines) = new_type_name to ++ new_expr on
+  new_expr (Binary left op right lines) = new_expr left ++ new_expr right
+  new_expr (Cond condition if_true if_false lines) = new_expr condition ++ (new_expr if_true ++ new_expr if_false)
+  new_expr (Assign left op right lines) = new_expr left ++ new_expr right
+  new_expr (Comma left right lines) = new_expr left ++ new_expr right
 
   pub new_exprs : ExprTrees → List Binding
   new_exprs no_exprs = []
-  new_exprs (more_exprs e es) = new_exprs es ++ new_expr e
+  new_exprs (more_exprs e es) = new_expr e ++ new_exprs es
 
   pub new_option : OptionExprTree → List Binding
   new_option no_expr = []
   new_option (some_expr e) = new_expr e
 
   pub new_type_name : TypeNameTree → List Binding
-  new_type_name (TypeName specs declarator lines) = new_declarator declarator ++ new_specs specs
+  new_type_name (TypeName specs declarator lines) = new_specs specs ++ new_declarator declarator
 
   -- the enumerators; those among a record's members are in scope behind the record too
   pub new_spec : SpecTree → List Binding
@@ -144,25 +148,25 @@ abbrev mutual
 
   pub new_specs : SpecTrees → List Binding
   new_specs no_specs = []
-  new_specs (more_specs s ss) = new_specs ss ++ new_spec s
+  new_specs (more_specs s ss) = new_spec s ++ new_specs ss
 
   pub new_members : OptionMemberDeclTrees → List Binding
   new_members no_members = []
   new_members (some_members list) = new_member_decls list
 
   pub new_member_decl : MemberDeclTree → List Binding
-  new_member_decl (MemberDecl specs list lines) = new_member_declarators list ++ new_specs specs
+  new_member_decl (MemberDecl specs list lines) = new_specs specs ++ new_member_declarators list
 
   pub new_member_decls : MemberDeclTrees → List Binding
   new_member_decls no_member_decls = []
-  new_member_decls (more_member_decls m ms) = new_member_decls ms ++ new_member_decl m
+  new_member_decls (more_member_decls m ms) = new_member_decl m ++ new_member_decls ms
 
   pub new_member_declarator : MemberDeclaratorTree → List Binding
-  new_member_declarator (MemberDeclarator declarator width lines) = new_option width ++ new_declarator declarator
+  new_member_declarator (MemberDeclarator declarator width lines) = new_declarator declarator ++ new_option width
 
   pub new_member_declarators : MemberDeclaratorTrees → List Binding
   new_member_declarators no_member_declarators = []
-  new_member_declarators (more_member_declarators m ms) = new_member_declarators ms ++ new_member_declarator m
+  new_member_declarators (more_member_declarators m ms) = new_member_declarator m ++ new_member_declarators ms
 
   pub new_enumerator_list : OptionEnumeratorTrees → List Binding
   new_enumerator_list no_enumerator_list = []
@@ -170,11 +174,11 @@ abbrev mutual
 
   -- an enumerator is in scope behind its value (6.2.1p7)
   pub new_enumerator : EnumeratorTree → List Binding
-  new_enumerator (Enumerator name value lines) = record { name = name; is_typedef = false } ∷ new_option value
+  new_enumerator (Enumerator name value lines) = new_option value ++ record { name = name; is_type = false } ∷ []
 
   pub new_enumerators : EnumeratorTrees → List Binding
   new_enumerators no_enumerators = []
-  new_enumerators (more_enumerators e es) = new_enumerators es ++ new_enumerator e
+  new_enumerators (more_enumerators e es) = new_enumerator e ++ new_enumerators es
 
   -- what the lengths in a declarator declare; what a list of parameters declares ends with the list (6.2.1p4)
   pub new_declarator : DeclaratorTree → List Binding
@@ -182,7 +186,7 @@ abbrev mutual
   new_declarator (Identifier name lines) = []
   new_declarator (Group inner lines) = new_declarator inner
   new_declarator (Pointer qualifiers of lines) = new_declarator of
-  new_declarator (Array of brackets lines) = new_brackets brackets ++ new_declarator of
+  new_declarator (Array of brackets lines) = new_declarator of ++ new_brackets brackets
   new_declarator (Function of params variadic lines) = new_declarator of
   new_declarator (Identifiers of names lines) = new_declarator of
 
@@ -195,11 +199,11 @@ abbrev mutual
 
   -- a parameter is in scope behind its declarator
   pub new_param : ParamTree → List Binding
-  new_param (Param specs declarator lines) = bound specs declarator ++ (new_declarator declarator ++ new_specs specs)
+  new_param (Param specs declarator lines) = new_specs specs ++ (new_declarator declarator ++ bound specs declarator)
 
   pub new_params : ParamTrees → List Binding
   new_params no_params = []
-  new_params (more_params p ps) = new_params ps ++ new_param p
+  new_params (more_params p ps) = new_param p ++ new_params ps
 
   pub new_initialiser : InitialiserTree → List Binding
   new_initialiser (Single e) = new_expr e
@@ -209,11 +213,11 @@ abbrev mutual
   new_initialiser_list (InitialiserList entries last_comma lines) = new_entries entries
 
   pub new_entry : EntryTree → List Binding
-  new_entry (Entry designators init lines) = new_initialiser init ++ new_designators designators
+  new_entry (Entry designators init lines) = new_designators designators ++ new_initialiser init
 
   pub new_entries : EntryTrees → List Binding
   new_entries no_entries = []
-  new_entries (more_entries e es) = new_entries es ++ new_entry e
+  new_entries (more_entries e es) = new_entry e ++ new_entries es
 
   pub new_designator : DesignatorTree → List Binding
   new_designator (Element at lines) = new_expr at
@@ -221,7 +225,7 @@ abbrev mutual
 
   pub new_designators : DesignatorTrees → List Binding
   new_designators no_designators = []
-  new_designators (more_designators d ds) = new_designators ds ++ new_designator d
+  new_designators (more_designators d ds) = new_designator d ++ new_designators ds
 
 -- ---- how a tree stands: expressions, and what stands in them (6.5, 6.7)
 
@@ -244,28 +248,28 @@ abbrev mutual
   ExprStands names (Letter value lines) = ⊤
   ExprStands names (Text parts lines) = ⊤
   ExprStands names (Paren inner lines) = ExprStands names inner
-  ExprStands names (Index of index lines) = ExprStands names of × ExprStands (new_expr of ++ names) index
-  ExprStands names (Call of args lines) = ExprStands names of × ExprsStand (new_expr of ++ names) args
+  ExprStands names (Index of index lines) = ExprStands names of × ExprStands (names ++ new_expr of) index
+  ExprStands names (Call of args lines) = ExprStands names of × ExprsStand (names ++ new_expr of) args
   ExprStands names (Dot of member lines) = ExprStands names of
   ExprStands names (Arrow of member lines) = ExprStands names of
   ExprStands names (PostUp of lines) = ExprStands names of
   ExprStands names (PostDown of lines) = ExprStands names of
-  ExprStands names (Literal of list lines) = TypeNameStands names of × InitialiserListStands (new_type_name of ++ names) list
+  ExprStands names (Literal of list lines) = TypeNameStands names of × InitialiserListStands (names ++ new_type_name of) list
   ExprStands names (PreUp on lines) = ExprStands names on
   ExprStands names (PreDown on lines) = ExprStands names on
   ExprStands names (Unary op on lines) = ExprStands names on
   ExprStands names (SizeofExpr on lines) = ExprStands names on
   ExprStands names (SizeofType of lines) = TypeNameStands names of
-  ExprStands names (Cast to on lines) = TypeNameStands names to × ExprStands (new_type_name to ++ names) on
-  ExprStands names (Binary left op right lines) = ExprStands names left × ExprStands (new_expr left ++ names) right
+  ExprStands names (Cast to on lines) = TypeNameStands names to × ExprStands (names ++ new_type_name to) on
+  ExprStands names (Binary left op right lines) = ExprStands names left × ExprStands (names ++ new_expr left) right
   ExprStands names (Cond condition if_true if_false lines) =
-      AllThree (ExprStands names condition) (ExprStands (new_expr condition ++ names) if_true) (ExprStands (new_expr if_true ++ (new_expr condition ++ names)) if_false)
-  ExprStands names (Assign left op right lines) = ExprStands names left × ExprStands (new_expr left ++ names) right
-  ExprStands names (Comma left right lines) = ExprStands names left × ExprStands (new_expr left ++ names) right
+      AllThree (ExprStands names condition) (ExprStands (names ++ new_expr condition) if_true) (ExprStands ((names ++ new_expr condition) ++ new_expr if_true) if_false)
+  ExprStands names (Assign left op right lines) = ExprStands names left × ExprStands (names ++ new_expr left) right
+  ExprStands names (Comma left right lines) = ExprStands names left × ExprStands (names ++ new_expr left) right
 
   pub ExprsStand : List Binding → ExprTrees → Type 0
   ExprsStand names no_exprs = ⊤
-  ExprsStand names (more_exprs e es) = ExprStands names e × ExprsStand (new_expr e ++ names) es
+  ExprsStand names (more_exprs e es) = ExprStands names e × ExprsStand (names ++ new_expr e) es
 
   pub OptionStands : List Binding → OptionExprTree → Type 0
   OptionStands names no_expr = ⊤
@@ -274,8 +278,8 @@ abbrev mutual
   -- its declarator is abstract, and begins with no identifier
   pub TypeNameStands : List Binding → TypeNameTree → Type 0
   TypeNameStands names (TypeName specs declarator lines) =
-      InDeclaration (SpecsStand names false specs) (StandsBehind (has_type_specifier specs) (new_specs specs ++ names) declarator)
-      (DeclaratorStands false (new_specs specs ++ names) declarator)
+      InDeclaration (SpecsStand names false specs) (StandsBehind (has_type_specifier specs) (names ++ new_specs specs) declarator)
+      (DeclaratorStands false (names ++ new_specs specs) declarator)
 
   -- the truth value says whether a type specifier stands before it
   pub SpecStands : List Binding → Bool → SpecTree → Type 0
@@ -286,7 +290,7 @@ abbrev mutual
 
   pub SpecsStand : List Binding → Bool → SpecTrees → Type 0
   SpecsStand names typed no_specs = ⊤
-  SpecsStand names typed (more_specs s ss) = SpecStands names typed s × SpecsStand (new_spec s ++ names) (typed || is_type_specifier s) ss
+  SpecsStand names typed (more_specs s ss) = SpecStands names typed s × SpecsStand (names ++ new_spec s) (typed || is_type_specifier s) ss
 
   pub MembersStand : List Binding → OptionMemberDeclTrees → Type 0
   MembersStand names no_members = ⊤
@@ -294,21 +298,21 @@ abbrev mutual
 
   pub MemberDeclStands : List Binding → MemberDeclTree → Type 0
   MemberDeclStands names (MemberDecl specs list lines) =
-      InDeclaration (SpecsStand names false specs) (MembersStandBehind (has_type_specifier specs) (new_specs specs ++ names) list)
-      (MemberDeclaratorsStand (new_specs specs ++ names) list)
+      InDeclaration (SpecsStand names false specs) (MembersStandBehind (has_type_specifier specs) (names ++ new_specs specs) list)
+      (MemberDeclaratorsStand (names ++ new_specs specs) list)
 
   pub MemberDeclsStand : List Binding → MemberDeclTrees → Type 0
   MemberDeclsStand names no_member_decls = ⊤
-  MemberDeclsStand names (more_member_decls m ms) = MemberDeclStands names m × MemberDeclsStand (new_member_decl m ++ names) ms
+  MemberDeclsStand names (more_member_decls m ms) = MemberDeclStands names m × MemberDeclsStand (names ++ new_member_decl m) ms
 
   pub MemberDeclaratorStands : List Binding → MemberDeclaratorTree → Type 0
   MemberDeclaratorStands names (MemberDeclarator declarator width lines) =
-      DeclaratorStands false names declarator × OptionStands (new_declarator declarator ++ names) width
+      DeclaratorStands false names declarator × OptionStands (names ++ new_declarator declarator) width
 
   pub MemberDeclaratorsStand : List Binding → MemberDeclaratorTrees → Type 0
   MemberDeclaratorsStand names no_member_declarators = ⊤
   MemberDeclaratorsStand names (more_member_declarators m ms) =
-      MemberDeclaratorStands names m × MemberDeclaratorsStand (new_member_declarator m ++ names) ms
+      MemberDeclaratorStands names m × MemberDeclaratorsStand (names ++ new_member_declarator m) ms
 
   -- the first declarator alone stands behind the specifiers
   pub MembersStandBehind : Bool → List Binding → MemberDeclaratorTrees → Type 0
@@ -324,7 +328,7 @@ abbrev mutual
 
   pub EnumeratorsStand : List Binding → EnumeratorTrees → Type 0
   EnumeratorsStand names no_enumerators = ⊤
-  EnumeratorsStand names (more_enumerators e es) = EnumeratorStands names e × EnumeratorsStand (new_enumerator e ++ names) es
+  EnumeratorsStand names (more_enumerators e es) = EnumeratorStands names e × EnumeratorsStand (names ++ new_enumerator e) es
 
   -- the truth value says whether the declarator is a parameter's
   pub DeclaratorStands : Bool → List Binding → DeclaratorTree → Type 0
@@ -333,11 +337,11 @@ abbrev mutual
   DeclaratorStands in_parameter names (Group inner lines) = StandsInGroup in_parameter names inner × DeclaratorStands in_parameter names inner
   DeclaratorStands in_parameter names (Pointer qualifiers of lines) = DeclaratorStands in_parameter names of
   DeclaratorStands in_parameter names (Array of brackets lines) =
-      DeclaratorStands in_parameter names of × BracketsStand (new_declarator of ++ names) brackets
+      DeclaratorStands in_parameter names of × BracketsStand (names ++ new_declarator of) brackets
   DeclaratorStands in_parameter names (Function of params variadic lines) =
-      DeclaratorStands in_parameter names of × ParamsStand (new_declarator of ++ names) params
+      DeclaratorStands in_parameter names of × ParamsStand (names ++ new_declarator of) params
   DeclaratorStands in_parameter names (Identifiers of listed lines) =
-      DeclaratorStands in_parameter names of × AreOrdinary (new_declarator of ++ names) listed
+      DeclaratorStands in_parameter names of × AreOrdinary (names ++ new_declarator of) listed
 
   pub BracketsStand : List Binding → BracketsTree → Type 0
   BracketsStand names (Unsized qualifiers) = ⊤
@@ -348,12 +352,12 @@ abbrev mutual
 
   pub ParamStands : List Binding → ParamTree → Type 0
   ParamStands names (Param specs declarator lines) =
-      InDeclaration (SpecsStand names false specs) (StandsBehind (has_type_specifier specs) (new_specs specs ++ names) declarator)
-      (DeclaratorStands true (new_specs specs ++ names) declarator)
+      InDeclaration (SpecsStand names false specs) (StandsBehind (has_type_specifier specs) (names ++ new_specs specs) declarator)
+      (DeclaratorStands true (names ++ new_specs specs) declarator)
 
   pub ParamsStand : List Binding → ParamTrees → Type 0
   ParamsStand names no_params = ⊤
-  ParamsStand names (more_params p ps) = ParamStands names p × ParamsStand (new_param p ++ names) ps
+  ParamsStand names (more_params p ps) = ParamStands names p × ParamsStand (names ++ new_param p) ps
 
   pub InitialiserStands : List Binding → InitialiserTree → Type 0
   InitialiserStands names (Single e) = ExprStands names e
@@ -363,11 +367,11 @@ abbrev mutual
   InitialiserListStands names (InitialiserList entries last_comma lines) = EntriesStand names entries
 
   pub EntryStands : List Binding → EntryTree → Type 0
-  EntryStands names (Entry designators init lines) = DesignatorsStand names designators × InitialiserStands (new_designators designators ++ names) init
+  EntryStands names (Entry designators init lines) = DesignatorsStand names designators × InitialiserStands (names ++ new_designators designators) init
 
   pub EntriesStand : List Binding → EntryTrees → Type 0
   EntriesStand names no_entries = ⊤
-  EntriesStand names (more_entries e es) = EntryStands names e × EntriesStand (new_entry e ++ names) es
+  EntriesStand names (more_entries e es) = EntryStands names e × EntriesStand (names ++ new_entry e) es
 
   pub DesignatorStands : List Binding → DesignatorTree → Type 0
   DesignatorStands names (Element at lines) = ExprStands names at
@@ -375,7 +379,7 @@ abbrev mutual
 
   pub DesignatorsStand : List Binding → DesignatorTrees → Type 0
   DesignatorsStand names no_designators = ⊤
-  DesignatorsStand names (more_designators d ds) = DesignatorStands names d × DesignatorsStand (new_designator d ++ names) ds
+  DesignatorsStand names (more_designators d ds) = DesignatorStands names d × DesignatorsStand (names ++ new_designator d) ds
 
 -- ---- declarations (6.7)
 
@@ -385,29 +389,29 @@ new_init (Some init) = new_initialiser init
 
 -- the declared name is in scope behind its declarator, and in the initialiser (6.2.1p7)
 abbrev pub new_declared : SpecTrees → DeclaratorTree → List Binding
-new_declared specs declarator = bound specs declarator ++ new_declarator declarator
+new_declared specs declarator = new_declarator declarator ++ bound specs declarator
 
 abbrev pub new_init_declarator : SpecTrees → InitDeclaratorTree → List Binding
-new_init_declarator specs d = new_init d.init ++ new_declared specs d.declarator
+new_init_declarator specs d = new_declared specs d.declarator ++ new_init d.init
 
 abbrev pub new_init_declarators : SpecTrees → List InitDeclaratorTree → List Binding
 new_init_declarators specs [] = []
-new_init_declarators specs (d ∷ ds) = new_init_declarators specs ds ++ new_init_declarator specs d
+new_init_declarators specs (d ∷ ds) = new_init_declarator specs d ++ new_init_declarators specs ds
 
 abbrev pub new_decl : DeclTree → List Binding
-new_decl d = new_init_declarators d.specs d.list ++ new_specs d.specs
+new_decl d = new_specs d.specs ++ new_init_declarators d.specs d.list
 
 abbrev pub InitStands : List Binding → Option InitialiserTree → Type 0
 InitStands names None = ⊤
 InitStands names (Some init) = InitialiserStands names init
 
 abbrev pub InitDeclaratorStands : SpecTrees → List Binding → InitDeclaratorTree → Type 0
-InitDeclaratorStands specs names d = DeclaratorStands false names d.declarator × InitStands (new_declared specs d.declarator ++ names) d.init
+InitDeclaratorStands specs names d = DeclaratorStands false names d.declarator × InitStands (names ++ new_declared specs d.declarator) d.init
 
 abbrev pub InitDeclaratorsStand : SpecTrees → List Binding → List InitDeclaratorTree → Type 0
 InitDeclaratorsStand specs names [] = ⊤
 InitDeclaratorsStand specs names (d ∷ ds) =
-    InitDeclaratorStands specs names d × InitDeclaratorsStand specs (new_init_declarator specs d ++ names) ds
+    InitDeclaratorStands specs names d × InitDeclaratorsStand specs (names ++ new_init_declarator specs d) ds
 
 -- the first declarator alone stands behind the specifiers
 abbrev pub DeclaratorsStandBehind : Bool → List Binding → List InitDeclaratorTree → Type 0
@@ -416,8 +420,8 @@ DeclaratorsStandBehind typed names (d ∷ ds) = StandsBehind typed names d.decla
 
 abbrev pub DeclStands : List Binding → DeclTree → Type 0
 DeclStands names d =
-    InDeclaration (SpecsStand names false d.specs) (DeclaratorsStandBehind (has_type_specifier d.specs) (new_specs d.specs ++ names) d.list)
-    (InitDeclaratorsStand d.specs (new_specs d.specs ++ names) d.list)
+    InDeclaration (SpecsStand names false d.specs) (DeclaratorsStandBehind (has_type_specifier d.specs) (names ++ new_specs d.specs) d.list)
+    (InitDeclaratorsStand d.specs (names ++ new_specs d.specs) d.list)
 
 -- ---- statements (6.8)
 
@@ -429,7 +433,7 @@ new_first (FirstDeclared decl) = new_decl decl
 -- the expressions of any other statement declare stays to the end of the block that it stands in.
 abbrev pub new_stmt : StmtTree → List Binding
 new_stmt (Label name stmt lines) = new_stmt stmt
-new_stmt (Case value stmt lines) = new_stmt stmt ++ new_expr value
+new_stmt (Case value stmt lines) = new_expr value ++ new_stmt stmt
 new_stmt (Default stmt lines) = new_stmt stmt
 new_stmt (Block items lines) = []
 new_stmt (ExprStmt expr lines) = new_option expr
@@ -462,18 +466,18 @@ abbrev mutual
   -- a branch and a body are scopes of their own (6.8.4p3, 6.8.5p5): what they declare isn't seen behind them
   pub StmtStands : List Binding → StmtTree → Type 0
   StmtStands names (Label name stmt lines) = StmtStands names stmt
-  StmtStands names (Case value stmt lines) = ExprStands names value × StmtStands (new_expr value ++ names) stmt
+  StmtStands names (Case value stmt lines) = ExprStands names value × StmtStands (names ++ new_expr value) stmt
   StmtStands names (Default stmt lines) = StmtStands names stmt
   StmtStands names (Block items lines) = ItemsStand names items
   StmtStands names (ExprStmt expr lines) = OptionStands names expr
   StmtStands names (If condition branch otherwise lines) =
-      AllThree (ExprStands names condition) (StmtStands (new_expr condition ++ names) branch) (ElseStands (new_expr condition ++ names) otherwise)
-  StmtStands names (Switch on body lines) = ExprStands names on × StmtStands (new_expr on ++ names) body
-  StmtStands names (While condition body lines) = ExprStands names condition × StmtStands (new_expr condition ++ names) body
+      AllThree (ExprStands names condition) (StmtStands (names ++ new_expr condition) branch) (ElseStands (names ++ new_expr condition) otherwise)
+  StmtStands names (Switch on body lines) = ExprStands names on × StmtStands (names ++ new_expr on) body
+  StmtStands names (While condition body lines) = ExprStands names condition × StmtStands (names ++ new_expr condition) body
   StmtStands names (Do body condition lines) = StmtStands names body × ExprStands names condition
   StmtStands names (For first second third body lines) =
-      InFor (FirstStands names first) (OptionStands (new_first first ++ names) second) (OptionStands (new_option second ++ (new_first first ++ names)) third)
-      (StmtStands (new_option third ++ (new_option second ++ (new_first first ++ names))) body)
+      InFor (FirstStands names first) (OptionStands (names ++ new_first first) second) (OptionStands ((names ++ new_first first) ++ new_option second) third)
+      (StmtStands (((names ++ new_first first) ++ new_option second) ++ new_option third) body)
   StmtStands names (Goto name lines) = ⊤
   StmtStands names (Continue lines) = ⊤
   StmtStands names (Break lines) = ⊤
@@ -489,7 +493,7 @@ abbrev mutual
 
   pub ItemsStand : List Binding → ItemTrees → Type 0
   ItemsStand names no_items = ⊤
-  ItemsStand names (more_items i is) = ItemStands names i × ItemsStand (new_item i ++ names) is
+  ItemsStand names (more_items i is) = ItemStands names i × ItemsStand (names ++ new_item i) is
 
 -- ---- units (6.9)
 
@@ -499,8 +503,8 @@ is_identifier (Identifier name lines) = true
 is_identifier (Group inner lines) = is_identifier inner
 is_identifier _ = false
 
--- The parameters of the function that a declarator declares, which are in scope in its body (6.2.1p4): those of the list that
--- follows the identifier.
+-- the parameters of the function that a declarator declares, which are in scope in its body (6.2.1p4): those of the list that
+-- follows the identifier
 abbrev pub own_params : DeclaratorTree → ParamTrees
 own_params Missing = no_params
 own_params (Identifier name lines) = no_params
@@ -511,14 +515,14 @@ own_params (Function of params variadic lines) = if is_identifier of then params
 own_params (Identifiers of names lines) = own_params of
 
 abbrev pub new_definition : DefinitionTree → List Binding
-new_definition d = new_declared d.specs d.declarator ++ new_specs d.specs
+new_definition d = new_specs d.specs ++ new_declared d.specs d.declarator
 
 -- a function definition; the function's name is in scope in its body, and is older there than the parameters
 pub record DefinitionStands (names : List Binding) (d : DefinitionTree) : Type 0 where
   pub specs : SpecsStand names false d.specs
-  pub behind : StandsBehind (has_type_specifier d.specs) (new_specs d.specs ++ names) d.declarator
-  pub declarator : DeclaratorStands false (new_specs d.specs ++ names) d.declarator
-  pub body : StmtStands (new_params (own_params d.declarator) ++ (new_definition d ++ names)) d.body
+  pub behind : StandsBehind (has_type_specifier d.specs) (names ++ new_specs d.specs) d.declarator
+  pub declarator : DeclaratorStands false (names ++ new_specs d.specs) d.declarator
+  pub body : StmtStands ((names ++ new_definition d) ++ new_params (own_params d.declarator)) d.body
 
 abbrev pub new_external : ExternalTree → List Binding
 new_external (Defined definition) = new_definition definition
@@ -530,7 +534,7 @@ ExternalStands names (Declaration decl) = DeclStands names decl
 
 abbrev pub ExternalsStand : List Binding → List ExternalTree → Type 0
 ExternalsStand names [] = ⊤
-ExternalsStand names (e ∷ es) = ExternalStands names e × ExternalsStand (new_external e ++ names) es
+ExternalsStand names (e ∷ es) = ExternalStands names e × ExternalsStand (names ++ new_external e) es
 
 abbrev pub UnitStands : List Binding → UnitTree → Type 0
 UnitStands names unit = ExternalsStand names unit.parts

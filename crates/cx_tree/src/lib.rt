@@ -9,6 +9,7 @@ mod initialiser;
 mod levels;
 mod specifier;
 mod stmt;
+mod tokens;
 mod unit;
 mod words;
 

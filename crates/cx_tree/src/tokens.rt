@@ -1,0 +1,3 @@
+//! The tokens of a tree.
+
+mod own;
