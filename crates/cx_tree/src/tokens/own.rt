@@ -113,11 +113,15 @@ pub fn put_keys<'a>(
 }
 
 /// Appends adjacent string literals. Refused only for want of memory.
-pub fn put_texts(out: &mut Items<Token>, lines: &[u32], parts: &[Name]) -> Result<(), Memory>
+pub fn put_texts(
+    out: &mut Items<Token>,
+    lines: &Items<u32>,
+    parts: &Items<Name>,
+) -> Result<(), Memory>
     ensures { OnOk result (out.new ≡ out.old ++ tokens.texts_tokens parts.now lines.now) }
 {
-    let mut ahead = lines;
-    for part in parts {
+    let mut ahead = lines.as_slice();
+    for part in parts.as_slice() {
         put_own(out, ahead, 0, TokenKind::Text(part.copy()?))?;
         ahead = later(ahead);
     }
