@@ -1,5 +1,6 @@
 pub mod Depth
 pub mod Derives
+pub mod ExprParts
 pub mod Levels
 pub mod Names
 pub mod Tokens

@@ -4,6 +4,7 @@ ghost use Rattle.std.specs.Prelude.{◌≡◌, ◌++◌, ◌∷◌, [], OnOk, ma
 ghost use Rattle.cx_lex.specs.declared.token.Keyword.TheVariants.{Sizeof};
 ghost use Rattle.cx_lex.specs.declared.token.Punct.TheVariants.{LeftBracket, RightBracket, LeftParenthesis, RightParenthesis};
 ghost use Rattle.cx_lex.specs.declared.token.TokenKind.TheVariants as kind;
+ghost use Rattle.cx_tree.specs.ExprParts as parts;
 ghost use Rattle.cx_tree.specs.Tokens as tokens;
 ghost use Rattle.cx_tree.specs.Views.{expr_view, exprs, initialiser_list_view, option_expr, type_name_view};
 
@@ -11,14 +12,84 @@ use crate::expr::Expr;
 use crate::initialiser::InitialiserList;
 use crate::specifier::TypeName;
 use crate::tokens::initialisers::put_initialiser_list;
-use crate::tokens::own::{later, put_key, put_mark, put_own, put_texts, put_word};
+use crate::tokens::own::{later, put_key, put_mark, put_name, put_own, put_texts, put_word};
 use crate::tokens::specifiers::put_type_name;
 use cr_base::{Boxed, Items, Memory, Name};
 use cx_lex::{Keyword, Punct, Token, TokenKind, Ty0};
 
 #[cycle(tree_tokens)]
+#[tactic(auto, using(crate::proofs::PartLemmas::expr_in_parts))]
 pub fn put_expr(out: &mut Items<Token>, expr: &Expr) -> Result<(), Memory>
     ensures { OnOk result (out.new ≡ out.old ++ tokens.expr_tokens (expr_view expr.now)) }
+{
+    put_left(out, expr)?;
+    put_right(out, expr)?;
+    put_rest(out, expr)
+}
+
+// Appends the left operand or the type name in parentheses that an expression begins with, or nothing.
+#[cycle(tree_tokens)]
+fn put_left(out: &mut Items<Token>, expr: &Expr) -> Result<(), Memory>
+    ensures { OnOk result (out.new ≡ out.old ++ parts.left_tokens (expr_view expr.now)) }
+{
+    match expr {
+        Expr::Index { of, .. }
+        | Expr::Call { of, .. }
+        | Expr::Dot { of, .. }
+        | Expr::Arrow { of, .. }
+        | Expr::PostUp { of, .. }
+        | Expr::PostDown { of, .. }
+        | Expr::Binary { left: of, .. }
+        | Expr::Cond { condition: of, .. }
+        | Expr::Assign { left: of, .. }
+        | Expr::Comma { left: of, .. } => put_boxed(out, of),
+        Expr::Literal { of, lines, .. } | Expr::Cast { to: of, lines, .. } => {
+            put_type(out, lines, of)
+        }
+        _ => Ok(()),
+    }
+}
+
+// Appends what stands behind a left operand or a type name in parentheses, other than the third operand
+// of `?:`, or nothing.
+#[cycle(tree_tokens)]
+fn put_right(out: &mut Items<Token>, expr: &Expr) -> Result<(), Memory>
+    ensures { OnOk result (out.new ≡ out.old ++ parts.right_tokens (expr_view expr.now)) }
+{
+    match expr {
+        Expr::Index { index, lines, .. } => put_bracketed(out, lines, index),
+        Expr::Call { args, lines, .. } => put_args(out, lines, args),
+        Expr::Dot { member, lines, .. } => put_member(out, lines, Punct::Dot, member),
+        Expr::Arrow { member, lines, .. } => put_member(out, lines, Punct::Arrow, member),
+        Expr::PostUp { lines, .. } => put_operator(out, lines, Punct::PlusPlus),
+        Expr::PostDown { lines, .. } => put_operator(out, lines, Punct::MinusMinus),
+        Expr::Literal { list, .. } => put_boxed_list(out, list),
+        Expr::Cast { on, .. } => put_boxed(out, on),
+        Expr::Cond { if_true, lines, .. } => {
+            put_operand(out, lines, 0, Punct::Question, if_true)
+        }
+        Expr::Binary {
+            op,
+            right,
+            lines,
+            ..
+        }
+        | Expr::Assign {
+            op,
+            right,
+            lines,
+            ..
+        } => put_operand(out, lines, 0, *op, right),
+        Expr::Comma { right, lines, .. } => put_operand(out, lines, 0, Punct::Comma, right),
+        _ => Ok(()),
+    }
+}
+
+// Appends what is left: the third operand of `?:`, or an expression that begins with another token of its
+// own.
+#[cycle(tree_tokens)]
+fn put_rest(out: &mut Items<Token>, expr: &Expr) -> Result<(), Memory>
+    ensures { OnOk result (out.new ≡ out.old ++ parts.rest_tokens (expr_view expr.now)) }
 {
     match expr {
         Expr::Name { name, lines } => put_name(out, lines, name),
@@ -26,70 +97,18 @@ pub fn put_expr(out: &mut Items<Token>, expr: &Expr) -> Result<(), Memory>
         Expr::Letter { value, lines } => put_letter(out, lines, *value),
         Expr::Text { parts, lines } => put_texts(out, lines, parts),
         Expr::Paren { inner, lines } => put_paren(out, lines, inner),
-        Expr::Index { of, index, lines } => {
-            put_boxed(out, of)?;
-            put_bracketed(out, lines, index)
-        }
-        Expr::Call { of, args, lines } => {
-            put_boxed(out, of)?;
-            put_args(out, lines, args)
-        }
-        Expr::Dot { of, member, lines } => put_member(out, lines, of, Punct::Dot, member),
-        Expr::Arrow { of, member, lines } => put_member(out, lines, of, Punct::Arrow, member),
-        Expr::PostUp { of, lines } => put_postfix(out, lines, of, Punct::PlusPlus),
-        Expr::PostDown { of, lines } => put_postfix(out, lines, of, Punct::MinusMinus),
-        Expr::Literal { of, list, lines } => {
-            put_type(out, lines, of)?;
-            put_boxed_list(out, list)
-        }
         Expr::PreUp { on, lines } => put_operand(out, lines, 0, Punct::PlusPlus, on),
         Expr::PreDown { on, lines } => put_operand(out, lines, 0, Punct::MinusMinus, on),
         Expr::Unary { op, on, lines } => put_operand(out, lines, 0, *op, on),
         Expr::SizeofExpr { on, lines } => put_sizeof(out, lines, on),
         Expr::SizeofType { of, lines } => put_sizeof_type(out, lines, of),
-        Expr::Cast { to, on, lines } => {
-            put_type(out, lines, to)?;
-            put_boxed(out, on)
-        }
         Expr::Cond {
-            condition,
-            if_true,
             if_false,
             lines,
-        } => {
-            put_boxed(out, condition)?;
-            put_operand(out, lines, 0, Punct::Question, if_true)?;
-            put_operand(out, lines, 1, Punct::Colon, if_false)
-        }
-        Expr::Binary {
-            left,
-            op,
-            right,
-            lines,
-        } => {
-            put_boxed(out, left)?;
-            put_operand(out, lines, 0, *op, right)
-        }
-        Expr::Assign {
-            left,
-            op,
-            right,
-            lines,
-        } => {
-            put_boxed(out, left)?;
-            put_operand(out, lines, 0, *op, right)
-        }
-        Expr::Comma { left, right, lines } => {
-            put_boxed(out, left)?;
-            put_operand(out, lines, 0, Punct::Comma, right)
-        }
+            ..
+        } => put_operand(out, lines, 1, Punct::Colon, if_false),
+        _ => Ok(()),
     }
-}
-
-fn put_name(out: &mut Items<Token>, lines: &Items<u32>, name: &Name) -> Result<(), Memory>
-    ensures { OnOk result (out.new ≡ out.old ++ tokens.word lines.now 0 name.now ∷ []) }
-{
-    put_word(out, lines.as_slice(), 0, name)
 }
 
 fn put_letter(out: &mut Items<Token>, lines: &Items<u32>, value: i32) -> Result<(), Memory>
@@ -141,17 +160,9 @@ pub fn put_bracketed(
     put_mark(out, lines.as_slice(), 1, Punct::RightBracket)
 }
 
-// Appends an expression and a mark.
-#[cycle(tree_tokens)]
-fn put_postfix(
-    out: &mut Items<Token>,
-    lines: &Items<u32>,
-    of: &Boxed<Expr>,
-    op: Punct,
-) -> Result<(), Memory>
-    ensures { OnOk result (out.new ≡ out.old ++ (tokens.expr_tokens (expr_view of.now) ++ tokens.mark lines.now 0 op ∷ [])) }
+fn put_operator(out: &mut Items<Token>, lines: &Items<u32>, op: Punct) -> Result<(), Memory>
+    ensures { OnOk result (out.new ≡ out.old ++ tokens.mark lines.now 0 op ∷ []) }
 {
-    put_expr(out, of.get())?;
     put_mark(out, lines.as_slice(), 0, op)
 }
 
@@ -191,18 +202,15 @@ fn put_sizeof_type(
     put_mark(out, lines.as_slice(), 2, Punct::RightParenthesis)
 }
 
-// Appends an expression, a mark and the name of a member.
-#[cycle(tree_tokens)]
+// Appends a mark and the name of a member.
 fn put_member(
     out: &mut Items<Token>,
     lines: &Items<u32>,
-    of: &Boxed<Expr>,
     op: Punct,
     member: &Name,
 ) -> Result<(), Memory>
-    ensures { OnOk result (out.new ≡ out.old ++ (tokens.expr_tokens (expr_view of.now) ++ tokens.mark lines.now 0 op ∷ tokens.word lines.now 1 member.now ∷ [])) }
+    ensures { OnOk result (out.new ≡ out.old ++ tokens.mark lines.now 0 op ∷ tokens.word lines.now 1 member.now ∷ []) }
 {
-    put_expr(out, of.get())?;
     put_mark(out, lines.as_slice(), 0, op)?;
     put_word(out, lines.as_slice(), 1, member)
 }

@@ -77,6 +77,13 @@ pub fn put_word(
     put_own(out, lines, index, TokenKind::Word(name.copy()?))
 }
 
+/// Appends the identifier that is a node's first token. Refused only for want of memory.
+pub fn put_name(out: &mut Items<Token>, lines: &Items<u32>, name: &Name) -> Result<(), Memory>
+    ensures { OnOk result (out.new ≡ out.old ++ tokens.word lines.now 0 name.now ∷ []) }
+{
+    put_word(out, lines.as_slice(), 0, name)
+}
+
 /// Appends a tag, where there is one, and gives the lines behind it. Refused only for want of memory.
 pub fn put_tag<'a>(
     out: &mut Items<Token>,
@@ -96,13 +103,14 @@ pub fn put_tag<'a>(
 }
 
 /// Appends keywords that stand side by side, and gives the lines behind them. Refused only for want of memory.
+#[tactic(auto, using(crate::proofs::PartLemmas::keys_count))]
 pub fn put_keys<'a>(
     out: &mut Items<Token>,
     lines: &'a [u32],
     words: &[Keyword],
 ) -> Result<&'a [u32], Memory>
     ensures put { OnOk result (out.new ≡ out.old ++ tokens.owns (tokens.keys words.now) lines.now) }
-    ensures rest { IfOk result (λ rest. rest.now ≡ drop (length words.now) lines.now) }
+    ensures rest { IfOk result (λ rest. rest.now ≡ drop (length (tokens.keys words.now)) lines.now) }
 {
     let mut ahead = lines;
     for word in words {

@@ -1,15 +1,17 @@
 //! The tokens of specifiers and type names (ISO C99, 6.7.2, 6.7.6).
 
-ghost use Rattle.std.specs.Prelude.{◌≡◌, ◌++◌, ◌∷◌, [], OnOk, map, option_map, drop};
-ghost use Rattle.cx_lex.specs.declared.token.Punct.TheVariants.{Semicolon};
+ghost use Rattle.std.specs.Prelude.{◌≡◌, ◌++◌, ◌∷◌, [], IfOk, OnOk, map, option_map, drop};
+ghost use Rattle.cx_lex.specs.declared.token.Keyword.TheVariants as keyword;
+ghost use Rattle.cx_lex.specs.declared.token.Punct.TheVariants.{LeftBrace, Semicolon};
 ghost use Rattle.cx_tree.specs.Tokens as tokens;
-ghost use Rattle.cx_tree.specs.Views.{enumerator_view, enumerators, member_decl_view, member_declarator_view, member_declarators, option_enumerators, option_members, spec_view, specs, type_name_view};
+ghost use Rattle.cx_tree.specs.Trees.{Record};
+ghost use Rattle.cx_tree.specs.Views.{enumerator_view, enumerators, member_decl_view, member_declarator_view, member_declarators, option_members, spec_view, specs, type_name_view};
 
 use crate::specifier::{Enumerator, MemberDecl, MemberDeclarator, Spec, TypeName};
 use crate::tokens::declarators::put_declarator;
 use crate::tokens::exprs::put_prefixed;
-use crate::tokens::own::{later, put_brace, put_key, put_mark, put_tag, put_word};
-use cr_base::{Items, Memory};
+use crate::tokens::own::{later, put_brace, put_key, put_mark, put_name, put_tag, put_word};
+use cr_base::{Items, Memory, Name};
 use cx_lex::{Keyword, Punct, Token};
 
 #[cycle(tree_tokens)]
@@ -46,47 +48,54 @@ fn put_spec(out: &mut Items<Token>, spec: &Spec) -> Result<(), Memory>
 {
     match spec {
         Spec::Key { word, lines } => put_key(out, lines.as_slice(), 0, *word),
-        Spec::Typedef { name, lines } => put_word(out, lines.as_slice(), 0, name),
+        Spec::Typedef { name, lines } => put_name(out, lines, name),
         Spec::Record {
             is_union,
             tag,
             members,
             lines,
+        } => put_record(out, lines, *is_union, tag, members),
+        Spec::Enum {
+            tag,
+            list: None,
+            lines,
+            ..
         } => {
-            put_key(out, lines.as_slice(), 0, record_keyword(*is_union))?;
-            let rest = put_tag(out, later(lines.as_slice()), tag)?;
-            put_members(out, rest, members)
+            put_enum(out, lines, tag)?;
+            Ok(())
         }
         Spec::Enum {
             tag,
-            list,
+            list: Some(list),
             last_comma,
             lines,
         } => {
-            put_key(out, lines.as_slice(), 0, Keyword::Enum)?;
-            let rest = put_tag(out, later(lines.as_slice()), tag)?;
-            put_enumerator_list(out, rest, list, *last_comma)
+            let rest = put_enum(out, lines, tag)?;
+            put_enumerators(out, rest, list, *last_comma)
         }
     }
 }
 
-// Appends members in braces, or nothing.
 #[cycle(tree_tokens)]
-fn put_members(
+fn put_record(
     out: &mut Items<Token>,
-    lines: &[u32],
+    lines: &Items<u32>,
+    is_union: bool,
+    tag: &Option<Name>,
     members: &Option<Items<MemberDecl>>,
 ) -> Result<(), Memory>
-    ensures { OnOk result (out.new ≡ out.old ++ tokens.members_tokens (option_members (option_map (map member_decl_view) members.now)) lines.now) }
+    ensures { OnOk result (out.new ≡ out.old ++ tokens.spec_tokens (Record is_union tag.now (option_members (option_map (map member_decl_view) members.now)) lines.now)) }
 {
+    put_key(out, lines.as_slice(), 0, record_keyword(is_union))?;
+    let rest = put_tag(out, later(lines.as_slice()), tag)?;
     let Some(list) = members else {
         return Ok(());
     };
-    put_mark(out, lines, 0, Punct::LeftBrace)?;
+    put_mark(out, rest, 0, Punct::LeftBrace)?;
     for decl in list.as_slice() {
         put_member_decl(out, decl)?;
     }
-    put_mark(out, lines, 1, Punct::RightBrace)
+    put_mark(out, rest, 1, Punct::RightBrace)
 }
 
 #[cycle(tree_tokens)]
@@ -131,38 +140,35 @@ fn put_member_declarator(
     put_prefixed(out, lines, 0, Punct::Colon, &declarator.width)
 }
 
-// Appends enumerators in braces, or nothing.
-#[cycle(tree_tokens)]
-fn put_enumerator_list(
+// Appends `enum` and the tag, where there is one, and gives the lines behind them.
+fn put_enum<'a>(
     out: &mut Items<Token>,
-    lines: &[u32],
-    list: &Option<Items<Enumerator>>,
-    last_comma: bool,
-) -> Result<(), Memory>
-    ensures { OnOk result (out.new ≡ out.old ++ tokens.enumerator_list_tokens (option_enumerators (option_map (map enumerator_view) list.now)) last_comma lines.now) }
+    lines: &'a Items<u32>,
+    tag: &Option<Name>,
+) -> Result<&'a [u32], Memory>
+    ensures put { OnOk result (out.new ≡ out.old ++ tokens.key lines.now 0 keyword.Enum ∷ tokens.tag_tokens tag.now (drop 1 lines.now)) }
+    ensures rest { IfOk result (λ rest. rest.now ≡ tokens.behind_tag tag.now (drop 1 lines.now)) }
 {
-    let Some(list) = list else {
-        return Ok(());
-    };
-    put_mark(out, lines, 0, Punct::LeftBrace)?;
-    put_enumerators(out, later(lines), list.as_slice(), last_comma)
+    put_key(out, lines.as_slice(), 0, Keyword::Enum)?;
+    put_tag(out, later(lines.as_slice()), tag)
 }
 
-// Appends enumerators, and the closing brace.
+// Appends enumerators in braces.
 #[cycle(tree_tokens)]
 fn put_enumerators(
     out: &mut Items<Token>,
     lines: &[u32],
-    list: &[Enumerator],
+    list: &Items<Enumerator>,
     last_comma: bool,
 ) -> Result<(), Memory>
-    ensures { OnOk result (out.new ≡ out.old ++ tokens.listed (tokens.brace last_comma) (tokens.enumerators_tokens (enumerators (map enumerator_view list.now))) lines.now) }
+    ensures { OnOk result (out.new ≡ out.old ++ tokens.mark lines.now 0 LeftBrace ∷ tokens.listed (tokens.brace last_comma) (tokens.enumerators_tokens (enumerators (map enumerator_view list.now))) (drop 1 lines.now)) }
 {
-    let Some((first, others)) = list.split_first() else {
-        return put_brace(out, lines, last_comma);
+    put_mark(out, lines, 0, Punct::LeftBrace)?;
+    let Some((first, others)) = list.as_slice().split_first() else {
+        return put_brace(out, later(lines), last_comma);
     };
     put_enumerator(out, first)?;
-    let mut ahead = lines;
+    let mut ahead = later(lines);
     for enumerator in others {
         put_mark(out, ahead, 0, Punct::Comma)?;
         put_enumerator(out, enumerator)?;
