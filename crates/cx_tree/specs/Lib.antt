@@ -1,8 +1,8 @@
 pub mod Depth
 pub mod Derives
-pub mod ExprParts
 pub mod Levels
 pub mod Names
+pub mod Parts
 pub mod Tokens
 pub mod Trees
 pub mod Valid

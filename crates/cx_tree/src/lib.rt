@@ -4,6 +4,7 @@
 
 mod declaration;
 mod declarator;
+mod depths;
 mod expr;
 mod initialiser;
 mod levels;
@@ -15,11 +16,13 @@ mod words;
 
 pub use declaration::{Decl, InitDeclarator};
 pub use declarator::{Brackets, Declarator, Param};
+pub use depths::depth;
 pub use expr::Expr;
 pub use initialiser::{Designator, Entry, Initialiser, InitialiserList};
 pub use levels::{binary_level, is_assignment_operator, is_unary_operator, level};
 pub use specifier::{Enumerator, MemberDecl, MemberDeclarator, Spec, TypeName};
 pub use stmt::{BlockItem, ForFirst, Stmt};
+pub use tokens::tokens_of;
 pub use unit::{Definition, External, Unit};
 pub use words::{
     is_function_specifier, is_qualifier, is_storage_class, is_type_word, is_typedef_word,

@@ -151,7 +151,7 @@ fn put_static_keys<'a>(
 }
 
 // Appends qualifiers and `static`, and gives the lines behind them.
-#[tactic(auto, using(crate::proofs::PartLemmas::owns_last, crate::proofs::PartLemmas::behind_last))]
+#[tactic(auto, using(crate::proofs::PartLemmas::owns_then, crate::proofs::PartLemmas::behind_last))]
 fn put_keys_static<'a>(
     out: &mut Items<Token>,
     lines: &'a [u32],
@@ -166,7 +166,7 @@ fn put_keys_static<'a>(
 }
 
 // Appends qualifiers and `*`, and gives the lines behind them.
-#[tactic(auto, using(crate::proofs::PartLemmas::owns_last, crate::proofs::PartLemmas::behind_last))]
+#[tactic(auto, using(crate::proofs::PartLemmas::owns_then, crate::proofs::PartLemmas::behind_last))]
 fn put_keys_star<'a>(
     out: &mut Items<Token>,
     lines: &'a [u32],

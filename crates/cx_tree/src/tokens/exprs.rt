@@ -4,7 +4,7 @@ ghost use Rattle.std.specs.Prelude.{◌≡◌, ◌++◌, ◌∷◌, [], OnOk, ma
 ghost use Rattle.cx_lex.specs.declared.token.Keyword.TheVariants.{Sizeof};
 ghost use Rattle.cx_lex.specs.declared.token.Punct.TheVariants.{LeftBracket, RightBracket, LeftParenthesis, RightParenthesis};
 ghost use Rattle.cx_lex.specs.declared.token.TokenKind.TheVariants as kind;
-ghost use Rattle.cx_tree.specs.ExprParts as parts;
+ghost use Rattle.cx_tree.specs.Parts as parts;
 ghost use Rattle.cx_tree.specs.Tokens as tokens;
 ghost use Rattle.cx_tree.specs.Views.{expr_view, exprs, initialiser_list_view, option_expr, type_name_view};
 

@@ -1,12 +1,14 @@
--- The tokens of an expression in three parts, in the order in which they are printed, so that each is printed by a function that
--- looks at the expression's form once and goes on with one other tree at most.
+-- The tokens of an expression and of a statement in three parts, in the order in which they are printed, so that each is printed by
+-- a function that looks at the tree's form once and goes on with one other tree at most.
 use Rattle.std.specs.Prelude.{List, [], ◌∷◌, ◌++◌, drop}
 use Rattle.cx_lex.specs.declared.token.Keyword.TheVariants as keyword
 use Rattle.cx_lex.specs.declared.token.Punct.TheVariants as punct
 use Rattle.cx_lex.specs.declared.token.Token.{Token}
 use Rattle.cx_lex.specs.declared.token.TokenKind.TheVariants as kind
-use Rattle.cx_tree.specs.Tokens.{own, mark, key, word, listed, ended, texts_tokens, expr_tokens, exprs_tokens, type_name_tokens, initialiser_list_tokens}
-use Rattle.cx_tree.specs.Trees.{ExprTree, Name, Number, Letter, Text, Paren, Index, Call, Dot, Arrow, PostUp, PostDown, Literal, PreUp, PreDown, Unary, SizeofExpr, SizeofType, Cast, Binary, Cond, Assign, Comma}
+use Rattle.cx_tree.specs.Tokens.{own, mark, key, word, listed, ended, texts_tokens, expr_tokens, exprs_tokens, option_tokens, type_name_tokens, initialiser_list_tokens, first_tokens, behind_first, clauses_tokens, stmt_tokens, else_tokens, items_tokens}
+use Rattle.cx_tree.specs.Trees.{ExprTree, Name, Number, Letter, Text, Paren, Index, Call, Dot, Arrow, PostUp, PostDown, Literal, PreUp, PreDown, Unary, SizeofExpr, SizeofType, Cast, Binary, Cond, Assign, Comma, StmtTree, Label, Case, Default, Block, ExprStmt, If, Switch, While, Do, For, Goto, Continue, Break, Return}
+
+-- ---- expressions (6.5)
 
 -- the left operand, or the type name in parentheses, that an expression begins with
 abbrev pub left_tokens : ExprTree → List Token
@@ -55,3 +57,39 @@ rest_tokens (SizeofType of lines) =
     key lines 0 keyword.Sizeof ∷ mark lines 1 punct.LeftParenthesis ∷ (type_name_tokens of ++ mark lines 2 punct.RightParenthesis ∷ [])
 rest_tokens (Cond condition if_true if_false lines) = mark lines 1 punct.Colon ∷ expr_tokens if_false
 rest_tokens _ = []
+
+-- ---- statements (6.8)
+
+-- a statement without another one in it
+abbrev pub simple_tokens : StmtTree → List Token
+simple_tokens (ExprStmt expr lines) = option_tokens expr ++ mark lines 0 punct.Semicolon ∷ []
+simple_tokens (Goto name lines) = key lines 0 keyword.Goto ∷ word lines 1 name ∷ mark lines 2 punct.Semicolon ∷ []
+simple_tokens (Continue lines) = key lines 0 keyword.Continue ∷ mark lines 1 punct.Semicolon ∷ []
+simple_tokens (Break lines) = key lines 0 keyword.Break ∷ mark lines 1 punct.Semicolon ∷ []
+simple_tokens (Return value lines) = key lines 0 keyword.Return ∷ (option_tokens value ++ mark lines 1 punct.Semicolon ∷ [])
+simple_tokens _ = []
+
+-- a statement that holds others, without `else` and its branch
+abbrev pub compound_tokens : StmtTree → List Token
+compound_tokens (Label name stmt lines) = word lines 0 name ∷ mark lines 1 punct.Colon ∷ stmt_tokens stmt
+compound_tokens (Case value stmt lines) = key lines 0 keyword.Case ∷ (expr_tokens value ++ (mark lines 1 punct.Colon ∷ stmt_tokens stmt))
+compound_tokens (Default stmt lines) = key lines 0 keyword.Default ∷ mark lines 1 punct.Colon ∷ stmt_tokens stmt
+compound_tokens (Block items lines) = mark lines 0 punct.LeftBrace ∷ (items_tokens items ++ mark lines 1 punct.RightBrace ∷ [])
+compound_tokens (If condition branch otherwise lines) =
+    key lines 0 keyword.If ∷ mark lines 1 punct.LeftParenthesis ∷ (expr_tokens condition ++ (mark lines 2 punct.RightParenthesis ∷ stmt_tokens branch))
+compound_tokens (Switch on body lines) =
+    key lines 0 keyword.Switch ∷ mark lines 1 punct.LeftParenthesis ∷ (expr_tokens on ++ (mark lines 2 punct.RightParenthesis ∷ stmt_tokens body))
+compound_tokens (While condition body lines) =
+    key lines 0 keyword.While ∷ mark lines 1 punct.LeftParenthesis ∷ (expr_tokens condition ++ (mark lines 2 punct.RightParenthesis ∷ stmt_tokens body))
+compound_tokens (Do body condition lines) =
+    key lines 0 keyword.Do ∷ (stmt_tokens body ++ (key lines 1 keyword.While ∷ mark lines 2 punct.LeftParenthesis ∷ (expr_tokens condition
+    ++ mark lines 3 punct.RightParenthesis ∷ mark lines 4 punct.Semicolon ∷ [])))
+compound_tokens (For first second third body lines) =
+    (key lines 0 keyword.For ∷ mark lines 1 punct.LeftParenthesis ∷ (first_tokens first (drop 2 lines)
+    ++ clauses_tokens second third (behind_first first (drop 2 lines)))) ++ stmt_tokens body
+compound_tokens _ = []
+
+-- `else` and its branch
+abbrev pub otherwise_tokens : StmtTree → List Token
+otherwise_tokens (If condition branch otherwise lines) = else_tokens lines otherwise
+otherwise_tokens _ = []

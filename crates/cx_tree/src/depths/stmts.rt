@@ -1,0 +1,103 @@
+//! The depth of statements (ISO C99, 6.8).
+
+ghost use Rattle.std.specs.Prelude.{◌≡◌, min, ◌-◌, ◌^◌, map, option_map};
+ghost use Rattle.cx_tree.specs.Depth as depth;
+ghost use Rattle.cx_tree.specs.Views.{first_view, item_view, items, option_stmt, stmt_view};
+
+use crate::depths::decl_depth;
+use crate::depths::exprs::{expr_depth, option_depth};
+use crate::stmt::{BlockItem, ForFirst, Stmt};
+use cr_base::Boxed;
+
+fn first_depth(first: &ForFirst) -> u64
+    ensures { result ≡ min (depth.first_depth (first_view first.now)) (2 ^ 64 - 1) }
+{
+    match first {
+        ForFirst::Value(value) => option_depth(value),
+        ForFirst::Declared(decl) => decl_depth(decl.get()),
+    }
+}
+
+#[cycle(stmt_depths)]
+pub fn stmt_depth(stmt: &Stmt) -> u64
+    ensures { result ≡ min (depth.stmt_depth (stmt_view stmt.now)) (2 ^ 64 - 1) }
+{
+    match stmt {
+        Stmt::Goto { .. } | Stmt::Continue { .. } | Stmt::Break { .. } => 1,
+        Stmt::Label { stmt, .. } | Stmt::Default { stmt, .. } => {
+            stmt_depth(stmt.get()).saturating_add(1)
+        }
+        Stmt::Case {
+            value: on,
+            stmt: body,
+            ..
+        }
+        | Stmt::Switch { on, body, .. }
+        | Stmt::While {
+            condition: on,
+            body,
+            ..
+        } => expr_depth(on.get())
+            .max(stmt_depth(body.get()))
+            .saturating_add(1),
+        Stmt::Do {
+            body,
+            condition,
+            ..
+        } => stmt_depth(body.get())
+            .max(expr_depth(condition.get()))
+            .saturating_add(1),
+        Stmt::Block { items, .. } => items_depth(items.as_slice()).saturating_add(1),
+        Stmt::Expr { expr: value, .. } | Stmt::Return { value, .. } => {
+            option_depth(value).saturating_add(1)
+        }
+        Stmt::If {
+            condition,
+            branch,
+            otherwise,
+            ..
+        } => expr_depth(condition.get())
+            .max(stmt_depth(branch.get()).max(else_depth(otherwise)))
+            .saturating_add(1),
+        Stmt::For {
+            first,
+            second,
+            third,
+            body,
+            ..
+        } => first_depth(first)
+            .max(option_depth(second).max(option_depth(third).max(stmt_depth(body.get()))))
+            .saturating_add(1),
+    }
+}
+
+#[cycle(stmt_depths)]
+fn else_depth(otherwise: &Option<Boxed<Stmt>>) -> u64
+    ensures { result ≡ min (depth.else_depth (option_stmt (option_map stmt_view otherwise.now))) (2 ^ 64 - 1) }
+{
+    match otherwise {
+        None => 0,
+        Some(stmt) => stmt_depth(stmt.get()),
+    }
+}
+
+#[cycle(stmt_depths)]
+fn item_depth(item: &BlockItem) -> u64
+    ensures { result ≡ min (depth.item_depth (item_view item.now)) (2 ^ 64 - 1) }
+{
+    match item {
+        BlockItem::Statement(stmt) => stmt_depth(stmt.get()),
+        BlockItem::Declaration(decl) => decl_depth(decl.get()),
+    }
+}
+
+#[cycle(stmt_depths)]
+fn items_depth(list: &[BlockItem]) -> u64
+    ensures { result ≡ min (depth.items_depth (items (map item_view list.now))) (2 ^ 64 - 1) }
+{
+    let mut deepest = 0u64;
+    for item in list {
+        deepest = deepest.max(item_depth(item));
+    }
+    deepest
+}
