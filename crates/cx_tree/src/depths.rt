@@ -1,5 +1,6 @@
 //! How many nodes stand on the longest path of a tree.
 
+mod above;
 mod declarators;
 mod exprs;
 mod initialisers;
@@ -13,6 +14,7 @@ ghost use Rattle.cx_tree.specs.Views.{decl_view, definition_view, external_view,
 use crate::declaration::{Decl, InitDeclarator};
 use crate::initialiser::Initialiser;
 use crate::unit::{Definition, External, Unit};
+use above::{above_three, above_two};
 use cr_base::Boxed;
 use declarators::declarator_depth;
 use initialisers::initialiser_depth;
@@ -31,9 +33,10 @@ fn init_depth(init: &Option<Boxed<Initialiser>>) -> u64
 fn init_declarator_depth(declarator: &InitDeclarator) -> u64
     ensures { result ≡ min (depth.init_declarator_depth (init_declarator_view declarator.now)) (2 ^ 64 - 1) }
 {
-    declarator_depth(declarator.declarator.get())
-        .max(init_depth(&declarator.init))
-        .saturating_add(1)
+    above_two(
+        declarator_depth(declarator.declarator.get()),
+        init_depth(&declarator.init),
+    )
 }
 
 fn init_declarators_depth(list: &[InitDeclarator]) -> u64
@@ -49,17 +52,20 @@ fn init_declarators_depth(list: &[InitDeclarator]) -> u64
 fn decl_depth(decl: &Decl) -> u64
     ensures { result ≡ min (depth.decl_depth (decl_view decl.now)) (2 ^ 64 - 1) }
 {
-    specs_depth(decl.specs.as_slice())
-        .max(init_declarators_depth(decl.list.as_slice()))
-        .saturating_add(1)
+    above_two(
+        specs_depth(decl.specs.as_slice()),
+        init_declarators_depth(decl.list.as_slice()),
+    )
 }
 
 fn definition_depth(definition: &Definition) -> u64
     ensures { result ≡ min (depth.definition_depth (definition_view definition.now)) (2 ^ 64 - 1) }
 {
-    specs_depth(definition.specs.as_slice())
-        .max(declarator_depth(definition.declarator.get()).max(stmt_depth(definition.body.get())))
-        .saturating_add(1)
+    above_three(
+        specs_depth(definition.specs.as_slice()),
+        declarator_depth(definition.declarator.get()),
+        stmt_depth(definition.body.get()),
+    )
 }
 
 fn external_depth(external: &External) -> u64

@@ -5,6 +5,7 @@ ghost use Rattle.cx_tree.specs.Depth as depth;
 ghost use Rattle.cx_tree.specs.Views.{brackets_view, declarator_view, param_view, params};
 
 use crate::declarator::{Brackets, Declarator, Param};
+use crate::depths::above::above_two;
 use crate::depths::exprs::expr_depth;
 use crate::depths::specifiers::specs_depth;
 
@@ -18,12 +19,12 @@ pub fn declarator_depth(declarator: &Declarator) -> u64
         Declarator::Group { inner: of, .. }
         | Declarator::Pointer { of, .. }
         | Declarator::Identifiers { of, .. } => declarator_depth(of.get()).saturating_add(1),
-        Declarator::Array { of, brackets, .. } => declarator_depth(of.get())
-            .max(brackets_depth(brackets))
-            .saturating_add(1),
-        Declarator::Function { of, params, .. } => declarator_depth(of.get())
-            .max(params_depth(params.as_slice()))
-            .saturating_add(1),
+        Declarator::Array { of, brackets, .. } => {
+            above_two(declarator_depth(of.get()), brackets_depth(brackets))
+        }
+        Declarator::Function { of, params, .. } => {
+            above_two(declarator_depth(of.get()), params_depth(params.as_slice()))
+        }
     }
 }
 
@@ -54,7 +55,8 @@ fn params_depth(list: &[Param]) -> u64
 fn param_depth(param: &Param) -> u64
     ensures { result ≡ min (depth.param_depth (param_view param.now)) (2 ^ 64 - 1) }
 {
-    specs_depth(param.specs.as_slice())
-        .max(declarator_depth(param.declarator.get()))
-        .saturating_add(1)
+    above_two(
+        specs_depth(param.specs.as_slice()),
+        declarator_depth(param.declarator.get()),
+    )
 }

@@ -4,10 +4,11 @@ ghost use Rattle.std.specs.Prelude.{◌≡◌, min, ◌-◌, ◌^◌, map, optio
 ghost use Rattle.cx_tree.specs.Depth as depth;
 ghost use Rattle.cx_tree.specs.Views.{expr_view, exprs, option_expr};
 
+use crate::depths::above::{above_three, above_two};
 use crate::depths::initialisers::initialiser_list_depth;
 use crate::depths::specifiers::type_name_depth;
 use crate::expr::Expr;
-use cr_base::Boxed;
+use cr_base::{Boxed, Items};
 
 #[cycle(tree_depths)]
 pub fn expr_depth(expr: &Expr) -> u64
@@ -23,7 +24,7 @@ pub fn expr_depth(expr: &Expr) -> u64
         | Expr::PreUp { on: one, .. }
         | Expr::PreDown { on: one, .. }
         | Expr::Unary { on: one, .. }
-        | Expr::SizeofExpr { on: one, .. } => expr_depth(one.get()).saturating_add(1),
+        | Expr::SizeofExpr { on: one, .. } => boxed_depth(one).saturating_add(1),
         Expr::Index {
             of: one,
             index: other,
@@ -43,36 +44,40 @@ pub fn expr_depth(expr: &Expr) -> u64
             left: one,
             right: other,
             ..
-        } => expr_depth(one.get())
-            .max(expr_depth(other.get()))
-            .saturating_add(1),
-        Expr::Call { of, args, .. } => expr_depth(of.get())
-            .max(exprs_depth(args.as_slice()))
-            .saturating_add(1),
-        Expr::Literal { of, list, .. } => type_name_depth(of.get())
-            .max(initialiser_list_depth(list.get()))
-            .saturating_add(1),
+        } => above_two(boxed_depth(one), boxed_depth(other)),
+        Expr::Call { of, args, .. } => above_two(boxed_depth(of), exprs_depth(args)),
+        Expr::Literal { of, list, .. } => above_two(
+            type_name_depth(of.get()),
+            initialiser_list_depth(list.get()),
+        ),
         Expr::SizeofType { of, .. } => type_name_depth(of.get()).saturating_add(1),
-        Expr::Cast { to, on, .. } => type_name_depth(to.get())
-            .max(expr_depth(on.get()))
-            .saturating_add(1),
+        Expr::Cast { to, on, .. } => above_two(type_name_depth(to.get()), boxed_depth(on)),
         Expr::Cond {
             condition,
             if_true,
             if_false,
             ..
-        } => expr_depth(condition.get())
-            .max(expr_depth(if_true.get()).max(expr_depth(if_false.get())))
-            .saturating_add(1),
+        } => above_three(
+            boxed_depth(condition),
+            boxed_depth(if_true),
+            boxed_depth(if_false),
+        ),
     }
 }
 
 #[cycle(tree_depths)]
-fn exprs_depth(list: &[Expr]) -> u64
+fn boxed_depth(expr: &Boxed<Expr>) -> u64
+    ensures { result ≡ min (depth.expr_depth (expr_view expr.now)) (2 ^ 64 - 1) }
+{
+    expr_depth(expr.get())
+}
+
+#[cycle(tree_depths)]
+fn exprs_depth(list: &Items<Expr>) -> u64
     ensures { result ≡ min (depth.exprs_depth (exprs (map expr_view list.now))) (2 ^ 64 - 1) }
 {
     let mut deepest = 0u64;
-    for expr in list {
+    for expr in list.as_slice() {
         deepest = deepest.max(expr_depth(expr));
     }
     deepest

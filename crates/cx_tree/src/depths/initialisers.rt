@@ -4,6 +4,7 @@ ghost use Rattle.std.specs.Prelude.{◌≡◌, min, ◌-◌, ◌^◌, map};
 ghost use Rattle.cx_tree.specs.Depth as depth;
 ghost use Rattle.cx_tree.specs.Views.{designator_view, designators, entry_view, initialiser_list_view, initialiser_view};
 
+use crate::depths::above::above_two;
 use crate::depths::exprs::expr_depth;
 use crate::initialiser::{Designator, Entry, Initialiser, InitialiserList};
 
@@ -32,9 +33,10 @@ pub fn initialiser_list_depth(list: &InitialiserList) -> u64
 fn entry_depth(entry: &Entry) -> u64
     ensures { result ≡ min (depth.entry_depth (entry_view entry.now)) (2 ^ 64 - 1) }
 {
-    designators_depth(entry.designators.as_slice())
-        .max(initialiser_depth(entry.init.get()))
-        .saturating_add(1)
+    above_two(
+        designators_depth(entry.designators.as_slice()),
+        initialiser_depth(entry.init.get()),
+    )
 }
 
 #[cycle(tree_depths)]

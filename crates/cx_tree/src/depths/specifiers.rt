@@ -4,6 +4,7 @@ ghost use Rattle.std.specs.Prelude.{◌≡◌, min, ◌-◌, ◌^◌, map, optio
 ghost use Rattle.cx_tree.specs.Depth as depth;
 ghost use Rattle.cx_tree.specs.Views.{enumerator_view, member_decl_view, member_declarator_view, member_declarators, option_enumerators, option_members, spec_view, specs, type_name_view};
 
+use crate::depths::above::above_two;
 use crate::depths::declarators::declarator_depth;
 use crate::depths::exprs::option_depth;
 use crate::specifier::{Enumerator, MemberDecl, MemberDeclarator, Spec, TypeName};
@@ -13,9 +14,10 @@ use cr_base::Items;
 pub fn type_name_depth(name: &TypeName) -> u64
     ensures { result ≡ min (depth.type_name_depth (type_name_view name.now)) (2 ^ 64 - 1) }
 {
-    specs_depth(name.specs.as_slice())
-        .max(declarator_depth(name.declarator.get()))
-        .saturating_add(1)
+    above_two(
+        specs_depth(name.specs.as_slice()),
+        declarator_depth(name.declarator.get()),
+    )
 }
 
 #[cycle(tree_depths)]
@@ -58,9 +60,10 @@ fn members_depth(members: &Option<Items<MemberDecl>>) -> u64
 fn member_decl_depth(decl: &MemberDecl) -> u64
     ensures { result ≡ min (depth.member_decl_depth (member_decl_view decl.now)) (2 ^ 64 - 1) }
 {
-    specs_depth(decl.specs.as_slice())
-        .max(member_declarators_depth(decl.list.as_slice()))
-        .saturating_add(1)
+    above_two(
+        specs_depth(decl.specs.as_slice()),
+        member_declarators_depth(decl.list.as_slice()),
+    )
 }
 
 #[cycle(tree_depths)]
@@ -78,9 +81,10 @@ fn member_declarators_depth(list: &[MemberDeclarator]) -> u64
 fn member_declarator_depth(declarator: &MemberDeclarator) -> u64
     ensures { result ≡ min (depth.member_declarator_depth (member_declarator_view declarator.now)) (2 ^ 64 - 1) }
 {
-    declarator_depth(declarator.declarator.get())
-        .max(option_depth(&declarator.width))
-        .saturating_add(1)
+    above_two(
+        declarator_depth(declarator.declarator.get()),
+        option_depth(&declarator.width),
+    )
 }
 
 #[cycle(tree_depths)]

@@ -4,6 +4,7 @@ ghost use Rattle.std.specs.Prelude.{◌≡◌, min, ◌-◌, ◌^◌, map, optio
 ghost use Rattle.cx_tree.specs.Depth as depth;
 ghost use Rattle.cx_tree.specs.Views.{first_view, item_view, items, option_stmt, stmt_view};
 
+use crate::depths::above::{above_three, above_two};
 use crate::depths::decl_depth;
 use crate::depths::exprs::{expr_depth, option_depth};
 use crate::stmt::{BlockItem, ForFirst, Stmt};
@@ -37,16 +38,12 @@ pub fn stmt_depth(stmt: &Stmt) -> u64
             condition: on,
             body,
             ..
-        } => expr_depth(on.get())
-            .max(stmt_depth(body.get()))
-            .saturating_add(1),
+        } => above_two(expr_depth(on.get()), stmt_depth(body.get())),
         Stmt::Do {
             body,
             condition,
             ..
-        } => stmt_depth(body.get())
-            .max(expr_depth(condition.get()))
-            .saturating_add(1),
+        } => above_two(stmt_depth(body.get()), expr_depth(condition.get())),
         Stmt::Block { items, .. } => items_depth(items.as_slice()).saturating_add(1),
         Stmt::Expr { expr: value, .. } | Stmt::Return { value, .. } => {
             option_depth(value).saturating_add(1)
@@ -56,9 +53,11 @@ pub fn stmt_depth(stmt: &Stmt) -> u64
             branch,
             otherwise,
             ..
-        } => expr_depth(condition.get())
-            .max(stmt_depth(branch.get()).max(else_depth(otherwise)))
-            .saturating_add(1),
+        } => above_three(
+            expr_depth(condition.get()),
+            stmt_depth(branch.get()),
+            else_depth(otherwise),
+        ),
         Stmt::For {
             first,
             second,

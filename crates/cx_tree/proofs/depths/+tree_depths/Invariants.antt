@@ -7,7 +7,7 @@ abbrev pub invariant-declarators::params_depth-loop-param : goal.invariant-decla
 invariant-declarators::params_depth-loop-param l = max l.deepest (min (depth.params_depth (params (map param_view (drop l.param-index l.list)))) (2 ^ 64 - 1)) ≡ min (depth.params_depth (params (map param_view l.list))) (2 ^ 64 - 1)
 
 abbrev pub invariant-exprs::exprs_depth-loop-expr : goal.invariant-exprs::exprs_depth-loop-expr
-invariant-exprs::exprs_depth-loop-expr l = max l.deepest (min (depth.exprs_depth (exprs (map expr_view (drop l.expr-index l.list)))) (2 ^ 64 - 1)) ≡ min (depth.exprs_depth (exprs (map expr_view l.list))) (2 ^ 64 - 1)
+invariant-exprs::exprs_depth-loop-expr l = max l.deepest (min (depth.exprs_depth (exprs (map expr_view (drop l.expr-index l.expr-items)))) (2 ^ 64 - 1)) ≡ min (depth.exprs_depth (exprs (map expr_view l.expr-items))) (2 ^ 64 - 1)
 
 abbrev pub invariant-initialisers::designators_depth-loop-designator : goal.invariant-initialisers::designators_depth-loop-designator
 invariant-initialisers::designators_depth-loop-designator l = max l.deepest (min (depth.designators_depth (designators (map designator_view (drop l.designator-index l.list)))) (2 ^ 64 - 1)) ≡ min (depth.designators_depth (designators (map designator_view l.list))) (2 ^ 64 - 1)
