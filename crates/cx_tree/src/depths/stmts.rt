@@ -1,12 +1,13 @@
 //! The depth of statements (ISO C99, 6.8).
 
-ghost use Rattle.std.specs.Prelude.{◌≡◌, min, ◌-◌, ◌^◌, map, option_map};
+ghost use Rattle.std.specs.Prelude.{◌≡◌, suc, min, max, ◌-◌, ◌^◌, map, option_map};
 ghost use Rattle.cx_tree.specs.Depth as depth;
-ghost use Rattle.cx_tree.specs.Views.{first_view, item_view, items, option_stmt, stmt_view};
+ghost use Rattle.cx_tree.specs.Views.{expr_view, first_view, item_view, items, option_expr, stmt_view};
 
 use crate::depths::above::{above_three, above_two};
 use crate::depths::decl_depth;
 use crate::depths::exprs::{expr_depth, option_depth};
+use crate::expr::Expr;
 use crate::stmt::{BlockItem, ForFirst, Stmt};
 use cr_base::Boxed;
 
@@ -51,12 +52,18 @@ pub fn stmt_depth(stmt: &Stmt) -> u64
         Stmt::If {
             condition,
             branch,
-            otherwise,
+            otherwise: None,
+            ..
+        } => above_two(expr_depth(condition.get()), stmt_depth(branch.get())),
+        Stmt::If {
+            condition,
+            branch,
+            otherwise: Some(otherwise),
             ..
         } => above_three(
             expr_depth(condition.get()),
             stmt_depth(branch.get()),
-            else_depth(otherwise),
+            stmt_depth(otherwise.get()),
         ),
         Stmt::For {
             first,
@@ -64,20 +71,23 @@ pub fn stmt_depth(stmt: &Stmt) -> u64
             third,
             body,
             ..
-        } => first_depth(first)
-            .max(option_depth(second).max(option_depth(third).max(stmt_depth(body.get()))))
-            .saturating_add(1),
+        } => for_depth(body, first, second, third),
     }
 }
 
 #[cycle(stmt_depths)]
-fn else_depth(otherwise: &Option<Boxed<Stmt>>) -> u64
-    ensures { result ≡ min (depth.else_depth (option_stmt (option_map stmt_view otherwise.now))) (2 ^ 64 - 1) }
+fn for_depth(
+    body: &Boxed<Stmt>,
+    first: &ForFirst,
+    second: &Option<Boxed<Expr>>,
+    third: &Option<Boxed<Expr>>,
+) -> u64
+    ensures { result ≡ min (suc (max (depth.first_depth (first_view first.now)) (max (depth.option_depth (option_expr (option_map expr_view second.now))) (max (depth.option_depth (option_expr (option_map expr_view third.now))) (depth.stmt_depth (stmt_view body.now)))))) (2 ^ 64 - 1) }
 {
-    match otherwise {
-        None => 0,
-        Some(stmt) => stmt_depth(stmt.get()),
-    }
+    above_two(
+        first_depth(first),
+        option_depth(second).max(option_depth(third).max(stmt_depth(body.get()))),
+    )
 }
 
 #[cycle(stmt_depths)]
