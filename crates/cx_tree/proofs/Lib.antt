@@ -1,1 +1,4 @@
+pub mod ExampleDecls
+pub mod ExampleExprs
+pub mod ExampleNames
 pub mod PartLemmas
