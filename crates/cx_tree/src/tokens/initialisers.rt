@@ -1,89 +1,87 @@
 //! The tokens of initialisers (ISO C99, 6.7.8).
+#![tactic(auto, using(crate::proofs::PrintingLemmas::printing))]
 
-ghost use Rattle.std.specs.Prelude.{◌≡◌, ◌++◌, ◌∷◌, [], OnOk, map, drop};
+ghost use Rattle.std.specs.Prelude.{map};
+ghost use Rattle.cx_tree.specs.Printing.{Appends};
 ghost use Rattle.cx_tree.specs.Tokens as tokens;
-ghost use Rattle.cx_tree.specs.Views.{designator_view, designators, entries, entry_view, initialiser_list_view, initialiser_view};
+ghost use Rattle.cx_tree.specs.Views.{designator_view, designators, entry_view, initialiser_list_view, initialiser_view};
 
 use crate::initialiser::{Designator, Entry, Initialiser, InitialiserList};
-use crate::tokens::exprs::{put_bracketed, put_expr};
-use crate::tokens::own::{later, put_brace, put_mark, put_word};
-use cr_base::{Items, Memory};
-use cx_lex::{Punct, Token};
+use crate::tokens::exprs::{put_between, put_expr};
+use crate::tokens::printer::{Printer, later};
+use cr_base::{Boxed, Items};
+use cx_lex::Punct;
 
 #[cycle(tree_tokens)]
-pub fn put_initialiser(out: &mut Items<Token>, init: &Initialiser) -> Result<(), Memory>
-    ensures { OnOk result (out.new ≡ out.old ++ tokens.initialiser_tokens (initialiser_view init.now)) }
+pub fn put_initialiser(out: &mut Printer, init: &Initialiser)
+    ensures { Appends out.old out.new (tokens.initialiser_tokens (initialiser_view init.now)) }
 {
     match init {
         Initialiser::Single(expr) => put_expr(out, expr.get()),
-        Initialiser::Braced(list) => put_initialiser_list(out, list.get()),
+        Initialiser::Braced(list) => put_boxed_list(out, list),
     }
 }
 
 #[cycle(tree_tokens)]
-pub fn put_initialiser_list(out: &mut Items<Token>, list: &InitialiserList) -> Result<(), Memory>
-    ensures { OnOk result (out.new ≡ out.old ++ tokens.initialiser_list_tokens (initialiser_list_view list.now)) }
+pub fn put_boxed_list(out: &mut Printer, list: &Boxed<InitialiserList>)
+    ensures { Appends out.old out.new (tokens.initialiser_list_tokens (initialiser_list_view list.now)) }
 {
-    let lines = list.lines.as_slice();
-    put_mark(out, lines, 0, Punct::LeftBrace)?;
-    put_entries(out, later(lines), list.entries.as_slice(), list.last_comma)
+    put_list(out, list.get());
 }
 
-// Appends entries, and the closing brace.
 #[cycle(tree_tokens)]
-fn put_entries(
-    out: &mut Items<Token>,
-    lines: &[u32],
-    list: &[Entry],
-    last_comma: bool,
-) -> Result<(), Memory>
-    ensures { OnOk result (out.new ≡ out.old ++ tokens.listed (tokens.brace last_comma) (tokens.entries_tokens (entries (map entry_view list.now))) lines.now) }
+fn put_list(out: &mut Printer, list: &InitialiserList)
+    ensures { Appends out.old out.new (tokens.initialiser_list_tokens (initialiser_list_view list.now)) }
 {
-    let Some((first, others)) = list.split_first() else {
-        return put_brace(out, lines, last_comma);
+    let last_comma = list.last_comma;
+    out.mark(&list.lines, 0, Punct::LeftBrace);
+    let mut ahead = later(list.lines.as_slice());
+    let Some((first, others)) = list.entries.as_slice().split_first() else {
+        return out.brace(ahead, last_comma);
     };
-    put_entry(out, first)?;
-    let mut ahead = lines;
+    put_entry(out, first);
     for entry in others {
-        put_mark(out, ahead, 0, Punct::Comma)?;
-        put_entry(out, entry)?;
+        out.next(ahead, Punct::Comma);
+        put_entry(out, entry);
         ahead = later(ahead);
     }
-    put_brace(out, ahead, last_comma)
+    out.brace(ahead, last_comma);
 }
 
 #[cycle(tree_tokens)]
-fn put_entry(out: &mut Items<Token>, entry: &Entry) -> Result<(), Memory>
-    ensures { OnOk result (out.new ≡ out.old ++ tokens.entry_tokens (entry_view entry.now)) }
+fn put_entry(out: &mut Printer, entry: &Entry)
+    ensures { Appends out.old out.new (tokens.entry_tokens (entry_view entry.now)) }
 {
-    put_designation(out, entry.lines.as_slice(), entry.designators.as_slice())?;
-    put_initialiser(out, entry.init.get())
+    put_designation(out, &entry.lines, &entry.designators);
+    put_initialiser(out, entry.init.get());
 }
 
 // Appends designators and `=`, or nothing.
 #[cycle(tree_tokens)]
-fn put_designation(out: &mut Items<Token>, lines: &[u32], list: &[Designator]) -> Result<(), Memory>
-    ensures { OnOk result (out.new ≡ out.old ++ tokens.designation_tokens (designators (map designator_view list.now)) lines.now) }
+fn put_designation(out: &mut Printer, lines: &Items<u32>, list: &Items<Designator>)
+    ensures { Appends out.old out.new (tokens.designation_tokens (designators (map designator_view list.now)) lines.now) }
 {
-    let Some((first, others)) = list.split_first() else {
-        return Ok(());
+    let Some((first, others)) = list.as_slice().split_first() else {
+        return;
     };
-    put_designator(out, first)?;
+    put_designator(out, first);
     for designator in others {
-        put_designator(out, designator)?;
+        put_designator(out, designator);
     }
-    put_mark(out, lines, 0, Punct::Equal)
+    out.mark(lines, 0, Punct::Equal);
 }
 
 #[cycle(tree_tokens)]
-fn put_designator(out: &mut Items<Token>, designator: &Designator) -> Result<(), Memory>
-    ensures { OnOk result (out.new ≡ out.old ++ tokens.designator_tokens (designator_view designator.now)) }
+fn put_designator(out: &mut Printer, designator: &Designator)
+    ensures { Appends out.old out.new (tokens.designator_tokens (designator_view designator.now)) }
 {
     match designator {
-        Designator::Element { at, lines } => put_bracketed(out, lines, at),
+        Designator::Element { at, lines } => {
+            put_between(out, lines, Punct::LeftBracket, at, Punct::RightBracket);
+        }
         Designator::Member { name, lines } => {
-            put_mark(out, lines.as_slice(), 0, Punct::Dot)?;
-            put_word(out, lines.as_slice(), 1, name)
+            out.mark(lines, 0, Punct::Dot);
+            out.word(lines, 1, name);
         }
     }
 }

@@ -1,9 +1,11 @@
 //! The tokens of statements (ISO C99, 6.8).
+#![tactic(auto, using(crate::proofs::PrintingLemmas::printing))]
 
-ghost use Rattle.std.specs.Prelude.{◌≡◌, ◌++◌, ◌∷◌, [], IfOk, OnOk, map, option_map, drop};
+ghost use Rattle.std.specs.Prelude.{◌≡◌, ◌++◌, ◌∷◌, [], map, option_map, drop};
 ghost use Rattle.cx_lex.specs.declared.token.Keyword.TheVariants as keyword;
 ghost use Rattle.cx_lex.specs.declared.token.Punct.TheVariants as punct;
 ghost use Rattle.cx_tree.specs.Parts as parts;
+ghost use Rattle.cx_tree.specs.Printing.{Appends};
 ghost use Rattle.cx_tree.specs.Tokens as tokens;
 ghost use Rattle.cx_tree.specs.Trees as tree;
 ghost use Rattle.cx_tree.specs.Views.{expr_view, first_view, item_view, items, option_expr, option_stmt, stmt_view};
@@ -11,44 +13,79 @@ ghost use Rattle.cx_tree.specs.Views.{expr_view, first_view, item_view, items, o
 use crate::expr::Expr;
 use crate::stmt::{BlockItem, ForFirst, Stmt};
 use crate::tokens::declarations::put_decl;
-use crate::tokens::exprs::{put_expr, put_option};
-use crate::tokens::own::{later, put_key, put_mark, put_word};
-use cr_base::{Boxed, Items, Memory, Name};
-use cx_lex::{Keyword, Punct, Token};
+use crate::tokens::exprs::{put_boxed as put_expr, put_option};
+use crate::tokens::printer::{Printer, later};
+use cr_base::{Boxed, Items};
+use cx_lex::{Keyword, Punct};
 
 #[cycle(stmt_tokens)]
-#[tactic(auto, using(crate::proofs::PartLemmas::stmt_in_parts))]
-pub fn put_stmt(out: &mut Items<Token>, stmt: &Stmt) -> Result<(), Memory>
-    ensures { OnOk result (out.new ≡ out.old ++ tokens.stmt_tokens (stmt_view stmt.now)) }
+#[tactic(auto, using(crate::proofs::PrintingLemmas::printing, crate::proofs::PartLemmas::stmt_in_parts))]
+pub fn put_stmt(out: &mut Printer, stmt: &Stmt)
+    ensures { Appends out.old out.new (tokens.stmt_tokens (stmt_view stmt.now)) }
 {
-    put_simple(out, stmt)?;
-    put_compound(out, stmt)?;
-    put_otherwise(out, stmt)
+    put_simple(out, stmt);
+    put_compound(out, stmt);
+    put_otherwise(out, stmt);
+}
+
+#[cycle(stmt_tokens)]
+fn put_boxed(out: &mut Printer, stmt: &Boxed<Stmt>)
+    ensures { Appends out.old out.new (tokens.stmt_tokens (stmt_view stmt.now)) }
+{
+    put_stmt(out, stmt.get());
 }
 
 // Appends a statement without another one in it, or nothing.
-fn put_simple(out: &mut Items<Token>, stmt: &Stmt) -> Result<(), Memory>
-    ensures { OnOk result (out.new ≡ out.old ++ parts.simple_tokens (stmt_view stmt.now)) }
+fn put_simple(out: &mut Printer, stmt: &Stmt)
+    ensures { Appends out.old out.new (parts.simple_tokens (stmt_view stmt.now)) }
 {
     match stmt {
-        Stmt::Expr { expr, lines } => put_expr_stmt(out, lines, expr),
-        Stmt::Goto { name, lines } => put_goto(out, lines, name),
-        Stmt::Continue { lines } => put_jump(out, lines, Keyword::Continue),
-        Stmt::Break { lines } => put_jump(out, lines, Keyword::Break),
-        Stmt::Return { value, lines } => put_return(out, lines, value),
-        _ => Ok(()),
+        Stmt::Expr { expr, lines } => {
+            put_option(out, expr);
+            out.mark(lines, 0, Punct::Semicolon);
+        }
+        Stmt::Goto { name, lines } => {
+            out.key(lines, 0, Keyword::Goto);
+            out.word(lines, 1, name);
+            out.mark(lines, 2, Punct::Semicolon);
+        }
+        Stmt::Continue { lines } => {
+            out.key(lines, 0, Keyword::Continue);
+            out.mark(lines, 1, Punct::Semicolon);
+        }
+        Stmt::Break { lines } => {
+            out.key(lines, 0, Keyword::Break);
+            out.mark(lines, 1, Punct::Semicolon);
+        }
+        Stmt::Return { value, lines } => {
+            out.key(lines, 0, Keyword::Return);
+            put_option(out, value);
+            out.mark(lines, 1, Punct::Semicolon);
+        }
+        _ => {}
     }
 }
 
 // Appends a statement that holds others, without `else` and its branch, or nothing.
 #[cycle(stmt_tokens)]
-fn put_compound(out: &mut Items<Token>, stmt: &Stmt) -> Result<(), Memory>
-    ensures { OnOk result (out.new ≡ out.old ++ parts.compound_tokens (stmt_view stmt.now)) }
+fn put_compound(out: &mut Printer, stmt: &Stmt)
+    ensures { Appends out.old out.new (parts.compound_tokens (stmt_view stmt.now)) }
 {
     match stmt {
-        Stmt::Label { name, stmt, lines } => put_label(out, lines, name, stmt),
-        Stmt::Case { value, stmt, lines } => put_case(out, lines, stmt, value),
-        Stmt::Default { stmt, lines } => put_default(out, lines, stmt),
+        Stmt::Label { name, stmt, lines } => {
+            out.word(lines, 0, name);
+            out.mark(lines, 1, Punct::Colon);
+            put_boxed(out, stmt);
+        }
+        Stmt::Case { value, stmt, lines } => {
+            put_case(out, lines, value);
+            put_boxed(out, stmt);
+        }
+        Stmt::Default { stmt, lines } => {
+            out.key(lines, 0, Keyword::Default);
+            out.mark(lines, 1, Punct::Colon);
+            put_boxed(out, stmt);
+        }
         Stmt::Block { items, lines } => put_block(out, lines, items),
         Stmt::If {
             condition,
@@ -74,239 +111,133 @@ fn put_compound(out: &mut Items<Token>, stmt: &Stmt) -> Result<(), Memory>
             body,
             lines,
         } => {
-            put_clauses(out, lines, first, second, third)?;
-            put_boxed(out, body)
+            put_clauses(out, lines, first, second, third);
+            put_boxed(out, body);
         }
-        _ => Ok(()),
+        _ => {}
     }
 }
 
 // Appends `else` and its branch, where the statement has them.
 #[cycle(stmt_tokens)]
-fn put_otherwise(out: &mut Items<Token>, stmt: &Stmt) -> Result<(), Memory>
-    ensures { OnOk result (out.new ≡ out.old ++ parts.otherwise_tokens (stmt_view stmt.now)) }
+fn put_otherwise(out: &mut Printer, stmt: &Stmt)
+    ensures { Appends out.old out.new (parts.otherwise_tokens (stmt_view stmt.now)) }
 {
-    match stmt {
-        Stmt::If {
-            otherwise,
-            lines,
-            ..
-        } => put_else(out, lines, otherwise),
-        _ => Ok(()),
+    if let Stmt::If {
+        otherwise,
+        lines,
+        ..
+    } = stmt
+    {
+        put_else(out, lines, otherwise);
     }
 }
 
+// Appends `else` and its branch, or nothing.
 #[cycle(stmt_tokens)]
-fn put_boxed(out: &mut Items<Token>, stmt: &Boxed<Stmt>) -> Result<(), Memory>
-    ensures { OnOk result (out.new ≡ out.old ++ tokens.stmt_tokens (stmt_view stmt.now)) }
+fn put_else(out: &mut Printer, lines: &Items<u32>, otherwise: &Option<Boxed<Stmt>>)
+    ensures { Appends out.old out.new (tokens.else_tokens lines.now (option_stmt (option_map stmt_view otherwise.now))) }
 {
-    put_stmt(out, stmt.get())
+    if let Some(stmt) = otherwise {
+        out.key(lines, 3, Keyword::Else);
+        put_stmt(out, stmt.get());
+    }
+}
+
+// Appends `case`, its value and the colon.
+fn put_case(out: &mut Printer, lines: &Items<u32>, value: &Boxed<Expr>)
+    ensures { Appends out.old out.new (tokens.key lines.now 0 keyword.Case ∷ (tokens.expr_tokens (expr_view value.now) ++ tokens.mark lines.now 1 punct.Colon ∷ [])) }
+{
+    out.key(lines, 0, Keyword::Case);
+    put_expr(out, value);
+    out.mark(lines, 1, Punct::Colon);
 }
 
 #[cycle(stmt_tokens)]
-fn put_label(
-    out: &mut Items<Token>,
-    lines: &Items<u32>,
-    name: &Name,
-    stmt: &Boxed<Stmt>,
-) -> Result<(), Memory>
-    ensures { OnOk result (out.new ≡ out.old ++ tokens.stmt_tokens (tree.Label name.now (stmt_view stmt.now) lines.now)) }
+fn put_block(out: &mut Printer, lines: &Items<u32>, list: &Items<BlockItem>)
+    ensures { Appends out.old out.new (tokens.stmt_tokens (tree.Block (items (map item_view list.now)) lines.now)) }
 {
-    put_word(out, lines.as_slice(), 0, name)?;
-    put_mark(out, lines.as_slice(), 1, Punct::Colon)?;
-    put_stmt(out, stmt.get())
-}
-
-#[cycle(stmt_tokens)]
-fn put_case(
-    out: &mut Items<Token>,
-    lines: &Items<u32>,
-    stmt: &Boxed<Stmt>,
-    value: &Boxed<Expr>,
-) -> Result<(), Memory>
-    ensures { OnOk result (out.new ≡ out.old ++ tokens.stmt_tokens (tree.Case (expr_view value.now) (stmt_view stmt.now) lines.now)) }
-{
-    put_key(out, lines.as_slice(), 0, Keyword::Case)?;
-    put_expr(out, value.get())?;
-    put_mark(out, lines.as_slice(), 1, Punct::Colon)?;
-    put_stmt(out, stmt.get())
-}
-
-#[cycle(stmt_tokens)]
-fn put_default(out: &mut Items<Token>, lines: &Items<u32>, stmt: &Boxed<Stmt>) -> Result<(), Memory>
-    ensures { OnOk result (out.new ≡ out.old ++ tokens.stmt_tokens (tree.Default (stmt_view stmt.now) lines.now)) }
-{
-    put_key(out, lines.as_slice(), 0, Keyword::Default)?;
-    put_mark(out, lines.as_slice(), 1, Punct::Colon)?;
-    put_stmt(out, stmt.get())
-}
-
-#[cycle(stmt_tokens)]
-fn put_block(
-    out: &mut Items<Token>,
-    lines: &Items<u32>,
-    list: &Items<BlockItem>,
-) -> Result<(), Memory>
-    ensures { OnOk result (out.new ≡ out.old ++ tokens.stmt_tokens (tree.Block (items (map item_view list.now)) lines.now)) }
-{
-    put_mark(out, lines.as_slice(), 0, Punct::LeftBrace)?;
+    out.mark(lines, 0, Punct::LeftBrace);
     for item in list.as_slice() {
-        put_item(out, item)?;
+        put_item(out, item);
     }
-    put_mark(out, lines.as_slice(), 1, Punct::RightBrace)
+    out.mark(lines, 1, Punct::RightBrace);
 }
 
 #[cycle(stmt_tokens)]
-fn put_item(out: &mut Items<Token>, item: &BlockItem) -> Result<(), Memory>
-    ensures { OnOk result (out.new ≡ out.old ++ tokens.item_tokens (item_view item.now)) }
+fn put_item(out: &mut Printer, item: &BlockItem)
+    ensures { Appends out.old out.new (tokens.item_tokens (item_view item.now)) }
 {
     match item {
-        BlockItem::Statement(stmt) => put_stmt(out, stmt.get()),
+        BlockItem::Statement(stmt) => put_boxed(out, stmt),
         BlockItem::Declaration(decl) => put_decl(out, decl.get()),
     }
-}
-
-fn put_expr_stmt(
-    out: &mut Items<Token>,
-    lines: &Items<u32>,
-    expr: &Option<Boxed<Expr>>,
-) -> Result<(), Memory>
-    ensures { OnOk result (out.new ≡ out.old ++ tokens.stmt_tokens (tree.ExprStmt (option_expr (option_map expr_view expr.now)) lines.now)) }
-{
-    put_option(out, expr)?;
-    put_mark(out, lines.as_slice(), 0, Punct::Semicolon)
 }
 
 // Appends a keyword, an expression in parentheses and a statement.
 #[cycle(stmt_tokens)]
 fn put_controlled(
-    out: &mut Items<Token>,
+    out: &mut Printer,
     lines: &Items<u32>,
     word: Keyword,
     body: &Boxed<Stmt>,
     on: &Boxed<Expr>,
-) -> Result<(), Memory>
-    ensures { OnOk result (out.new ≡ out.old ++ tokens.key lines.now 0 word ∷ tokens.mark lines.now 1 punct.LeftParenthesis ∷ (tokens.expr_tokens (expr_view on.now) ++ (tokens.mark lines.now 2 punct.RightParenthesis ∷ tokens.stmt_tokens (stmt_view body.now)))) }
+)
+    ensures { Appends out.old out.new (tokens.key lines.now 0 word ∷ tokens.mark lines.now 1 punct.LeftParenthesis ∷ (tokens.expr_tokens (expr_view on.now) ++ (tokens.mark lines.now 2 punct.RightParenthesis ∷ tokens.stmt_tokens (stmt_view body.now)))) }
 {
-    put_key(out, lines.as_slice(), 0, word)?;
-    put_mark(out, lines.as_slice(), 1, Punct::LeftParenthesis)?;
-    put_expr(out, on.get())?;
-    put_mark(out, lines.as_slice(), 2, Punct::RightParenthesis)?;
-    put_stmt(out, body.get())
-}
-
-// Appends `else` and its branch, or nothing.
-#[cycle(stmt_tokens)]
-fn put_else(
-    out: &mut Items<Token>,
-    lines: &Items<u32>,
-    otherwise: &Option<Boxed<Stmt>>,
-) -> Result<(), Memory>
-    ensures { OnOk result (out.new ≡ out.old ++ tokens.else_tokens lines.now (option_stmt (option_map stmt_view otherwise.now))) }
-{
-    match otherwise {
-        None => Ok(()),
-        Some(stmt) => {
-            put_key(out, lines.as_slice(), 3, Keyword::Else)?;
-            put_stmt(out, stmt.get())
-        }
-    }
+    out.key(lines, 0, word);
+    out.mark(lines, 1, Punct::LeftParenthesis);
+    put_expr(out, on);
+    out.mark(lines, 2, Punct::RightParenthesis);
+    put_boxed(out, body);
 }
 
 #[cycle(stmt_tokens)]
-fn put_do(
-    out: &mut Items<Token>,
-    lines: &Items<u32>,
-    body: &Boxed<Stmt>,
-    condition: &Boxed<Expr>,
-) -> Result<(), Memory>
-    ensures { OnOk result (out.new ≡ out.old ++ tokens.stmt_tokens (tree.Do (stmt_view body.now) (expr_view condition.now) lines.now)) }
+fn put_do(out: &mut Printer, lines: &Items<u32>, body: &Boxed<Stmt>, condition: &Boxed<Expr>)
+    ensures { Appends out.old out.new (tokens.stmt_tokens (tree.Do (stmt_view body.now) (expr_view condition.now) lines.now)) }
 {
-    put_key(out, lines.as_slice(), 0, Keyword::Do)?;
-    put_stmt(out, body.get())?;
-    put_until(out, lines, condition)
-}
-
-// Appends the end of a `do` statement.
-fn put_until(
-    out: &mut Items<Token>,
-    lines: &Items<u32>,
-    condition: &Boxed<Expr>,
-) -> Result<(), Memory>
-    ensures { OnOk result (out.new ≡ out.old ++ tokens.key lines.now 1 keyword.While ∷ tokens.mark lines.now 2 punct.LeftParenthesis ∷ (tokens.expr_tokens (expr_view condition.now) ++ tokens.mark lines.now 3 punct.RightParenthesis ∷ tokens.mark lines.now 4 punct.Semicolon ∷ [])) }
-{
-    put_key(out, lines.as_slice(), 1, Keyword::While)?;
-    put_mark(out, lines.as_slice(), 2, Punct::LeftParenthesis)?;
-    put_expr(out, condition.get())?;
-    put_mark(out, lines.as_slice(), 3, Punct::RightParenthesis)?;
-    put_mark(out, lines.as_slice(), 4, Punct::Semicolon)
+    out.key(lines, 0, Keyword::Do);
+    put_boxed(out, body);
+    out.key(lines, 1, Keyword::While);
+    out.mark(lines, 2, Punct::LeftParenthesis);
+    put_expr(out, condition);
+    out.mark(lines, 3, Punct::RightParenthesis);
+    out.mark(lines, 4, Punct::Semicolon);
 }
 
 // Appends `for` and its clauses in parentheses.
 fn put_clauses(
-    out: &mut Items<Token>,
+    out: &mut Printer,
     lines: &Items<u32>,
     first: &ForFirst,
     second: &Option<Boxed<Expr>>,
     third: &Option<Boxed<Expr>>,
-) -> Result<(), Memory>
-    ensures { OnOk result (out.new ≡ out.old ++ tokens.key lines.now 0 keyword.For ∷ tokens.mark lines.now 1 punct.LeftParenthesis ∷ (tokens.first_tokens (first_view first.now) (drop 2 lines.now) ++ tokens.clauses_tokens (option_expr (option_map expr_view second.now)) (option_expr (option_map expr_view third.now)) (tokens.behind_first (first_view first.now) (drop 2 lines.now)))) }
+)
+    ensures { Appends out.old out.new (tokens.key lines.now 0 keyword.For ∷ tokens.mark lines.now 1 punct.LeftParenthesis ∷ (tokens.first_tokens (first_view first.now) (drop 2 lines.now) ++ tokens.clauses_tokens (option_expr (option_map expr_view second.now)) (option_expr (option_map expr_view third.now)) (tokens.behind_first (first_view first.now) (drop 2 lines.now)))) }
 {
-    put_key(out, lines.as_slice(), 0, Keyword::For)?;
-    put_mark(out, lines.as_slice(), 1, Punct::LeftParenthesis)?;
-    let rest = put_first(out, later(later(lines.as_slice())), first)?;
-    put_option(out, second)?;
-    put_mark(out, rest, 0, Punct::Semicolon)?;
-    put_option(out, third)?;
-    put_mark(out, rest, 1, Punct::RightParenthesis)
+    out.key(lines, 0, Keyword::For);
+    out.mark(lines, 1, Punct::LeftParenthesis);
+    let rest = put_first(out, later(later(lines.as_slice())), first);
+    put_option(out, second);
+    out.next(rest, Punct::Semicolon);
+    put_option(out, third);
+    out.next(later(rest), Punct::RightParenthesis);
 }
 
 // Appends the first clause of a `for` statement with the semicolon behind it, and gives the lines behind it.
-fn put_first<'a>(
-    out: &mut Items<Token>,
-    lines: &'a [u32],
-    first: &ForFirst,
-) -> Result<&'a [u32], Memory>
-    ensures put { OnOk result (out.new ≡ out.old ++ tokens.first_tokens (first_view first.now) lines.now) }
-    ensures rest { IfOk result (λ rest. rest.now ≡ tokens.behind_first (first_view first.now) lines.now) }
+fn put_first<'a>(out: &mut Printer, lines: &'a [u32], first: &ForFirst) -> &'a [u32]
+    ensures put { Appends out.old out.new (tokens.first_tokens (first_view first.now) lines.now) }
+    ensures rest { result.now ≡ tokens.behind_first (first_view first.now) lines.now }
 {
     match first {
         ForFirst::Value(value) => {
-            put_option(out, value)?;
-            put_mark(out, lines, 0, Punct::Semicolon)?;
-            Ok(later(lines))
+            put_option(out, value);
+            out.next(lines, Punct::Semicolon);
+            later(lines)
         }
         ForFirst::Declared(decl) => {
-            put_decl(out, decl.get())?;
-            Ok(lines)
+            put_decl(out, decl.get());
+            lines
         }
     }
-}
-
-fn put_goto(out: &mut Items<Token>, lines: &Items<u32>, name: &Name) -> Result<(), Memory>
-    ensures { OnOk result (out.new ≡ out.old ++ tokens.stmt_tokens (tree.Goto name.now lines.now)) }
-{
-    put_key(out, lines.as_slice(), 0, Keyword::Goto)?;
-    put_word(out, lines.as_slice(), 1, name)?;
-    put_mark(out, lines.as_slice(), 2, Punct::Semicolon)
-}
-
-// Appends a keyword and a semicolon.
-fn put_jump(out: &mut Items<Token>, lines: &Items<u32>, word: Keyword) -> Result<(), Memory>
-    ensures { OnOk result (out.new ≡ out.old ++ tokens.key lines.now 0 word ∷ tokens.mark lines.now 1 punct.Semicolon ∷ []) }
-{
-    put_key(out, lines.as_slice(), 0, word)?;
-    put_mark(out, lines.as_slice(), 1, Punct::Semicolon)
-}
-
-fn put_return(
-    out: &mut Items<Token>,
-    lines: &Items<u32>,
-    value: &Option<Boxed<Expr>>,
-) -> Result<(), Memory>
-    ensures { OnOk result (out.new ≡ out.old ++ tokens.stmt_tokens (tree.Return (option_expr (option_map expr_view value.now)) lines.now)) }
-{
-    put_key(out, lines.as_slice(), 0, Keyword::Return)?;
-    put_option(out, value)?;
-    put_mark(out, lines.as_slice(), 1, Punct::Semicolon)
 }
