@@ -39,7 +39,7 @@ AreOrdinary names (name ∷ others) = (is_type names name ≡ false) × AreOrdin
 abbrev pub is_type_specifier : SpecTree → Bool
 is_type_specifier (Key word lines) = is_type_word word
 is_type_specifier (Typedef name lines) = true
-is_type_specifier (Record is_union tag members lines) = true
+is_type_specifier (Record is_union tag _ lines) = true
 is_type_specifier (Enum tag list last_comma lines) = true
 
 abbrev pub has_type_specifier : SpecTrees → Bool
@@ -50,7 +50,7 @@ has_type_specifier (more_specs s ss) = is_type_specifier s || has_type_specifier
 abbrev pub is_typedef_specifier : SpecTree → Bool
 is_typedef_specifier (Key word lines) = is_typedef_word word
 is_typedef_specifier (Typedef name lines) = false
-is_typedef_specifier (Record is_union tag members lines) = false
+is_typedef_specifier (Record is_union tag _ lines) = false
 is_typedef_specifier (Enum tag list last_comma lines) = false
 
 -- what is declared is a typedef name (6.7.7)
@@ -72,7 +72,7 @@ declared_name (Identifier name lines) = Some name
 declared_name (Group inner lines) = declared_name inner
 declared_name (Pointer qualifiers of lines) = declared_name of
 declared_name (Array of brackets lines) = declared_name of
-declared_name (Function of params variadic lines) = declared_name of
+declared_name (Function of _ variadic lines) = declared_name of
 declared_name (Identifiers of names lines) = declared_name of
 
 -- the binding that a declarator with a name makes behind these specifiers
@@ -86,7 +86,7 @@ first_name (Identifier name lines) = Some name
 first_name (Group inner lines) = None
 first_name (Pointer qualifiers of lines) = None
 first_name (Array of brackets lines) = first_name of
-first_name (Function of params variadic lines) = first_name of
+first_name (Function of _ variadic lines) = first_name of
 first_name (Identifiers of names lines) = first_name of
 
 -- Behind specifiers, of which this one says whether a type specifier is among them: where there is none, an identifier that can
@@ -187,7 +187,7 @@ abbrev mutual
   new_declarator (Group inner lines) = new_declarator inner
   new_declarator (Pointer qualifiers of lines) = new_declarator of
   new_declarator (Array of brackets lines) = new_declarator of ++ new_brackets brackets
-  new_declarator (Function of params variadic lines) = new_declarator of
+  new_declarator (Function of _ variadic lines) = new_declarator of
   new_declarator (Identifiers of names lines) = new_declarator of
 
   pub new_brackets : BracketsTree → List Binding

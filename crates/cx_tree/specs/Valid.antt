@@ -154,7 +154,7 @@ has_enumerators (some_enumerator_list list) = true
 abbrev pub is_qualifying : SpecTree → Bool
 is_qualifying (Key word lines) = not (is_storage_class word || is_function_specifier word)
 is_qualifying (Typedef name lines) = true
-is_qualifying (Record is_union tag members lines) = true
+is_qualifying (Record is_union tag _ lines) = true
 is_qualifying (Enum tag list last_comma lines) = true
 
 abbrev pub are_qualifying : SpecTrees → Bool
@@ -180,7 +180,7 @@ has_name (Identifier name lines) = true
 has_name (Group inner lines) = has_name inner
 has_name (Pointer qualifiers of lines) = has_name of
 has_name (Array of brackets lines) = has_name of
-has_name (Function of params variadic lines) = has_name of
+has_name (Function of _ variadic lines) = has_name of
 has_name (Identifiers of names lines) = has_name of
 
 -- a member's declarator has a name, or is missing where a width stands (6.7.2.1)
