@@ -1,0 +1,11 @@
+pub mod Depth
+pub mod Derives
+pub mod Levels
+pub mod Names
+pub mod Parts
+pub mod Printing
+pub mod Tokens
+pub mod Trees
+pub mod Valid
+pub mod Views
+pub mod Words
