@@ -14,7 +14,7 @@ mod text;
 
 pub use boxed::Boxed;
 pub use items::Items;
-pub use layout::{Front, Laid, MOST_BYTES, Piece, Spot};
+pub use layout::{Front, Laid, MOST_BYTES, Piece, Spot, laid_record};
 pub use memory::Memory;
 pub use name::Name;
 pub use refusal::{Place, Refusal, Stop};

@@ -9,10 +9,9 @@ ghost use Rattle.cx_layout.specs.Extents.{told};
 ghost use Rattle.cx_layout.specs.Rows.{IsFine, IsFineExtent, IsLargePiece, HasLarge};
 
 use crate::extent::Extent;
-use crate::laid::laid_record;
 use crate::put::put;
 use crate::row::{Row, spots_of};
-use cr_base::{Items, Laid, Memory, Piece, Spot};
+use cr_base::{Items, Laid, Memory, Piece, Spot, laid_record};
 use cx_core::{Member, RecordTy, Ty, TyForm};
 use std::alloc::Global;
 use std::marker::Model;

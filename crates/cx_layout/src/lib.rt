@@ -3,7 +3,6 @@
 
 mod build;
 mod extent;
-mod laid;
 mod laws;
 mod layouts;
 mod put;

@@ -1,0 +1,3 @@
+pub mod Readers
+pub mod Scopes
+pub mod Turns

@@ -1,0 +1,8 @@
+pub mod Below
+pub mod Continuations
+pub mod Declarators
+pub mod Exprs
+pub mod Initialisers
+pub mod Knot
+pub mod Specifiers
+pub mod Tails

@@ -1,0 +1,53 @@
+//! What was read, with its depth, and the nodes that are made of it.
+
+ghost use Rattle.std.specs.Prelude.{◌≡◌, IfOk};
+ghost use Rattle.cx_tree.specs.Views.{expr_view, spec_view};
+
+use cr_base::{Boxed, Memory};
+use cx_cursor::Measured;
+use cx_tree::{
+    Designator, Entry, Enumerator, Expr, Initialiser, InitialiserList, MemberDecl,
+    MemberDeclarator, Param, Spec, TypeName,
+};
+use std::alloc::Global;
+
+/// An expression that was read, and its depth.
+pub type ReadExpr = Measured<Boxed<Expr>>;
+
+pub type ReadTypeName = Measured<Boxed<TypeName>>;
+
+pub type ReadSpec = Measured<Boxed<Spec>>;
+
+pub type ReadMember = Measured<Boxed<MemberDecl>>;
+
+pub type ReadMemberDeclarator = Measured<Boxed<MemberDeclarator>>;
+
+pub type ReadEnumerator = Measured<Boxed<Enumerator>>;
+
+pub type ReadParam = Measured<Boxed<Param>>;
+
+pub type ReadInitialiser = Measured<Boxed<Initialiser>>;
+
+pub type ReadList = Measured<Boxed<InitialiserList>>;
+
+pub type ReadEntry = Measured<Boxed<Entry>>;
+
+pub type ReadDesignator = Measured<Boxed<Designator>>;
+
+/// An expression in a box, with its depth.
+pub fn expr_of(alloc: Global, tree: Expr, depth: u32) -> Result<ReadExpr, Memory>
+    ensures tree { IfOk result (λ r. expr_view r.tree ≡ expr_view tree) }
+    ensures deep { IfOk result (λ r. r.depth ≡ depth) }
+{
+    let tree = Boxed::new(alloc, tree)?;
+    Ok(Measured { tree, depth })
+}
+
+/// A specifier in a box, with its depth.
+pub fn spec_of(alloc: Global, tree: Spec, depth: u32) -> Result<ReadSpec, Memory>
+    ensures tree { IfOk result (λ r. spec_view r.tree ≡ spec_view tree) }
+    ensures deep { IfOk result (λ r. r.depth ≡ depth) }
+{
+    let tree = Boxed::new(alloc, tree)?;
+    Ok(Measured { tree, depth })
+}
