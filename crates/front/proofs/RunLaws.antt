@@ -217,7 +217,10 @@ core_unbroken units program refusal core broken = elim broken [
       omega (arith, small, m1.unit.2)
   | inr other ↦ elim other [
     | inl token ↦ none_not_some (read_at units refusal.unit token.unit.0 core.read token.unit.1).1 token.unit.3
-    | inr n1 ↦ n1.not_built program core.built
+    | inr later ↦ elim later [
+      | inl syntax ↦ syntax.unit.4 (read_at units refusal.unit syntax.unit.0 core.read syntax.unit.1).2
+      | inr n1 ↦ n1.not_built program core.built
+    ]
   ]
 ]
 

@@ -17,7 +17,7 @@ use Rattle.straight_rust_tree.specs.Tree.{CrateTree}
 use Rattle.straight_whole.specs.Items.{items_in, items_of}
 use Rattle.straight_whole.specs.Right.{IsRight}
 use Rattle.cx_lex.proofs.SpellLemmas.{spell_or_break}
-use Rattle.front.specs.Refusals.{IsRead, IsBuiltAs, FirstBroken, StopsUnit}
+use Rattle.front.specs.Refusals.{HasTree, IsRead, IsBuiltAs, FirstBroken, StopsUnit}
 use Rattle.front.specs.Files.{Held, WhereTold, units_of, unit_and, files_in, name_in, with_files, written_names}
 use Rattle.straight_rust_tree.specs.Text.{file_of, text_of}
 use Rattle.front.specs.Printed.{IsPlaced}
@@ -74,11 +74,11 @@ refused_unit name given refusal before after kept h stops = record {
 }
 
 -- the crate of the unit's program is a right translation
-translates : (name bytes : List ℕ) (program : CProgram) (crate : CrateTree) → length bytes ≤ 1048576 → IsBuiltAs (file_of name bytes) program → IsRight program (stem_of name ∷ []) crate → Translates (file_of name bytes ∷ []) crate
-translates name bytes program crate small built right = record {
+translates : (name bytes : List ℕ) (program : CProgram) (crate : CrateTree) → length bytes ≤ 1048576 → HasTree (file_of name bytes) → IsBuiltAs (file_of name bytes) program → IsRight program (stem_of name ∷ []) crate → Translates (file_of name bytes ∷ []) crate
+translates name bytes program crate small tree built right = record {
   program = program;
   core = record {
-    read = all_one IsRead (file_of name bytes) (small, (spell_or_break bytes).0 (built.program_is.tokens, built.program_is.spelled));
+    read = all_one IsRead (file_of name bytes) (small, (spell_or_break bytes).0 (built.program_is.tokens, built.program_is.spelled), tree);
     built = built;
   };
   right = subst (λ word. IsRight program (word ∷ []) crate) (sym built.plain) right;
@@ -91,14 +91,14 @@ files_for directory crate = files_in directory (text_of crate)
 abbrev translated_by : List ℕ → List ℕ → (List File → Type 0) → (List ℕ → Option (List ℕ)) → Type 0
 translated_by directory name P held = (units : List File) × (crate : CrateTree) × (units_of held (name ∷ []) ≡ Some units) × Translates units crate × P (files_in directory (text_of crate))
 
-module _ (directory name given : List ℕ) (program : CProgram) (crate : CrateTree) (built : IsBuiltAs (file_of name given) program) (right : IsRight program (stem_of name ∷ []) crate) where
+module _ (directory name given : List ℕ) (program : CProgram) (crate : CrateTree) (tree : HasTree (file_of name given)) (built : IsBuiltAs (file_of name given) program) (right : IsRight program (stem_of name ∷ []) crate) where
   translated_held : (P : List File → Type 0) (held : List ℕ → Option (List ℕ)) (o : Option (List ℕ)) → held name ≡ o → IsGotOf o 1048576 (Bytes given) → P (files_for directory crate) → translated_by directory name P held
   translated_held P held None e h p = absurd h
   translated_held P held (Some bytes) e h p = (
     file_of name given ∷ [],
     crate,
     one_unit held name given (e ∙ ap (λ bs. Some bs) (sym h.0)),
-    translates name given program crate (subst (λ (bs : List ℕ). length bs ≤ 1048576) (sym h.0) h.1) built right,
+    translates name given program crate (subst (λ (bs : List ℕ). length bs ≤ 1048576) (sym h.0) h.1) tree built right,
     p,
   )
 
@@ -122,14 +122,15 @@ pub record IsReady (directory name given : List ℕ) (program : CProgram) (files
   pub got : IsGot before.held name 1048576 (Bytes given)
   pub kept : between.held ≡ before.held
   pub later : before.faults ≤ between.faults
+  pub tree : HasTree (file_of name given)
   pub built : IsBuiltAs (file_of name given) program
   pub made : IsPlaced directory program (stem_of name) files
 
 module _ (directory name given : List ℕ) (program : CProgram) (files : List File) (before between after : ShelfState) (ready : IsReady directory name given program files before between) where
   left_at : (k : ℕ) (file : File) → slice_get files k ≡ Some file → without_file file.name after.held ≡ without_file file.name (with_files (take k files) between.held) → IsLeftAt directory (name ∷ []) k file.name before after
   left_at k file place left = record {
-    named = name_put directory name given program ready.made.crate ready.built ready.made.right k file (ap (λ fs. slice_get fs k) (sym ready.made.text) ∙ place);
-    left = translated_told directory name given program ready.made.crate ready.built ready.made.right
+    named = name_put directory name given program ready.made.crate ready.tree ready.built ready.made.right k file (ap (λ fs. slice_get fs k) (sym ready.made.text) ∙ place);
+    left = translated_told directory name given program ready.made.crate ready.tree ready.built ready.made.right
         (λ fs. without_file file.name after.held ≡ without_file file.name (with_files (take k fs) before.held))
         before.held ready.got
         (left ∙ ap (λ held. without_file file.name (with_files (take k files) held)) ready.kept ∙ ap (λ fs. without_file file.name (with_files (take k fs) before.held)) ready.made.text);
@@ -138,7 +139,7 @@ module _ (directory name given : List ℕ) (program : CProgram) (files : List Fi
   -- what putting the crate's files leaves is what the job leaves
   pub put_leaves : (ending : Ending) → Puts files ending between after → IsTranspiled directory (name ∷ []) ending before after
   put_leaves done puts =
-      translated_told directory name given program ready.made.crate ready.built ready.made.right (λ fs. after.held ≡ with_files fs before.held) before.held ready.got
+      translated_told directory name given program ready.made.crate ready.tree ready.built ready.made.right (λ fs. after.held ≡ with_files fs before.held) before.held ready.got
       (puts.held ∙ ap (λ held. with_files files held) ready.kept ∙ ap (λ fs. with_files fs before.held) ready.made.text)
   put_leaves (refused file refusal) puts = absurd puts
   put_leaves usage puts = absurd puts

@@ -10,11 +10,15 @@ use Rattle.cx_lex.specs.declared.token.Token.{Token}
 use Rattle.cx_lex.specs.Lexed.{IsFirstFault}
 use Rattle.cx_lex.specs.Tokens.{Spells, token_fault}
 use Rattle.cx_lex.proofs.SpellLemmas.{spell_once, spell_or_break}
-use Rattle.straight_tree.specs.Derives.{Derives}
+use Rattle.cr_base.specs.declared.rule.Rule.TheVariants.{S1}
+use Rattle.cx_parse.specs.Parsed.{IsNotDerived}
+use Rattle.cx_tree.specs.Derives.{Derives}
+use Rattle.cx_tree.specs.Trees.{UnitTree}
+use Rattle.straight_tree.specs.Derives.{Derives as DerivesStraight}
 use Rattle.shelf.specs.declared.file.File.{File}
 use Rattle.front.specs.Kept.{KeepsNames}
-use Rattle.front.specs.Refusals.{IsSmall, IsRead, IsBuiltAs, ProgramOf, FirstBroken, StopsUnit}
-use Rattle.front.specs.Steps.{HasProgram, BuildsAs, StopsAs, not_built}
+use Rattle.front.specs.Refusals.{IsSmall, HasTree, IsRead, IsBuiltAs, ProgramOf, FirstBroken, StopsUnit}
+use Rattle.front.specs.Steps.{HasDerivation, HasProgram, BuildsAs, StopsAs, not_built}
 use Rattle.front.proofs.TranspileLaws.{all_one, all_none}
 
 -- an error that is this one keeps what is known of this one
@@ -33,25 +37,43 @@ pub token_stops : (unit : File) (stop : Stop) → IsSmall unit → IsFirstFault 
 token_stops unit (Refused refusal) small fault = stopped_at unit refusal small fault.0 fault.1
 token_stops unit Memory small fault = tt
 
+-- the unit's tokens derive a tree
+pub tree_of : (unit : File) (tokens : List Token) → Spells unit.bytes tokens → HasDerivation tokens → HasTree unit
+tree_of unit tokens spells has = record { tokens = tokens; tree = has.tree; spelled = spells; derived = has.derived }
+
+-- tokens that derive no tree
+not_derived : (unit : File) (tokens : List Token) (refusal : Refusal) → IsSmall unit → Spells unit.bytes tokens → refusal.rule ≡ S1 → refusal.unit ≡ 0
+    → ((tree : UnitTree) → Derives tokens tree → ⊥) → StopsUnit unit (Refused refusal)
+not_derived unit tokens refusal small spells rule first none =
+    let at : slice_get (unit ∷ []) refusal.unit ≡ Some unit = ap (slice_get (unit ∷ [])) first in
+    let before : All IsRead (take refusal.unit (unit ∷ [])) = subst (λ (k : ℕ). All IsRead (take k (unit ∷ []))) (sym first) (all_none IsRead) in
+    let spelled : token_fault unit.bytes ≡ None = (spell_or_break unit.bytes).0 (tokens, spells) in
+    let lacks : HasTree unit → ⊥ = λ has. none has.tree (subst (λ (list : List Token). Derives list has.tree) (spell_once unit.bytes has.tokens tokens has.spelled spells) has.derived) in
+    (first, inr (inr (inl (record { rule = rule; unit = (unit, at, small, spelled, lacks); before = before }))))
+
+pub syntax_stops : (unit : File) (tokens : List Token) (stop : Stop) → IsSmall unit → Spells unit.bytes tokens → IsNotDerived tokens 0 stop → StopsUnit unit stop
+syntax_stops unit tokens (Refused refusal) small spells stops = not_derived unit tokens refusal small spells stops.0 stops.1 stops.2
+syntax_stops unit tokens Memory small spells stops = tt
+
 -- tokens of which there is no program that is translated today
-pub built_stops : (unit : File) (tokens : List Token) (stop : Stop) → IsSmall unit → Spells unit.bytes tokens → StopsAs (BuildsAs unit.name tokens) stop → StopsUnit unit stop
-built_stops unit tokens Memory small spells stops = tt
-built_stops unit tokens (Refused refusal) small spells stops =
+pub built_stops : (unit : File) (tokens : List Token) (stop : Stop) → IsSmall unit → Spells unit.bytes tokens → HasDerivation tokens → StopsAs (BuildsAs unit.name tokens) stop → StopsUnit unit stop
+built_stops unit tokens Memory small spells has stops = tt
+built_stops unit tokens (Refused refusal) small spells has stops =
     let none : token_fault unit.bytes ≡ None = (spell_or_break unit.bytes).0 (tokens, spells) in (
       ap (λ (r : Refusal). r.unit) stops.0,
-      inr (inr (record {
+      inr (inr (inr (record {
         refused = stops.0;
-        read = all_one IsRead unit (small, none);
+        read = all_one IsRead unit (small, none, tree_of unit tokens spells has);
         not_built = λ program built. stops.1 program (record {
           plain = built.plain;
           has = record {
             tree = built.program_is.tree;
-            derived = subst (λ list. Derives list built.program_is.tree) (spell_once unit.bytes built.program_is.tokens tokens built.program_is.spelled spells) built.program_is.derived;
+            derived = subst (λ list. DerivesStraight list built.program_is.tree) (spell_once unit.bytes built.program_is.tokens tokens built.program_is.spelled spells) built.program_is.derived;
             typed = built.program_is.typed;
           };
           kept = built.kept;
         });
-      })),
+      }))),
     )
 
 -- the program of the unit

@@ -7,15 +7,22 @@ use Rattle.cr_base.specs.declared.rule.Rule.TheVariants.{N1}
 use Rattle.straight_core.specs.Trees.{CProgram}
 use Rattle.straight_decl.specs.CoreOf.{core_of}
 use Rattle.cx_lex.specs.declared.token.Token.{Token}
-use Rattle.straight_tree.specs.Derives.{Derives}
-use Rattle.straight_tree.specs.Trees.{UnitTree}
+use Rattle.cx_tree.specs.Derives.{Derives}
+use Rattle.cx_tree.specs.Trees.{UnitTree}
+use Rattle.straight_tree.specs.Derives.{Derives as DerivesStraight}
+use Rattle.straight_tree.specs.Trees.{UnitTree as StraightTree}
 use Rattle.rs_items.specs.Modules.{module_name, stem_of}
 use Rattle.front.specs.Kept.{KeepsNames}
 
--- the program of tokens, by their tree
-pub record HasProgram (tokens : List Token) (program : CProgram) : Type 0 where
+-- tokens derive a tree
+pub record HasDerivation (tokens : List Token) : Type 0 where
   pub tree : UnitTree
   pub derived : Derives tokens tree
+
+-- the program of tokens, by their tree
+pub record HasProgram (tokens : List Token) (program : CProgram) : Type 0 where
+  pub tree : StraightTree
+  pub derived : DerivesStraight tokens tree
   pub typed : core_of 0 tree ≡ Some program
 
 -- the program of the tokens of a file that is translated today

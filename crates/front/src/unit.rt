@@ -1,11 +1,12 @@
 //! The program of a unit, or the first rule that the unit breaks.
 
-ghost use Rattle.std.specs.Prelude.{◌≡◌, ◌≤◌, length, IfOk, IfErr};
+ghost use Rattle.std.specs.Prelude.{◌≡◌, ◌≤◌, length, IfOk, IfErr, OnOk};
+ghost use Rattle.cx_parse.specs.Parsed.{IsNotDerived};
 ghost use Rattle.straight_core.specs.Trees.{CProgram};
 ghost use Rattle.straight_core.specs.Views.{view_program};
 ghost use Rattle.straight_rust_tree.specs.Text.{file_of};
-ghost use Rattle.front.specs.Refusals.{IsBuiltAs, StopsUnit};
-ghost use Rattle.front.specs.Steps.{HasProgram, BuildsAs, StopsAs, not_built};
+ghost use Rattle.front.specs.Refusals.{HasTree, IsBuiltAs, StopsUnit};
+ghost use Rattle.front.specs.Steps.{HasDerivation, HasProgram, BuildsAs, StopsAs, not_built};
 ghost use Rattle.cr_base.specs.declared.refusal.Stop.TheVariants as stop;
 
 use crate::kept::keeps_names;
@@ -53,12 +54,23 @@ fn built(alloc: Global, file: &str, tokens: &[Token]) -> Result<Program, Stop>
     Ok(program)
 }
 
+// That the tokens derive a tree (ISO C99, 6.5 to 6.9), or rule S1.
+fn derive(alloc: Global, tokens: &[Token]) -> Result<(), Stop>
+    ensures found { OnOk result (HasDerivation tokens.now) }
+    ensures refused { IfErr result (λ stop. IsNotDerived tokens.now 0 stop) }
+{
+    let _tree = cx_parse::parse(alloc, tokens, 0)?;
+    Ok(())
+}
+
 /// The program of the unit, or the first rule that the unit breaks.
 pub(crate) fn unbroken(alloc: Global, file: &str, bytes: &[u8]) -> Result<Program, Stop>
     requires { length bytes.now ≤ 1048576 }
     ensures built { IfOk result (λ program. IsBuiltAs (file_of file.now bytes.now) (view_program program)) }
+    ensures read { OnOk result (HasTree (file_of file.now bytes.now)) }
     ensures stopped { IfErr result (StopsUnit (file_of file.now bytes.now)) }
 {
     let tokens = lex(alloc, bytes, 0)?;
+    derive(alloc, tokens.as_slice())?;
     built(alloc, file, tokens.as_slice())
 }

@@ -45,6 +45,7 @@ returns-in-Ok-crate_files g c =
       got = got;
       kept = c.get.ensures.kept;
       later = c.get.ensures.cause.later;
+      tree = c.in-Ok.ensures.read;
       built = c.in-Ok.ensures.built;
       made = c.in-Ok-crate_files.ensures;
     })
