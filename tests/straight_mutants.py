@@ -28,7 +28,7 @@ from straight_generator import random_units
 from straight_oracle import NotOfTheForm, tokens_of, unit_of
 
 SECONDS = 20
-GCC = ["gcc", "-std=c99", "-pedantic-errors", "-w", "-fsyntax-only"]
+GCC = ["gcc", "-std=c99", "-pedantic-errors", "-fsyntax-only"]
 
 # ISO C99, 6.4.1
 C_WORDS = """auto break case char const continue default do double else enum extern float for goto if inline int long
@@ -50,6 +50,7 @@ NAMES = ["x", "y", "t", "_a", "putchar", "main", "fn", "loop", "i32", "main_0", 
 ODD = ["@", "$", "`", "'a'", "''", '"', '"s"', "'", "\\", "é", "/*", "//"]
 POOL = MARKS + NUMBERS + NAMES + ODD + C_WORDS + GNU_WORDS
 RULES = {
+    "S1": "no derivation",
     "N1": "not built",
     "X1": "byte not allowed",
     "X2": "literal or comment not closed, or not one character",

@@ -1,0 +1,5 @@
+pub mod Held
+pub mod Known
+pub mod Pointers
+pub mod Texts
+pub mod World

@@ -1,0 +1,31 @@
+//! Laws of the meaning of C. The functions do nothing: their contracts are the laws.
+
+ghost use Rattle.cx_mean.specs.Laws.{LeftmostIsRun, EndedRunsStay, EventsOnlyGrow, TrailIsOutside, StaticsBegin};
+
+/// Law: under the empty order, which always takes the leftmost node, a run shows after any number of
+/// steps what the leftmost run shows that goes by recursion on the program's trees.
+pub fn leftmost_is_run()
+    ensures { LeftmostIsRun }
+{}
+
+/// Law: a run that has ended, or that goes no further, shows the same from then on.
+pub fn ended_runs_stay()
+    ensures { EndedRunsStay }
+{}
+
+/// Law: what a run has called, it has called from then on, in this order and before all else.
+pub fn events_only_grow()
+    ensures { EventsOnlyGrow }
+{}
+
+/// Law: a run under a trail, unless it stops for the trail or its store, is the run to which the outside
+/// gives the answers of the trail.
+pub fn trail_is_outside()
+    ensures { TrailIsOutside }
+{}
+
+/// Law: static objects begin in text order, one a step, and each gets the block with its number in that
+/// order, all of whose bytes are 0.
+pub fn statics_begin()
+    ensures { StaticsBegin }
+{}

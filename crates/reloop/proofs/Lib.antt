@@ -1,0 +1,14 @@
+pub mod Checking
+pub mod Entered
+pub mod Heading
+pub mod Landing
+pub mod Partition
+pub mod Marked
+pub mod Parting
+pub mod Planned
+pub mod Putting
+pub mod Searching
+pub mod Sets
+pub mod Shaped
+pub mod Sourcing
+pub mod Whole

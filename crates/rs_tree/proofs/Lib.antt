@@ -1,0 +1,5 @@
+pub mod ExampleCrate
+pub mod ExampleReads
+pub mod Growing
+pub mod Opened
+pub mod PartLemmas

@@ -1,0 +1,6 @@
+use Rattle.std.proofs.Common.{refl}
+use Rattle.rs_tree.proofs.Growing.{then}
+use Rattle.rs_tree.proofs.item_lines.record_lines.Goals as goal
+
+pub returns : goal.returns
+returns c = then _ _ _ _ _ _ c.fixed.ensures (then _ _ _ _ _ _ c.repr_line.ensures (then _ _ _ _ _ _ c.record_head.ensures (then _ _ _ _ _ _ c.field_lines.ensures c.fixed-2.ensures refl) refl) refl) refl
