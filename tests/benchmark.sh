@@ -6,6 +6,11 @@
 #    first declaration, so the time is that of the file and its tokens; that of an empty unit is taken off.
 # 2. `transpile` against `gcc -fsyntax-only` on straight units of 16 KiB, 128 KiB and 1 MiB with 20 and with 2,000
 #    objects: the ratio of the two times, each with its start.
+# 3. How long the tokens and the syntax tree of a unit take, by the rows: nanoseconds a byte at 64 KiB and at 1 MiB of ordinary C,
+#    and of a unit of 70,000 names; the time of a row of one declaration is taken off. And the ratio to `gcc -fsyntax-only` on
+#    the same units, each with its start.
+# 4. How long the shape of a control flow graph of 5,000 nodes takes, by the rows, in milliseconds: of a switch in a loop,
+#    and of a chain whose nodes are numbered forwards and backwards; the start is in the time.
 set -u
 top=$(cd "$(dirname "$0")/.." && pwd)
 work=$(mktemp -d) || exit 1
@@ -111,3 +116,96 @@ for objects in 20 2000; do
     }'
   done
 done
+
+rows="$top/crates/rows/out/rows"
+(cd "$top/crates/rows" && rt run -- >"$work/build.log" 2>&1 </dev/null)
+[ -x "$rows" ] || { echo "the program of the rows wasn't built"; exit 1; }
+
+# c_unit SIZE: a unit of this many bytes of ordinary C, whose end is blanks.
+c_unit() {
+  awk -v size="$1" 'BEGIN {
+    text = "typedef unsigned long size;\nvoid *malloc(size);\nstruct node { struct node *next; size key; char name[16]; };\n"
+    for (i = 0; ; i++) {
+      part = "/* a list */\nstatic int insert@(struct node **list, size key, const char *name)\n{\n" \
+        "    struct node *n = (struct node *)malloc(sizeof(struct node));\n" \
+        "    if (n == 0 || key >= 0x7fffffffUL) return -1; else n->next = *list;\n" \
+        "    n->key = (key << 3) ^ (size)n; *list = n;\n" \
+        "    for (int i = 0; i < 16; i++) { n->name[i] = name ? name[i] : \"a\\tb\"[i % 3]; }\n" \
+        "    while (n && n->key != key) n = n->next;\n" \
+        "    return n->key >>= 2, (int)sizeof *n + insert@(&n, key, 0);\n}\nint i@;\n"
+      gsub("@", i, part)
+      if (length(text) + length(part) > size) break
+      text = text part
+    }
+    printf "%s%*s", text, size - length(text), ""
+  }'
+}
+
+# names_unit COUNT: a unit that declares so many names.
+names_unit() {
+  awk -v count="$1" 'BEGIN { for (i = 0; i < count; i++) printf "int v%05d=%d;\n", i, i % 10 }'
+}
+
+# as_row UNIT: the row that asks for the depth of a unit's tree.
+as_row() {
+  printf 'depth '
+  tr '\n' ' ' <"$1"
+  echo
+}
+
+on_row() { "$rows" <"$1"; }
+
+# told NAME: the times of a unit and of gcc, and what is left of the first one without that of a small row.
+told() {
+  local bytes depth ours theirs
+  as_row "$work/$1.c" >"$work/$1.row"
+  bytes=$(wc -c <"$work/$1.c")
+  depth=$(on_row "$work/$1.row")
+  case $depth in *[!0-9]*) echo "the unit has no tree: $depth"; exit 1 ;; esac
+  ours=$(least_of 10 on_row "$1.row")
+  theirs=$(least_of 5 gcc -std=c99 -fsyntax-only "$1.c")
+  awk -v name="$1" -v bytes="$bytes" -v none="$small" -v ours="$ours" -v theirs="$theirs" 'BEGIN {
+    printf "%s, %d bytes: tokens and tree %.1f ns a byte, %.1f ms; gcc -fsyntax-only %.1f ms, ratio %.2f\n", name, bytes, (ours - none) / bytes, ours / 1e6, theirs / 1e6, ours / theirs
+  }'
+}
+
+echo 'depth int x;' >"$work/small.row"
+small=$(least_of 20 on_row small.row)
+c_unit 65536 >"$work/c_64_KiB.c"
+c_unit 1048576 >"$work/c_1_MiB.c"
+names_unit 70000 >"$work/names.c"
+for unit in c_64_KiB c_1_MiB names; do told "$unit"; done
+
+# switch_row COUNT: the row of a graph of so many nodes: the entry, the head of a loop, cases that the head goes to and that
+# go back to it, and the node behind the loop.
+switch_row() {
+  awk -v count="$1" 'BEGIN {
+    printf "shape 0 | 1 |"
+    for (node = 2; node < count; node++) printf " %d", node
+    for (node = 2; node < count - 1; node++) printf " | 1"
+    print " |"
+  }'
+}
+
+# chain_row COUNT STEP: the row of a chain of so many nodes, numbered forwards (STEP 1) or backwards (STEP -1).
+chain_row() {
+  awk -v count="$1" -v step="$2" 'BEGIN {
+    last = step > 0 ? count - 1 : 0
+    printf "shape %d", count - 1 - last
+    for (node = 0; node < count; node++) printf node == last ? " |" : " | %d", node + step
+    print ""
+  }'
+}
+
+# shaped NAME: the time of a row of the stage `shape`.
+shaped() {
+  case $(on_row "$work/$1.row") in "(blocks "*) ;; *) echo "the graph $1 has no shape"; exit 1 ;; esac
+  awk -v name="$1" -v ours="$(least_of 3 on_row "$1.row")" 'BEGIN {
+    printf "shape of 5000 nodes, %s: %.1f ms\n", name, ours / 1e6
+  }'
+}
+
+switch_row 5000 >"$work/switch_in_loop.row"
+chain_row 5000 1 >"$work/chain_forwards.row"
+chain_row 5000 -1 >"$work/chain_backwards.row"
+for graph in switch_in_loop chain_forwards chain_backwards; do shaped "$graph"; done

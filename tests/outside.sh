@@ -14,18 +14,25 @@ ok() { passed=$((passed + 1)); echo "ok: $1"; }
 bad() { failed=$((failed + 1)); echo "FAILED: $1"; }
 skip() { skipped=$((skipped + 1)); echo "skipped: $1"; }
 
-# The program, built by the kit over what it has proved: the gate leaves it here, and it is built anew where a source is
-# newer.
-program="$top/crates/c2rs/out/c2rs"
-newer=$(find "$top/crates.txt" "$top"/crates/*/src "$top"/crates/*/specs "$top"/crates/*/proofs -newer "$program" 2>&1)
-if [ ! -x "$program" ] || [ -n "$newer" ]; then
-  (cd "$top/crates/c2rs" && rt run -- >"$work/build.log" 2>&1)
-fi
-if [ ! -x "$program" ]; then
-  echo "FAILED: the program wasn't built"
-  tail -5 "$work/build.log"
-  exit 1
-fi
+# built NAME: whether a program of this repository is there, built by the kit over what it has proved: the gate leaves it
+# there, and it is built anew where a source is newer. It is $program then.
+built() {
+  program="$top/crates/$1/out/$1"
+  local newer
+  newer=$(find "$top/crates.txt" "$top"/crates/*/src "$top"/crates/*/specs "$top"/crates/*/proofs -newer "$program" 2>&1)
+  if [ ! -x "$program" ] || [ -n "$newer" ]; then
+    (cd "$top/crates/$1" && rt run -- >"$work/build.log" 2>&1 </dev/null)
+  fi
+  if [ ! -x "$program" ]; then
+    echo "FAILED: the program $1 wasn't built"
+    tail -5 "$work/build.log"
+    return 1
+  fi
+}
+
+built rows || exit 1
+rows=$program
+built c2rs || exit 1
 
 # The exit status of a unit, as gcc builds it.
 status_by_gcc() {
@@ -160,6 +167,28 @@ straight_mutants() {
   fi
 }
 
+# Units near C99: those have a syntax tree in which gcc finds no syntax error, but for kinds of difference that are known.
+syntax_mutants() {
+  local said
+  tools_for 'units near C99' python3 gcc || return
+  if ! said=$(python3 "$top/tests/syntax_mutants.py" --rows "$rows" 2>&1); then
+    bad "units near C99: $said"
+  else
+    ok "units near C99: $said"
+  fi
+}
+
+# Random control flow graphs: their shapes fit them, with a dispatch exactly where one is irreducible.
+relooper_graphs() {
+  local said
+  tools_for 'shapes of random graphs' python3 || return
+  if ! said=$(python3 "$top/tests/relooper_graphs.py" --rows "$rows" 2>&1); then
+    bad "shapes of random graphs: $said"
+  else
+    ok "shapes of random graphs: $said"
+  fi
+}
+
 # Random records of C: a model of the ABI and gcc lay them out alike. The model's answers are rows of the gate.
 random_records() {
   local said
@@ -176,6 +205,8 @@ one letter
 refused_in_turn
 straight_units
 straight_mutants
+syntax_mutants
+relooper_graphs
 random_records
 usage='c2rs: usage: transpile -o DIR FILE..'
 report 2 "$usage"

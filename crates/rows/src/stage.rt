@@ -8,7 +8,9 @@ mod layout;
 mod lex;
 mod memory;
 mod name;
+mod parse;
 mod rule;
+mod shape;
 mod stream;
 mod transpile;
 mod value;
@@ -45,8 +47,18 @@ pub(crate) enum Inside {
     Layout,
     /// The tokens of a unit.
     Lex,
+    /// The syntax tree of a unit.
+    Parse,
+    /// The tokens of that tree.
+    Tokens,
+    /// How deep that tree is.
+    Depth,
+    /// The size of the tree of a unit that repeats itself.
+    Repeat,
     /// Names of a written crate.
     Name,
+    /// Shapes of control flow graphs.
+    Shape,
     /// Calls of a shelf, and whole jobs over it.
     Files,
     /// The same over a shelf that never fails.
@@ -63,7 +75,7 @@ pub(crate) enum Outside {
     Disk,
 }
 
-const STAGES: [(&str, Stage); 14] = [
+const STAGES: [(&str, Stage); 19] = [
     ("rule", Stage::Inside(Inside::Rule)),
     ("value", Stage::Inside(Inside::Value)),
     ("copy", Stage::Inside(Inside::Copy)),
@@ -72,7 +84,12 @@ const STAGES: [(&str, Stage); 14] = [
     ("host", Stage::Inside(Inside::Host)),
     ("layout", Stage::Inside(Inside::Layout)),
     ("lex", Stage::Inside(Inside::Lex)),
+    ("parse", Stage::Inside(Inside::Parse)),
+    ("tokens", Stage::Inside(Inside::Tokens)),
+    ("depth", Stage::Inside(Inside::Depth)),
+    ("repeat", Stage::Inside(Inside::Repeat)),
     ("name", Stage::Inside(Inside::Name)),
+    ("shape", Stage::Inside(Inside::Shape)),
     ("files", Stage::Inside(Inside::Files)),
     ("sure", Stage::Inside(Inside::Sure)),
     ("transpile", Stage::Inside(Inside::Transpile)),
@@ -113,7 +130,12 @@ impl Inside {
             Inside::Host => host::answer(alloc, asked, out),
             Inside::Layout => layout::answer(alloc, asked, out),
             Inside::Lex => lex::answer(alloc, asked, out),
+            Inside::Parse => parse::answer(alloc, asked, out),
+            Inside::Tokens => parse::answer_tokens(alloc, asked, out),
+            Inside::Depth => parse::answer_depth(alloc, asked, out),
+            Inside::Repeat => parse::answer_repeated(alloc, asked, out),
             Inside::Name => name::answer(alloc, asked, out),
+            Inside::Shape => shape::answer(alloc, asked, out),
             Inside::Files => files::answer(alloc, asked, out),
             Inside::Sure => files::answer_surely(alloc, asked, out),
             Inside::Transpile => transpile::answer(alloc, asked, out),

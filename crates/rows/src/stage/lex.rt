@@ -9,8 +9,8 @@ use cr_base::{Refusal, Stop};
 use cx_lex::{Token, TokenKind, lex};
 use std::alloc::Global;
 
-// The bytes that a unit may have.
-const UNIT_LIMIT: usize = 1_048_576;
+/// The bytes that a unit may have.
+pub(crate) const UNIT_LIMIT: usize = 1_048_576;
 
 pub(crate) fn answer(alloc: Global, asked: &mut Asked, out: &mut Answer) {
     let bytes = asked.bytes(alloc);
@@ -79,8 +79,8 @@ fn write_token(kind: &TokenKind, out: &mut Answer) {
     }
 }
 
-// Writes a rule that a unit breaks, with its line.
-fn write_refusal(refusal: Refusal, out: &mut Answer) {
+/// Writes a rule that a unit breaks, with its line.
+pub(crate) fn write_refusal(refusal: Refusal, out: &mut Answer) {
     out.text(refusal.rule.code());
     out.text(" on line ");
     out.value(refusal.line);
