@@ -211,6 +211,9 @@ random_records
 usage='c2rs: usage: transpile -o DIR FILE..'
 report 2 "$usage"
 report 2 "$usage" transpile -o out -o out answer.c
+report 2 "$usage" --help
+report 2 "$usage" transpile -o out -- answer.c
+report 1 'answer.c:1: N1: not built' transpile answer.c -oout answer.c
 report 2 "$usage" transpile -o out "$(printf '\377.c')"
 report 3 'c2rs: cannot read no.c' transpile -o out no.c
 printf 'int main(void) { return 1u; }' >"$work/a.c"

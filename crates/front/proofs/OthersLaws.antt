@@ -8,7 +8,7 @@ use Rattle.rs_items.specs.Modules.{module_name}
 use Rattle.straight_rust_tree.specs.Text.{text_of, file_of, module_file}
 use Rattle.straight_rust_tree.specs.Tree.{ModuleTree, CrateTree}
 use Rattle.straight_whole.specs.Items.{Outline, outlines_from, items_in, items_of, head_of}
-use Rattle.front.specs.Job.{Job, transpile}
+use Rattle.front.specs.Job.{Job, transpile, several}
 use Rattle.front.specs.Files.{Held, WhereTold, units_of, unit_and, files_in, file_in, name_in, with_files, written_names}
 use Rattle.front.specs.Report.{Ending, done, refused, usage, cannot_read, cannot_write, memory}
 use Rattle.front.specs.Transpile.{WhereTranslated, IsLeftAt, Leaves}
@@ -143,7 +143,7 @@ keeps_others None (refused file refusal) s t leaves = absurd leaves
 keeps_others None usage s t leaves = keeps_same [] s.held t.held (ap (λ (state : ShelfState). state.held) leaves)
 keeps_others None (cannot_read name) s t leaves = absurd leaves
 keeps_others None (cannot_write name) s t leaves = absurd leaves
-keeps_others None memory s t leaves = absurd leaves
+keeps_others None memory s t leaves = keeps_same [] s.held t.held (ap (λ (state : ShelfState). state.held) leaves)
 keeps_others (Some (transpile directory names)) done s t leaves = keeps_done directory names s t leaves
 keeps_others (Some (transpile directory names)) (refused file refusal) s t leaves = keeps_same (written_names directory names) s.held t.held leaves.kept
 keeps_others (Some (transpile directory names)) usage s t leaves = absurd leaves
@@ -153,3 +153,9 @@ keeps_others (Some (transpile directory names)) memory s t leaves = elim leaves 
   | inl kept ↦ keeps_same (written_names directory names) s.held t.held kept
   | inr left ↦ keeps_left directory names left.0 left.1 s t left.2
 ]
+keeps_others (Some (several first)) done s t leaves = absurd leaves
+keeps_others (Some (several first)) (refused file refusal) s t leaves = keeps_same [] s.held t.held (ap (λ (state : ShelfState). state.held) leaves.2)
+keeps_others (Some (several first)) usage s t leaves = absurd leaves
+keeps_others (Some (several first)) (cannot_read name) s t leaves = absurd leaves
+keeps_others (Some (several first)) (cannot_write name) s t leaves = absurd leaves
+keeps_others (Some (several first)) memory s t leaves = keeps_same [] s.held t.held (ap (λ (state : ShelfState). state.held) leaves)

@@ -1,13 +1,14 @@
 -- Each clause of the top call, from how the job ended and how that was told.
 use Rattle.std.specs.Prelude.{All, slice_get}
-use Rattle.std.proofs.Common.{◌≡◌, ◌≢◌, ℕ, ◌⊎◌, inl, inr, true, List, take, Option, Some, None, refl, sym, ap, subst, ◌∙◌, arith}
+use Rattle.std.proofs.Common.{◌≡◌, ◌≢◌, ℕ, ◌⊎◌, inl, inr, true, true≢false, List, take, Option, Some, None, refl, sym, ap, subst, ◌∙◌, arith}
 use Rattle.std.proofs.lemmas.Option.{slice_get_within, get_or_from_slice_get}
 use Rattle.cr_base.specs.Count.{Rose}
 use Rattle.cr_base.specs.declared.refusal.Refusal.{Refusal}
 use Rattle.shelf.specs.declared.file.File.{File}
 use Rattle.shelf.specs.Shelf.{ShelfState, without_file}
 use Rattle.shelf.specs.Sink.{SinkState, Appended}
-use Rattle.front.specs.Job.{Job, transpile}
+use Rattle.front.specs.Job.{Job, transpile, several}
+use Rattle.front.specs.Steps.{not_built}
 use Rattle.straight_core.specs.Trees.{CProgram}
 use Rattle.straight_rust_tree.specs.Text.{text_of}
 use Rattle.straight_rust_tree.specs.Tree.{CrateTree}
@@ -15,7 +16,7 @@ use Rattle.front.specs.Refusals.{IsRead, FirstBroken, CoreOf}
 use Rattle.front.specs.Files.{Held, WhereTold, units_of, files_in, with_files}
 use Rattle.front.specs.Report.{Ending, done, refused, usage, cannot_read, cannot_write, memory, IsTold, IsReported, WriteFailed, ReportsMemory, report_of, status_of, refusal_report, usage_report, unread_report, unwritten_report}
 use Rattle.front.specs.Transpile.{IsDone, IsRefused, IsUnread, IsUnwritten, Translates, Leaves}
-use Rattle.front.specs.Run.{is_status, ForJob, Yields}
+use Rattle.front.specs.Run.{is_status, is_several, ForJob, RefusedIn, Yields}
 
 four_ten : ◌≢◌ {A = ℕ} 4 10
 four_ten e = omega arith
@@ -82,28 +83,48 @@ when_0 None (refused file refusal) s t a b r leaves told is = absurd leaves
 when_0 None usage s t a b r leaves told is = other usage a b r 0 is (λ (x : 0 ≡ 4). omega arith) (λ (x : 0 ≡ 10). omega arith) (λ (x : 0 ≡ 2). omega arith) told
 when_0 None (cannot_read name) s t a b r leaves told is = absurd leaves
 when_0 None (cannot_write name) s t a b r leaves told is = absurd leaves
-when_0 None memory s t a b r leaves told is = absurd leaves
+when_0 None memory s t a b r leaves told is = other memory a b r 0 is (λ (x : 0 ≡ 4). omega arith) (λ (x : 0 ≡ 10). omega arith) (λ (x : 0 ≡ 10). omega arith) told
 when_0 (Some (transpile directory names)) done s t a b r leaves told is = (leaves, told.1)
 when_0 (Some (transpile directory names)) (refused file refusal) s t a b r leaves told is = other (refused file refusal) a b r 0 is (λ (x : 0 ≡ 4). omega arith) (λ (x : 0 ≡ 10). omega arith) (λ (x : 0 ≡ 1). omega arith) told
 when_0 (Some (transpile directory names)) usage s t a b r leaves told is = absurd leaves
 when_0 (Some (transpile directory names)) (cannot_read name) s t a b r leaves told is = other (cannot_read name) a b r 0 is (λ (x : 0 ≡ 4). omega arith) (λ (x : 0 ≡ 10). omega arith) (λ (x : 0 ≡ 3). omega arith) told
 when_0 (Some (transpile directory names)) (cannot_write name) s t a b r leaves told is = other (cannot_write name) a b r 0 is (λ (x : 0 ≡ 4). omega arith) (λ (x : 0 ≡ 10). omega arith) (λ (x : 0 ≡ 4). omega arith) told
 when_0 (Some (transpile directory names)) memory s t a b r leaves told is = other memory a b r 0 is (λ (x : 0 ≡ 4). omega arith) (λ (x : 0 ≡ 10). omega arith) (λ (x : 0 ≡ 10). omega arith) told
+when_0 (Some (several first)) done s t a b r leaves told is = absurd leaves
+when_0 (Some (several first)) (refused file refusal) s t a b r leaves told is = other (refused file refusal) a b r 0 is (λ (x : 0 ≡ 4). omega arith) (λ (x : 0 ≡ 10). omega arith) (λ (x : 0 ≡ 1). omega arith) told
+when_0 (Some (several first)) usage s t a b r leaves told is = absurd leaves
+when_0 (Some (several first)) (cannot_read name) s t a b r leaves told is = absurd leaves
+when_0 (Some (several first)) (cannot_write name) s t a b r leaves told is = absurd leaves
+when_0 (Some (several first)) memory s t a b r leaves told is = other memory a b r 0 is (λ (x : 0 ≡ 4). omega arith) (λ (x : 0 ≡ 10). omega arith) (λ (x : 0 ≡ 10). omega arith) told
 
 -- status 1
-pub when_1 : (job : Option Job) (ending : Ending) (s t : ShelfState) (a b : SinkState) (r : ℕ) → Leaves job ending s t → IsTold ending a b r → r ≡ 1 → ForJob job (λ directory names. (file : List ℕ) × (refusal : Refusal) × IsRefused names file refusal s t × Appended (refusal_report file refusal) a.written b.written)
+several_refused : (first file : List ℕ) (refusal : Refusal) (s t : ShelfState) (a b : SinkState) → (file ≡ first) × (refusal ≡ not_built) × (t ≡ s)
+    → Appended (refusal_report file refusal) a.written b.written → (t ≡ s) × Appended (refusal_report first not_built) a.written b.written
+several_refused first file refusal s t a b leaves report = (
+  leaves.2,
+  subst (λ (f : List ℕ). Appended (refusal_report f not_built) a.written b.written) leaves.0
+      (subst (λ (by : Refusal). Appended (refusal_report file by) a.written b.written) leaves.1 report),
+)
+
+pub when_1 : (job : Option Job) (ending : Ending) (s t : ShelfState) (a b : SinkState) (r : ℕ) → Leaves job ending s t → IsTold ending a b r → r ≡ 1 → RefusedIn job s t a b
 when_1 None done s t a b r leaves told is = absurd leaves
 when_1 None (refused file refusal) s t a b r leaves told is = absurd leaves
 when_1 None usage s t a b r leaves told is = other usage a b r 1 is (λ (x : 1 ≡ 4). omega arith) (λ (x : 1 ≡ 10). omega arith) (λ (x : 1 ≡ 2). omega arith) told
 when_1 None (cannot_read name) s t a b r leaves told is = absurd leaves
 when_1 None (cannot_write name) s t a b r leaves told is = absurd leaves
-when_1 None memory s t a b r leaves told is = absurd leaves
+when_1 None memory s t a b r leaves told is = other memory a b r 1 is (λ (x : 1 ≡ 4). omega arith) (λ (x : 1 ≡ 10). omega arith) (λ (x : 1 ≡ 10). omega arith) told
 when_1 (Some (transpile directory names)) done s t a b r leaves told is = other done a b r 1 is (λ (x : 1 ≡ 4). omega arith) (λ (x : 1 ≡ 10). omega arith) (λ (x : 1 ≡ 0). omega arith) told
 when_1 (Some (transpile directory names)) (refused file refusal) s t a b r leaves told is = (file, refusal, leaves, own_report (refused file refusal) a b r 1 is (λ (x : 1 ≡ 4). omega arith) (λ (x : 1 ≡ 10). omega arith) (telling_of (refused file refusal) a b r told))
 when_1 (Some (transpile directory names)) usage s t a b r leaves told is = absurd leaves
 when_1 (Some (transpile directory names)) (cannot_read name) s t a b r leaves told is = other (cannot_read name) a b r 1 is (λ (x : 1 ≡ 4). omega arith) (λ (x : 1 ≡ 10). omega arith) (λ (x : 1 ≡ 3). omega arith) told
 when_1 (Some (transpile directory names)) (cannot_write name) s t a b r leaves told is = other (cannot_write name) a b r 1 is (λ (x : 1 ≡ 4). omega arith) (λ (x : 1 ≡ 10). omega arith) (λ (x : 1 ≡ 4). omega arith) told
 when_1 (Some (transpile directory names)) memory s t a b r leaves told is = other memory a b r 1 is (λ (x : 1 ≡ 4). omega arith) (λ (x : 1 ≡ 10). omega arith) (λ (x : 1 ≡ 10). omega arith) told
+when_1 (Some (several first)) done s t a b r leaves told is = absurd leaves
+when_1 (Some (several first)) (refused file refusal) s t a b r leaves told is = several_refused first file refusal s t a b leaves (own_report (refused file refusal) a b r 1 is (λ (x : 1 ≡ 4). omega arith) (λ (x : 1 ≡ 10). omega arith) (telling_of (refused file refusal) a b r told))
+when_1 (Some (several first)) usage s t a b r leaves told is = absurd leaves
+when_1 (Some (several first)) (cannot_read name) s t a b r leaves told is = absurd leaves
+when_1 (Some (several first)) (cannot_write name) s t a b r leaves told is = absurd leaves
+when_1 (Some (several first)) memory s t a b r leaves told is = other memory a b r 1 is (λ (x : 1 ≡ 4). omega arith) (λ (x : 1 ≡ 10). omega arith) (λ (x : 1 ≡ 10). omega arith) told
 
 -- status 2
 pub when_2 : (job : Option Job) (ending : Ending) (s t : ShelfState) (a b : SinkState) (r : ℕ) → Leaves job ending s t → IsTold ending a b r → r ≡ 2 → (job ≡ None) × (t ≡ s) × Appended usage_report a.written b.written
@@ -112,13 +133,19 @@ when_2 None (refused file refusal) s t a b r leaves told is = absurd leaves
 when_2 None usage s t a b r leaves told is = (refl, leaves, own_report usage a b r 2 is (λ (x : 2 ≡ 4). omega arith) (λ (x : 2 ≡ 10). omega arith) (telling_of usage a b r told))
 when_2 None (cannot_read name) s t a b r leaves told is = absurd leaves
 when_2 None (cannot_write name) s t a b r leaves told is = absurd leaves
-when_2 None memory s t a b r leaves told is = absurd leaves
+when_2 None memory s t a b r leaves told is = other memory a b r 2 is (λ (x : 2 ≡ 4). omega arith) (λ (x : 2 ≡ 10). omega arith) (λ (x : 2 ≡ 10). omega arith) told
 when_2 (Some (transpile directory names)) done s t a b r leaves told is = other done a b r 2 is (λ (x : 2 ≡ 4). omega arith) (λ (x : 2 ≡ 10). omega arith) (λ (x : 2 ≡ 0). omega arith) told
 when_2 (Some (transpile directory names)) (refused file refusal) s t a b r leaves told is = other (refused file refusal) a b r 2 is (λ (x : 2 ≡ 4). omega arith) (λ (x : 2 ≡ 10). omega arith) (λ (x : 2 ≡ 1). omega arith) told
 when_2 (Some (transpile directory names)) usage s t a b r leaves told is = absurd leaves
 when_2 (Some (transpile directory names)) (cannot_read name) s t a b r leaves told is = other (cannot_read name) a b r 2 is (λ (x : 2 ≡ 4). omega arith) (λ (x : 2 ≡ 10). omega arith) (λ (x : 2 ≡ 3). omega arith) told
 when_2 (Some (transpile directory names)) (cannot_write name) s t a b r leaves told is = other (cannot_write name) a b r 2 is (λ (x : 2 ≡ 4). omega arith) (λ (x : 2 ≡ 10). omega arith) (λ (x : 2 ≡ 4). omega arith) told
 when_2 (Some (transpile directory names)) memory s t a b r leaves told is = other memory a b r 2 is (λ (x : 2 ≡ 4). omega arith) (λ (x : 2 ≡ 10). omega arith) (λ (x : 2 ≡ 10). omega arith) told
+when_2 (Some (several first)) done s t a b r leaves told is = absurd leaves
+when_2 (Some (several first)) (refused file refusal) s t a b r leaves told is = other (refused file refusal) a b r 2 is (λ (x : 2 ≡ 4). omega arith) (λ (x : 2 ≡ 10). omega arith) (λ (x : 2 ≡ 1). omega arith) told
+when_2 (Some (several first)) usage s t a b r leaves told is = absurd leaves
+when_2 (Some (several first)) (cannot_read name) s t a b r leaves told is = absurd leaves
+when_2 (Some (several first)) (cannot_write name) s t a b r leaves told is = absurd leaves
+when_2 (Some (several first)) memory s t a b r leaves told is = other memory a b r 2 is (λ (x : 2 ≡ 4). omega arith) (λ (x : 2 ≡ 10). omega arith) (λ (x : 2 ≡ 10). omega arith) told
 
 -- status 3
 pub when_3 : (job : Option Job) (ending : Ending) (s t : ShelfState) (a b : SinkState) (r : ℕ) → Leaves job ending s t → IsTold ending a b r → r ≡ 3 → ForJob job (λ directory names. (name : List ℕ) × IsUnread names name s t × Appended (unread_report name) a.written b.written)
@@ -127,13 +154,19 @@ when_3 None (refused file refusal) s t a b r leaves told is = absurd leaves
 when_3 None usage s t a b r leaves told is = other usage a b r 3 is (λ (x : 3 ≡ 4). omega arith) (λ (x : 3 ≡ 10). omega arith) (λ (x : 3 ≡ 2). omega arith) told
 when_3 None (cannot_read name) s t a b r leaves told is = absurd leaves
 when_3 None (cannot_write name) s t a b r leaves told is = absurd leaves
-when_3 None memory s t a b r leaves told is = absurd leaves
+when_3 None memory s t a b r leaves told is = other memory a b r 3 is (λ (x : 3 ≡ 4). omega arith) (λ (x : 3 ≡ 10). omega arith) (λ (x : 3 ≡ 10). omega arith) told
 when_3 (Some (transpile directory names)) done s t a b r leaves told is = other done a b r 3 is (λ (x : 3 ≡ 4). omega arith) (λ (x : 3 ≡ 10). omega arith) (λ (x : 3 ≡ 0). omega arith) told
 when_3 (Some (transpile directory names)) (refused file refusal) s t a b r leaves told is = other (refused file refusal) a b r 3 is (λ (x : 3 ≡ 4). omega arith) (λ (x : 3 ≡ 10). omega arith) (λ (x : 3 ≡ 1). omega arith) told
 when_3 (Some (transpile directory names)) usage s t a b r leaves told is = absurd leaves
 when_3 (Some (transpile directory names)) (cannot_read name) s t a b r leaves told is = (name, leaves, own_report (cannot_read name) a b r 3 is (λ (x : 3 ≡ 4). omega arith) (λ (x : 3 ≡ 10). omega arith) (telling_of (cannot_read name) a b r told))
 when_3 (Some (transpile directory names)) (cannot_write name) s t a b r leaves told is = other (cannot_write name) a b r 3 is (λ (x : 3 ≡ 4). omega arith) (λ (x : 3 ≡ 10). omega arith) (λ (x : 3 ≡ 4). omega arith) told
 when_3 (Some (transpile directory names)) memory s t a b r leaves told is = other memory a b r 3 is (λ (x : 3 ≡ 4). omega arith) (λ (x : 3 ≡ 10). omega arith) (λ (x : 3 ≡ 10). omega arith) told
+when_3 (Some (several first)) done s t a b r leaves told is = absurd leaves
+when_3 (Some (several first)) (refused file refusal) s t a b r leaves told is = other (refused file refusal) a b r 3 is (λ (x : 3 ≡ 4). omega arith) (λ (x : 3 ≡ 10). omega arith) (λ (x : 3 ≡ 1). omega arith) told
+when_3 (Some (several first)) usage s t a b r leaves told is = absurd leaves
+when_3 (Some (several first)) (cannot_read name) s t a b r leaves told is = absurd leaves
+when_3 (Some (several first)) (cannot_write name) s t a b r leaves told is = absurd leaves
+when_3 (Some (several first)) memory s t a b r leaves told is = other memory a b r 3 is (λ (x : 3 ≡ 4). omega arith) (λ (x : 3 ≡ 10). omega arith) (λ (x : 3 ≡ 10). omega arith) told
 
 -- status 4
 abbrev Four : Option Job → ShelfState → ShelfState → SinkState → SinkState → Type 0
@@ -157,13 +190,19 @@ when_4 None (refused file refusal) s t a b r leaves told is = absurd leaves
 when_4 None usage s t a b r leaves told is = four_failed None usage s t a b r leaves is (λ (x : 4 ≡ 2). omega arith) (telling_of usage a b r told)
 when_4 None (cannot_read name) s t a b r leaves told is = absurd leaves
 when_4 None (cannot_write name) s t a b r leaves told is = absurd leaves
-when_4 None memory s t a b r leaves told is = absurd leaves
+when_4 None memory s t a b r leaves told is = absurd (four_ten (sym is ∙ told.0))
 when_4 (Some (transpile directory names)) done s t a b r leaves told is = absurd (zero_four (sym told.0 ∙ is))
 when_4 (Some (transpile directory names)) (refused file refusal) s t a b r leaves told is = four_failed (Some (transpile directory names)) (refused file refusal) s t a b r leaves is (λ (x : 4 ≡ 1). omega arith) (telling_of (refused file refusal) a b r told)
 when_4 (Some (transpile directory names)) usage s t a b r leaves told is = absurd leaves
 when_4 (Some (transpile directory names)) (cannot_read name) s t a b r leaves told is = four_failed (Some (transpile directory names)) (cannot_read name) s t a b r leaves is (λ (x : 4 ≡ 3). omega arith) (telling_of (cannot_read name) a b r told)
 when_4 (Some (transpile directory names)) (cannot_write name) s t a b r leaves told is = four_written directory names name s t a b r leaves is (telling_of (cannot_write name) a b r told)
 when_4 (Some (transpile directory names)) memory s t a b r leaves told is = absurd (four_ten (sym is ∙ told.0))
+when_4 (Some (several first)) done s t a b r leaves told is = absurd leaves
+when_4 (Some (several first)) (refused file refusal) s t a b r leaves told is = four_failed (Some (several first)) (refused file refusal) s t a b r leaves is (λ (x : 4 ≡ 1). omega arith) (telling_of (refused file refusal) a b r told)
+when_4 (Some (several first)) usage s t a b r leaves told is = absurd leaves
+when_4 (Some (several first)) (cannot_read name) s t a b r leaves told is = absurd leaves
+when_4 (Some (several first)) (cannot_write name) s t a b r leaves told is = absurd leaves
+when_4 (Some (several first)) memory s t a b r leaves told is = absurd (four_ten (sym is ∙ told.0))
 
 -- status 10
 ten_reported : (ending : Ending) (a b : SinkState) (r : ℕ) → r ≡ 10 → 10 ≢ status_of ending → Telling ending a b r → ReportsMemory a b
@@ -200,7 +239,18 @@ when_no_job (refused file refusal) s t a b r leaves told = absurd leaves
 when_no_job usage s t a b r leaves told = own_or_yields usage a b r told
 when_no_job (cannot_read name) s t a b r leaves told = absurd leaves
 when_no_job (cannot_write name) s t a b r leaves told = absurd leaves
-when_no_job memory s t a b r leaves told = absurd leaves
+when_no_job memory s t a b r leaves told = inr (inl told.0)
+
+-- several units
+pub when_several : (job : Option Job) (ending : Ending) (s t : ShelfState) (a b : SinkState) (r : ℕ) → Leaves job ending s t → IsTold ending a b r → is_several job ≡ true → (r ≡ 1) ⊎ Yields a b r
+when_several None ending s t a b r leaves told e = absurd (true≢false (sym e))
+when_several (Some (transpile directory names)) ending s t a b r leaves told e = absurd (true≢false (sym e))
+when_several (Some (several first)) done s t a b r leaves told e = absurd leaves
+when_several (Some (several first)) (refused file refusal) s t a b r leaves told e = own_or_yields (refused file refusal) a b r told
+when_several (Some (several first)) usage s t a b r leaves told e = absurd leaves
+when_several (Some (several first)) (cannot_read name) s t a b r leaves told e = absurd leaves
+when_several (Some (several first)) (cannot_write name) s t a b r leaves told e = absurd leaves
+when_several (Some (several first)) memory s t a b r leaves told e = inr (inl told.0)
 
 -- a unit at a place, of units that all are read
 read_at : (units : List File) (k : ℕ) (file : File) → All IsRead units → slice_get units k ≡ Some file → IsRead file
@@ -258,6 +308,7 @@ Refusing s t a b r = (r ≡ 1) ⊎ (Yields a b r ⊎ ((r ≡ 3) × Rose s.faults
 
 pub when_broken : (job : Option Job) (ending : Ending) (s t : ShelfState) (a b : SinkState) (r : ℕ) → Leaves job ending s t → IsTold ending a b r → (units : List File) (refusal : Refusal) → ForJob job (λ directory names. (held : List ℕ → Option (List ℕ)) × (s.held ≡ Some held) × (units_of held names ≡ Some units)) → FirstBroken units refusal → Refusing s t a b r
 when_broken None ending s t a b r leaves told units refusal holds broken = absurd holds
+when_broken (Some (several first)) ending s t a b r leaves told units refusal holds broken = absurd holds
 when_broken (Some (transpile directory names)) done s t a b r leaves told units refusal holds broken =
     absurd (translated_unbroken directory names (λ files. t.held ≡ with_files files s.held) s.held holds.0 units refusal holds.1 holds.2 broken leaves)
 when_broken (Some (transpile directory names)) (refused file cause) s t a b r leaves told units refusal holds broken =
@@ -281,6 +332,7 @@ missing_translated directory names P h held e lacking told =
 
 pub when_missing : (job : Option Job) (ending : Ending) (s t : ShelfState) (a b : SinkState) (r : ℕ) → Leaves job ending s t → IsTold ending a b r → ForJob job (λ directory names. (held : List ℕ → Option (List ℕ)) × (s.held ≡ Some held) × (units_of held names ≡ None)) → (r ≡ 3) ⊎ Yields a b r
 when_missing None ending s t a b r leaves told lacks = absurd lacks
+when_missing (Some (several first)) ending s t a b r leaves told lacks = absurd lacks
 when_missing (Some (transpile directory names)) done s t a b r leaves told lacks =
     absurd (missing_translated directory names (λ files. t.held ≡ with_files files s.held) s.held lacks.0 lacks.1 lacks.2 leaves)
 when_missing (Some (transpile directory names)) (refused file cause) s t a b r leaves told lacks =
@@ -296,6 +348,7 @@ when_missing (Some (transpile directory names)) memory s t a b r leaves told lac
 -- units that break no rule
 pub when_sound : (job : Option Job) (ending : Ending) (s t : ShelfState) (a b : SinkState) (r : ℕ) → Leaves job ending s t → IsTold ending a b r → (units : List File) (program : CProgram) → ForJob job (λ directory names. (held : List ℕ → Option (List ℕ)) × (s.held ≡ Some held) × (units_of held names ≡ Some units)) → CoreOf units program → (r ≡ 0) ⊎ ((r ≡ 10) ⊎ Rose s.faults t.faults)
 when_sound None ending s t a b r leaves told units program holds core = absurd holds
+when_sound (Some (several first)) ending s t a b r leaves told units program holds core = absurd holds
 when_sound (Some (transpile directory names)) done s t a b r leaves told units program holds core = inl told.0
 when_sound (Some (transpile directory names)) (refused file cause) s t a b r leaves told units program holds core =
     let refusing = told_by (λ held. (found : List File) × (units_of held names ≡ Some found) × FirstBroken found cause) s.held holds.0 holds.1 leaves.broken in

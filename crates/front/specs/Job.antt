@@ -1,20 +1,28 @@
--- What the words after the program's name ask for.
-use Rattle.std.specs.Prelude.{ℕ, Bool, false, not, ◌==◌, ◌&&◌, List, [], ◌∷◌, Option, Some, None, if◌then◌else◌, bytes_eq, codes}
+-- The jobs that are done today, by the words after the program's name.
+use Rattle.std.specs.Prelude.{List, [], ◌∷◌, Option, Some, None}
+use Rattle.clap.specs.Walk.{Text}
+use Rattle.jobs.specs.Job.{Job as AnyJob, job_of as any_job_of, transpile as asks_transpile, run_c as asks_run_c, run_rust as asks_run_rust}
 
 -- a job
 pub data Job : Type 0 where
-  -- translate the units of these files, and put the crate under a directory
-  transpile : (directory : List ℕ) (files : List (List ℕ)) → Job
+  -- translate the unit of this file, and put the crate under a directory
+  transpile : (directory : Text) (files : List Text) → Job
+  -- translate several units, of which this is the file of the first: they aren't read yet
+  several : (first : Text) → Job
 
--- a word that can name a file or a directory: it is neither empty nor begins as an option does
-abbrev pub is_path : List ℕ → Bool
-is_path [] = false
-is_path (byte ∷ bytes) = not (byte == 45)
+-- the job to translate these files
+abbrev pub translation : Text → List Text → Option Job
+translation directory [] = None
+translation directory (file ∷ []) = Some (transpile directory (file ∷ []))
+translation directory (file ∷ other ∷ others) = Some (several file)
 
--- the job that the words ask for: `transpile -o DIRECTORY FILE`, in this order, and nothing else
-abbrev pub job_of : List (List ℕ) → Option Job
-job_of (command ∷ option ∷ directory ∷ file ∷ []) =
-    if bytes_eq command (codes "transpile") && bytes_eq option (codes "-o") && is_path directory && is_path file
-    then Some (transpile directory (file ∷ []))
-    else None
-job_of words = None
+-- a job, where it is done today: to run units or a crate isn't
+abbrev pub built_of : Option AnyJob → Option Job
+built_of None = None
+built_of (Some (asks_transpile directory files)) = translation directory files
+built_of (Some (asks_run_c steps order files)) = None
+built_of (Some (asks_run_rust steps directory)) = None
+
+-- the job that the words ask for
+abbrev pub job_of : List Text → Option Job
+job_of words = built_of (any_job_of words)

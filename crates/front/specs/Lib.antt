@@ -1,4 +1,3 @@
-pub mod Asked
 pub mod Files
 pub mod Job
 pub mod Kept

@@ -1,12 +1,13 @@
 -- What the top call answers, and what it leaves: one word for each status, one for each cause.
-use Rattle.std.specs.Prelude.{◌≡◌, ℕ, ◌==◌, ◌||◌, Bool, false, ◌⊎◌, List, [], Option, Some, None, bytes_eq}
+use Rattle.std.specs.Prelude.{◌≡◌, ℕ, ◌==◌, ◌||◌, Bool, false, true, ◌⊎◌, List, [], Option, Some, None, bytes_eq}
 use Rattle.std.specs.List.{list_any}
 use Rattle.cr_base.specs.Count.{Rose}
 use Rattle.cr_base.specs.declared.refusal.Refusal.{Refusal}
 use Rattle.shelf.specs.declared.file.File.{File}
 use Rattle.shelf.specs.Shelf.{ShelfState}
 use Rattle.shelf.specs.Sink.{SinkState, Appended}
-use Rattle.front.specs.Job.{Job, transpile, job_of}
+use Rattle.front.specs.Job.{Job, transpile, several, job_of}
+use Rattle.front.specs.Steps.{not_built}
 use Rattle.straight_core.specs.Trees.{CProgram}
 use Rattle.front.specs.Refusals.{FirstBroken, CoreOf}
 use Rattle.front.specs.Files.{Held, WhereTold, units_of, written_names}
@@ -17,10 +18,11 @@ use Rattle.front.specs.Transpile.{IsDone, IsRefused, IsUnread, IsUnwritten, Leav
 abbrev pub is_status : ℕ → Bool
 is_status status = status == 0 || status == 1 || status == 2 || status == 3 || status == 4 || status == 10
 
--- the words are the job to translate units, and P holds of its directory and its files
+-- the words are the job to translate a unit, and P holds of its directory and its files
 abbrev pub ForJob : Option Job → (List ℕ → List (List ℕ) → Type 0) → Type 0
 ForJob None P = ⊥
 ForJob (Some (transpile directory names)) P = P directory names
+ForJob (Some (several first)) P = ⊥
 
 -- the job came to an ending: the shelf is left as this ending says, and it was told
 abbrev pub Ran : List (List ℕ) → ShelfState → ShelfState → SinkState → SinkState → ℕ → Type 0
@@ -33,11 +35,19 @@ abbrev pub Translated : List (List ℕ) → ShelfState → ShelfState → SinkSt
 Translated words before after unwritten written =
     ForJob (job_of words) (λ directory names. IsDone directory names before after) × (written ≡ unwritten)
 
--- status 1: the report names the first rule that the units break, and nothing was put
-abbrev pub RefusedUnits : List (List ℕ) → ShelfState → ShelfState → SinkState → SinkState → Type 0
-RefusedUnits words before after unwritten written = ForJob (job_of words) (λ directory names.
+-- what is reported where units are refused, and what stays
+abbrev pub RefusedIn : Option Job → ShelfState → ShelfState → SinkState → SinkState → Type 0
+RefusedIn None before after unwritten written = ⊥
+RefusedIn (Some (transpile directory names)) before after unwritten written =
     (file : List ℕ) × (refusal : Refusal) × IsRefused names file refusal before after
-    × Appended (refusal_report file refusal) unwritten.written written.written)
+    × Appended (refusal_report file refusal) unwritten.written written.written
+RefusedIn (Some (several first)) before after unwritten written =
+    (after ≡ before) × Appended (refusal_report first not_built) unwritten.written written.written
+
+-- status 1: the report names the first rule that the unit breaks, or N1 and the first file of several, which aren't got
+-- then; nothing was put
+abbrev pub RefusedUnits : List (List ℕ) → ShelfState → ShelfState → SinkState → SinkState → Type 0
+RefusedUnits words before after unwritten written = RefusedIn (job_of words) before after unwritten written
 
 -- status 2: the words are no job, and nothing was done
 abbrev pub RefusedWords : List (List ℕ) → ShelfState → ShelfState → SinkState → SinkState → Type 0
@@ -92,6 +102,13 @@ LacksFile words before = ForJob (job_of words) (λ directory names.
 abbrev pub names_written : Option Job → List (List ℕ)
 names_written None = []
 names_written (Some (transpile directory names)) = written_names directory names
+names_written (Some (several first)) = []
+
+-- the job is to translate several units
+abbrev pub is_several : Option Job → Bool
+is_several (Some (several first)) = true
+is_several (Some (transpile directory names)) = false
+is_several None = false
 
 -- what is held under a name, where that is told
 abbrev pub held_under : List ℕ → Held → Option (List ℕ)

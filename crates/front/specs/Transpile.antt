@@ -12,7 +12,8 @@ use Rattle.straight_rust_tree.specs.Tree.{CrateTree}
 use Rattle.straight_whole.specs.Right.{IsRight}
 use Rattle.front.specs.Refusals.{FirstBroken, CoreOf}
 use Rattle.front.specs.Files.{WhereTold, units_of, files_in, with_files, written_names}
-use Rattle.front.specs.Job.{Job, transpile}
+use Rattle.front.specs.Job.{Job, transpile, several}
+use Rattle.front.specs.Steps.{not_built}
 use Rattle.front.specs.Report.{Ending, done, refused, usage, cannot_read, cannot_write, memory}
 
 -- a crate is a right translation of units: it is well typed, has the items of their program in modules that are
@@ -71,16 +72,26 @@ IsTranspiled directory names (cannot_read name) before after = IsUnread names na
 IsTranspiled directory names (cannot_write name) before after = IsUnwritten directory names name before after
 IsTranspiled directory names memory before after = IsOutOfMemory directory names before after
 
--- words that are no job leave the shelf as it was
+-- several units were refused: the refusal is N1, in the first file, and nothing was got or put; or memory ran out before
+abbrev pub IsUnbuilt : List ℕ → Ending → ShelfState → ShelfState → Type 0
+IsUnbuilt first (refused file refusal) before after = (file ≡ first) × (refusal ≡ not_built) × (after ≡ before)
+IsUnbuilt first memory before after = after ≡ before
+IsUnbuilt first done before after = ⊥
+IsUnbuilt first usage before after = ⊥
+IsUnbuilt first (cannot_read name) before after = ⊥
+IsUnbuilt first (cannot_write name) before after = ⊥
+
+-- words that are no job leave the shelf as it was, and so does want of memory while they are read
 abbrev pub IsNoJob : Ending → ShelfState → ShelfState → Type 0
 IsNoJob usage before after = after ≡ before
 IsNoJob done before after = ⊥
 IsNoJob (refused file refusal) before after = ⊥
 IsNoJob (cannot_read name) before after = ⊥
 IsNoJob (cannot_write name) before after = ⊥
-IsNoJob memory before after = ⊥
+IsNoJob memory before after = after ≡ before
 
 -- what a job, or none, leaves on the shelf, by how it ended
 abbrev pub Leaves : Option Job → Ending → ShelfState → ShelfState → Type 0
 Leaves None ending before after = IsNoJob ending before after
 Leaves (Some (transpile directory names)) ending before after = IsTranspiled directory names ending before after
+Leaves (Some (several first)) ending before after = IsUnbuilt first ending before after

@@ -3,7 +3,6 @@
 #![tactic(auto)]
 
 mod files;
-mod job;
 mod kept;
 mod outcome;
 mod report;

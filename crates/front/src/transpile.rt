@@ -4,6 +4,8 @@ ghost use Rattle.rs_items.specs.Modules.{stem_of};
 ghost use Rattle.straight_whole.specs.Right.{IsTranslatable};
 ghost use Rattle.front.specs.Printed.{IsPrinted, IsPlaced};
 ghost use Rattle.front.specs.Outcome.{ending_of};
+ghost use Rattle.front.specs.Report.{refused};
+ghost use Rattle.front.specs.Steps.{not_built};
 ghost use Rattle.front.specs.Puts.{Puts, PutFaultAt};
 ghost use Rattle.front.specs.Transpile.{IsTranspiled};
 
@@ -49,6 +51,16 @@ pub(crate) fn transpile<'a, F: Shelf>(
     match crate_files(alloc, directory, file, &program) {
         Ok(files) => put_crate(shelf, files),
         Err(Memory) => Outcome::Memory,
+    }
+}
+
+/// Refuses several units, of which this is the file of the first.
+pub(crate) fn not_built<'a>(file: &'a str) -> Outcome<'a>
+    ensures { ending_of result ≡ refused file.now not_built }
+{
+    Outcome::Refused {
+        file,
+        refusal: of_unit(Rule::N1),
     }
 }
 

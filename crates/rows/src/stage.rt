@@ -4,6 +4,7 @@ mod bytes;
 mod copy;
 mod files;
 mod host;
+mod job;
 mod layout;
 mod lex;
 mod memory;
@@ -43,6 +44,8 @@ pub(crate) enum Inside {
     Memory,
     /// Calls of a host.
     Host,
+    /// The job of words.
+    Job,
     /// Records with their sizes and places.
     Layout,
     /// The tokens of a unit.
@@ -75,13 +78,14 @@ pub(crate) enum Outside {
     Disk,
 }
 
-const STAGES: [(&str, Stage); 19] = [
+const STAGES: [(&str, Stage); 20] = [
     ("rule", Stage::Inside(Inside::Rule)),
     ("value", Stage::Inside(Inside::Value)),
     ("copy", Stage::Inside(Inside::Copy)),
     ("bytes", Stage::Inside(Inside::Bytes)),
     ("memory", Stage::Inside(Inside::Memory)),
     ("host", Stage::Inside(Inside::Host)),
+    ("job", Stage::Inside(Inside::Job)),
     ("layout", Stage::Inside(Inside::Layout)),
     ("lex", Stage::Inside(Inside::Lex)),
     ("parse", Stage::Inside(Inside::Parse)),
@@ -128,6 +132,7 @@ impl Inside {
             Inside::Bytes => bytes::answer(alloc, asked, out),
             Inside::Memory => memory::answer(alloc, asked, out),
             Inside::Host => host::answer(alloc, asked, out),
+            Inside::Job => job::answer(alloc, asked, out),
             Inside::Layout => layout::answer(alloc, asked, out),
             Inside::Lex => lex::answer(alloc, asked, out),
             Inside::Parse => parse::answer(alloc, asked, out),

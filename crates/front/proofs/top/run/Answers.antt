@@ -2,7 +2,7 @@
 use Rattle.std.proofs.Common.{map, string_bytes}
 use Rattle.front.specs.Job.{job_of}
 use Rattle.front.specs.Outcome.{ending_of}
-use Rattle.front.proofs.RunLaws.{statuses, when_0, when_1, when_2, when_3, when_4, when_10, no_job_told, when_broken, when_missing, when_sound}
+use Rattle.front.proofs.RunLaws.{statuses, when_0, when_1, when_2, when_3, when_4, when_10, no_job_told, when_several, when_broken, when_missing, when_sound}
 use Rattle.front.proofs.OthersLaws.{keeps_others}
 use Rattle.front.proofs.top.run.Goals as goal
 
@@ -29,6 +29,9 @@ returns-clause-out_of_memory g c = λ is. ((ending_of c.outcome_of-outcome.resul
 
 pub returns-clause-no_job : goal.returns-clause-no_job
 returns-clause-no_job g c = no_job_told (job_of (map string_bytes c.args.words.now)) (ending_of c.outcome_of-outcome.result) _ _ _ _ c.tell.result c.outcome_of-outcome.ensures c.tell.ensures.told
+
+pub returns-clause-unbuilt : goal.returns-clause-unbuilt
+returns-clause-unbuilt g c = when_several (job_of (map string_bytes c.args.words.now)) (ending_of c.outcome_of-outcome.result) _ _ _ _ c.tell.result c.outcome_of-outcome.ensures c.tell.ensures.told
 
 pub returns-clause-broken : goal.returns-clause-broken
 returns-clause-broken g c = λ breaks. when_broken (job_of (map string_bytes c.args.words.now)) (ending_of c.outcome_of-outcome.result) _ _ _ _ c.tell.result c.outcome_of-outcome.ensures c.tell.ensures.told breaks.0 breaks.1 breaks.2 breaks.3
