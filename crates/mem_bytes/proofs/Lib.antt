@@ -1,5 +1,6 @@
 pub mod Beside
 pub mod Bytes
+pub mod Cells
 pub mod Coded
 pub mod Examples
 pub mod Fields
