@@ -1,6 +1,6 @@
 -- Loads and stores of objects (ISO C99, 6.3.2.1p2, 6.5.16.1 and 6.7.2.1p9). That an access is inside its object is found out
 -- first, then whether it conflicts with what its operands wrote still, then what it finds.
-use Rattle.std.specs.Prelude.{ℕ, ◌%◌, ◌^◌, Bool, ◌&&◌, not, ◌==◌, nat_le, if◌then◌else◌, pos, List, length, Option, Some, None, Result, Ok, Err}
+use Rattle.std.specs.Prelude.{ℕ, ◌^◌, Bool, ◌&&◌, not, ◌==◌, if◌then◌else◌, pos, List, length, Option, Some, None, Result, Ok, Err}
 use Rattle.cr_base.specs.declared.layout.Laid.{Laid}
 use Rattle.cr_base.specs.declared.rule.URule.TheVariants.{U6, U14, U16}
 use Rattle.cr_base.specs.declared.scalar.Scalar.{Scalar}
@@ -8,21 +8,19 @@ use Rattle.cr_base.specs.declared.scalar.Scalar.TheVariants.{Truth, Whole, Objec
 use Rattle.cr_base.specs.Scalar.{residue, wrapped}
 use Rattle.cx_core.specs.Trees.{CTy, void, basic, enum_type, pointer, array, record_type, function, form_of_type}
 use Rattle.cr_world.specs.Known.{bytes_overlap}
-use Rattle.cr_world.specs.Pointers.{is_same_place}
+use Rattle.mem_bytes.specs.Pointers.{is_same_place}
 use Rattle.cx_mean.specs.Marks.{Marks, bits_of_bytes, bits_of_field, with_read, with_write}
 use Rattle.cx_mean.specs.Operands.{CWhy, breaks, stuck, needed, accessed, CValue, scalar, cells, names, designates, designates_bits, missing, Frame, place_in, sequenced_after}
 use Rattle.cx_mean.specs.Settings.{CSetting, scalar_in_type, extent_in}
 use Rattle.cx_mean.specs.Values.{value_of_kind, number_in}
-use Rattle.mem_bytes.specs.Access.{and_then, live_read, live_change, part_of, value_at, after_put, field_at, after_put_bits}
+use Rattle.mem_bytes.specs.Access.{and_then, part_at, value_at, after_put, field_at, after_put_bits, record_at, after_put_record}
 use Rattle.mem_bytes.specs.Bits.{bytes_touched}
 use Rattle.mem_bytes.specs.Coding.{scalar_size}
 use Rattle.mem_bytes.specs.declared.cell.Cell.{Cell}
-use Rattle.mem_bytes.specs.declared.fault.Fault.{Fault}
-use Rattle.mem_bytes.specs.declared.fault.Fault.TheVariants.{Misaligned}
 use Rattle.mem_bytes.specs.declared.value.Ptr.{Ptr}
 use Rattle.mem_bytes.specs.declared.value.Value.{Value}
 use Rattle.mem_bytes.specs.declared.value.Value.TheVariants.{Whole as Number, Null, Object as Pointer, Code as Function}
-use Rattle.mem_bytes.specs.Memory.{Block, Blocks, live_block, with_part}
+use Rattle.mem_bytes.specs.Memory.{Blocks}
 
 -- ---- objects
 
@@ -57,23 +55,6 @@ object_at Null = Err (breaks U6)
 object_at (Number number) = Err stuck
 object_at (Function number) = Err stuck
 
--- so many cells at a place
-abbrev pub cells_at : Blocks → Ptr → ℕ → Result (List Cell) Fault
-cells_at blocks at count = live_read (live_block blocks at.block) (λ block. part_of block at.offset count)
-
--- a structure or union may stand at an offset of a block
-abbrev is_record_aligned : Laid → ℕ → Block → Bool
-is_record_aligned laid offset block = offset % laid.align == 0 && nat_le laid.align block.align
-
-abbrev record_cells_of : Laid → ℕ → Block → Result (List Cell) Fault
-record_cells_of laid offset block =
-    and_then (part_of block offset laid.size) (λ held.
-    if is_record_aligned laid offset block then Ok held else Err Misaligned)
-
--- the cells of a structure or union
-abbrev record_cells_at : Blocks → Ptr → Laid → Result (List Cell) Fault
-record_cells_at blocks at laid = live_read (live_block blocks at.block) (record_cells_of laid at.offset)
-
 -- the value that a bit-field of a declared type has, by its bits (6.7.2.1p9)
 abbrev pub field_value : Scalar → (width : ℕ) → ℕ → Result Value CWhy
 field_value Truth width bits = Ok (Number (pos bits))
@@ -90,16 +71,16 @@ pub record CLoaded : Type 0 where
 
 abbrev loaded_scalar : Blocks → Ptr → Marks → Scalar → Result CLoaded CWhy
 loaded_scalar blocks at marks kind =
-    and_then (accessed (cells_at blocks at (scalar_size kind))) (λ _.
+    and_then (accessed (part_at blocks at (scalar_size kind))) (λ _.
     and_then (sequenced_after marks (bits_of_bytes at (scalar_size kind))) (λ range.
     and_then (accessed (value_at blocks at kind)) (λ value.
     Ok (record { value = scalar value; marks = with_read range marks }))))
 
 abbrev loaded_record : Blocks → Ptr → Marks → Laid → Result CLoaded CWhy
 loaded_record blocks at marks laid =
-    and_then (accessed (cells_at blocks at laid.size)) (λ _.
+    and_then (accessed (part_at blocks at laid.size)) (λ _.
     and_then (sequenced_after marks (bits_of_bytes at laid.size)) (λ range.
-    and_then (accessed (record_cells_at blocks at laid)) (λ held.
+    and_then (accessed (record_at blocks at laid.size laid.align)) (λ held.
     Ok (record { value = cells held (Some at); marks = with_read range marks }))))
 
 abbrev loaded_kind : Blocks → Ptr → Marks → CKind → Result CLoaded CWhy
@@ -108,7 +89,7 @@ loaded_kind blocks at marks (of_record laid) = loaded_record blocks at marks lai
 
 abbrev loaded_bits : Blocks → Ptr → (bit width : ℕ) → Marks → Scalar → Result CLoaded CWhy
 loaded_bits blocks at bit width marks kind =
-    and_then (accessed (cells_at blocks at (bytes_touched bit width))) (λ _.
+    and_then (accessed (part_at blocks at (bytes_touched bit width))) (λ _.
     and_then (sequenced_after marks (bits_of_field at bit width)) (λ range.
     and_then (accessed (field_at blocks at bit width)) (λ bits.
     and_then (field_value kind width bits) (λ value.
@@ -137,7 +118,7 @@ pub record CStored : Type 0 where
 abbrev stored_scalar : Blocks → Ptr → Marks → CValue → Scalar → Result CStored CWhy
 stored_scalar blocks at marks new kind =
     and_then (value_of_kind kind new) (λ value.
-    and_then (accessed (cells_at blocks at (scalar_size kind))) (λ _.
+    and_then (accessed (part_at blocks at (scalar_size kind))) (λ _.
     and_then (sequenced_after marks (bits_of_bytes at (scalar_size kind))) (λ range.
     and_then (accessed (after_put blocks at kind value)) (λ after.
     Ok (record { value = scalar value; marks = with_write range marks; blocks = after })))))
@@ -171,18 +152,14 @@ abbrev exact_or_apart : ℕ → Ptr → Option Ptr → Result Ptr CWhy
 exact_or_apart size at None = Ok at
 exact_or_apart size at (Some from) = if is_inexact size at from then Err (breaks U16) else Ok at
 
--- a block with other cells from an offset on
-abbrev cells_put : Blocks → Ptr → List Cell → Result Blocks Fault
-cells_put blocks at held = live_change blocks at.block (λ block. Ok (with_part block at.offset held))
-
 abbrev stored_record : Blocks → Ptr → Marks → CValue → Laid → Result CStored CWhy
 stored_record blocks at marks new laid =
     and_then (cells_in laid.size new) (λ held.
-    and_then (accessed (cells_at blocks at laid.size)) (λ _.
+    and_then (accessed (part_at blocks at laid.size)) (λ _.
     and_then (sequenced_after marks (bits_of_bytes at laid.size)) (λ range.
-    and_then (accessed (record_cells_at blocks at laid)) (λ _.
+    and_then (accessed (record_at blocks at laid.size laid.align)) (λ _.
     and_then (exact_or_apart laid.size at (source_of new)) (λ _.
-    and_then (accessed (cells_put blocks at held)) (λ after.
+    and_then (accessed (after_put_record blocks at laid.align held)) (λ after.
     Ok (record { value = cells held None; marks = with_write range marks; blocks = after })))))))
 
 abbrev stored_kind : Blocks → Ptr → Marks → CValue → CKind → Result CStored CWhy
@@ -194,7 +171,7 @@ abbrev stored_bits : Blocks → Ptr → (bit width : ℕ) → Marks → CValue �
 stored_bits blocks at bit width marks new kind =
     and_then (value_of_kind kind new) (λ one.
     and_then (number_in one) (λ number.
-    and_then (accessed (cells_at blocks at (bytes_touched bit width))) (λ _.
+    and_then (accessed (part_at blocks at (bytes_touched bit width))) (λ _.
     and_then (sequenced_after marks (bits_of_field at bit width)) (λ range.
     and_then (accessed (after_put_bits blocks at bit width (residue number (2 ^ width)))) (λ after.
     and_then (field_value kind width (residue number (2 ^ width))) (λ value.

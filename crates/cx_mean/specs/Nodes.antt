@@ -9,7 +9,7 @@ use Rattle.cx_core.specs.declared.expr.Op2.{Op2}
 use Rattle.cx_core.specs.declared.expr.Op2.TheVariants.{Add, Subtract}
 use Rattle.cx_core.specs.Trees.{CTy, unqualified, CExpr, CForm, load, deref, member, address, convert, unary, binary, and, or, cond, assign, assign_by, step, comma, CPuts, type_of}
 use Rattle.cx_core.specs.Typing.{width_of}
-use Rattle.cr_world.specs.Pointers.{place_moved}
+use Rattle.mem_bytes.specs.Pointers.{place_moved}
 use Rattle.cx_mean.specs.Accesses.{CKind, of_scalar, of_record, kind_of, object_at, field_value, CLoaded, loaded, CStored, stored}
 use Rattle.cx_mean.specs.Initialisers.{part_with, object_cleared}
 use Rattle.cx_mean.specs.Marks.{Marks, no_marks, bits_of_bytes, with_write, at_sequence_point, both}

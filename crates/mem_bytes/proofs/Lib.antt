@@ -1,10 +1,13 @@
 pub mod Beside
 pub mod Bytes
+pub mod Cells
 pub mod Coded
 pub mod Examples
 pub mod Fields
 pub mod Held
 pub mod Numbered
+pub mod OneByOne
+pub mod PointerExamples
 pub mod Reached
 pub mod Slots
 pub mod Windows

@@ -1,6 +1,7 @@
-ghost use Rattle.std.specs.Prelude.{◌≡◌, ◌≤◌, ◌-◌, ◌++◌, length, take, replicate, pos, IfOk};
+ghost use Rattle.std.specs.Prelude.{◌≡◌, ◌≤◌, ◌-◌, ◌++◌, length, take, replicate, pos, IfOk, All};
 ghost use Rattle.std.specs.List.{list_all};
 ghost use Rattle.cr_base.specs.Scalar.{modulus, residue};
+ghost use Rattle.mem_bytes.specs.Calls.{IsCell};
 ghost use Rattle.mem_bytes.specs.Coding.{IsScalar, IsValueOf, scalar_size, cells_of, value_of, number_of, number_value, pointer_value, pointer_bytes, is_set, is_zero, is_same_pointer, is_pointer_of, is_byte_of, are_bytes_of};
 ghost use Rattle.mem_bytes.specs.Memory.{unset_cell};
 
@@ -15,7 +16,8 @@ use cr_base::{Int, Scalar, wrap};
 pub fn encode(scalar: Scalar, value: Value) -> [Cell; 8]
     requires scalar { IsScalar scalar }
     requires value { IsValueOf scalar value }
-    ensures { result ≡ cells_of scalar value ++ replicate (8 - scalar_size scalar) unset_cell }
+    ensures cells { result ≡ cells_of scalar value ++ replicate (8 - scalar_size scalar) unset_cell }
+    ensures held { All IsCell result }
 {
     match value {
         Value::Whole(number) => bit_cells(
@@ -163,7 +165,7 @@ fn is_byte_of(of: Value, index: usize, cell: Cell) -> bool
     }
 }
 
-fn is_same_pointer(one: Value, other: Value) -> bool
+pub(crate) fn is_same_pointer(one: Value, other: Value) -> bool
     ensures { result ≡ is_same_pointer one other }
 {
     match (one, other) {

@@ -1,8 +1,8 @@
-ghost use Rattle.std.specs.Prelude.{◌≡◌, ◌≤◌, ◌<◌, ◌-◌, ◌^◌, ◌++◌, length, replicate, Ok};
+ghost use Rattle.std.specs.Prelude.{◌≡◌, ◌≤◌, ◌<◌, ◌-◌, ◌^◌, ◌++◌, length, replicate, Ok, IfOk, All};
 ghost use Rattle.std.specs.List.{list_all};
 ghost use Rattle.mem_bytes.specs.Access.{and_then};
 ghost use Rattle.mem_bytes.specs.Bits.{bytes_touched, field_of, with_field, bit_cells, field_in, with_field_in};
-ghost use Rattle.mem_bytes.specs.Calls.{IsFieldPlace};
+ghost use Rattle.mem_bytes.specs.Calls.{IsCell, IsFieldPlace};
 ghost use Rattle.mem_bytes.specs.Coding.{is_bits, bits_in, set_in, bits_of, set_of};
 ghost use Rattle.mem_bytes.specs.Memory.{unset_cell};
 
@@ -51,8 +51,9 @@ pub fn with_field_in(bit: u32, width: u32, field: u64, cells: &[Cell]) -> Result
     requires place { IsFieldPlace bit width }
     requires value { field < 2 ^ width }
     requires cells { length cells.now ≡ bytes_touched bit width }
-    ensures { result ≡ and_then (with_field_in bit width field cells.now)
+    ensures cells { result ≡ and_then (with_field_in bit width field cells.now)
         (λ new. Ok (new ++ replicate (8 - length cells.now) unset_cell)) }
+    ensures held { IfOk result (All IsCell) }
 {
     if !are_bits(cells) {
         return Err(Fault::MixedPointer);
@@ -85,7 +86,8 @@ fn with_field(bit: u32, width: u32, field: u64, number: u64) -> u64
 // So many cells of bits, from the bytes of two numbers; those past them are unset.
 pub(crate) fn bit_cells(count: usize, bits: u64, set: u64) -> [Cell; 8]
     requires { count ≤ 8 }
-    ensures { result ≡ bit_cells count bits set ++ replicate (8 - count) unset_cell }
+    ensures cells { result ≡ bit_cells count bits set ++ replicate (8 - count) unset_cell }
+    ensures held { All IsCell result }
 {
     let mut cells = [Cell::UNSET; 8];
     let mut bits_left = bits;

@@ -1,8 +1,8 @@
-ghost use Rattle.std.specs.Prelude.{◌≡◌, ◌+◌, ◌^◌, ◌<◌, ◌≤◌, length, Ok, Err, IfOk, MatchResult};
+ghost use Rattle.std.specs.Prelude.{◌≡◌, ◌+◌, ◌-◌, ◌^◌, ◌<◌, ◌≤◌, ◌++◌, length, take, drop, replicate, Ok, Err, IfOk, MatchResult, All};
 ghost use Rattle.mem_bytes.specs.Access.{part_of, scalar_part_of, block_value, block_with_value, block_field, block_with_field, block_with_fill, block_cell, block_with_cell, block_with_copy};
-ghost use Rattle.mem_bytes.specs.Calls.{Does, IsFieldPlace};
+ghost use Rattle.mem_bytes.specs.Calls.{Does, IsCell, IsFieldPlace};
 ghost use Rattle.mem_bytes.specs.Coding.{IsScalar, IsValueOf};
-ghost use Rattle.mem_bytes.specs.Memory.{size_of, new_block, with_part};
+ghost use Rattle.mem_bytes.specs.Memory.{size_of, byte_cell, new_block, with_part};
 
 use crate::cell::Cell;
 use crate::coding::{decode, encode, scalar_size};
@@ -13,7 +13,8 @@ use cr_base::{Memory, Scalar};
 use std::alloc::Global;
 use std::marker::Model;
 
-// A live block, as a store of lists keeps it. Contracts see it as the block.
+// A live block, as a store of lists keeps it: each of its cells is one that memory may hold. Contracts
+// see it as the block.
 #[derive(Drop)]
 pub(crate) struct Slot {
     align: u64,
@@ -26,6 +27,11 @@ impl Model for Slot {
     ghost Value = { Block };
 
     ghost view = { λ slot. record { align = slot.align; cells = slot.cells.items } };
+
+    ghost use Rattle.std.specs.Prelude.{All};
+    ghost use Rattle.mem_bytes.specs.Calls.{IsCell};
+
+    ghost invariant = { λ slot. All IsCell slot.cells.items };
 }
 
 impl Slot {
@@ -51,9 +57,10 @@ impl Slot {
 
     // The cells of an access.
     pub(crate) fn part(&self, offset: u64, count: u64) -> Result<&[Cell], Fault>
-        ensures { MatchResult result
+        ensures value { MatchResult result
             (λ part. part_of self.now offset count ≡ Ok part.now)
             (λ fault. part_of self.now offset count ≡ Err fault) }
+        ensures held { IfOk result (λ part. All IsCell part.now) }
     {
         match offset.checked_add(count) {
             Some(end) if end <= self.size() => {
@@ -103,7 +110,8 @@ impl Slot {
     }
 
     pub(crate) fn cell(&self, offset: u64) -> Result<Cell, Fault>
-        ensures { result ≡ block_cell self.now offset }
+        ensures value { result ≡ block_cell self.now offset }
+        ensures held { IfOk result IsCell }
     {
         match self.part(offset, 1) {
             Ok(part) => Ok(part[0]),
@@ -113,7 +121,8 @@ impl Slot {
 
     // Writes cells from an offset on.
     fn write(&mut self, offset: u64, cells: &[Cell])
-        requires { offset + length cells.now ≤ size_of self.old }
+        requires within { offset + length cells.now ≤ size_of self.old }
+        requires held { All IsCell cells.now }
         ensures { self.new ≡ with_part self.old offset cells.now }
     {
         let held = self.cells.as_mut_slice();
@@ -156,16 +165,12 @@ impl Slot {
     {
         self.part(offset, count)?;
         let start = offset as usize;
-        let end = start + count as usize;
-        let cell = Cell::Bits {
-            value: byte,
-            set: 255,
-        };
-        self.cells.as_mut_slice()[start..end].fill(cell);
+        set_bytes(&mut self.cells, start, start + count as usize, byte);
         Ok(())
     }
 
     pub(crate) fn put_cell(&mut self, offset: u64, cell: Cell) -> Result<(), Fault>
+        requires { IsCell cell }
         ensures { Does result self.old self.new (block_with_cell self.old offset cell) }
     {
         self.part(offset, 1)?;
@@ -201,4 +206,18 @@ impl Slot {
         self.write(to, cells);
         Ok(())
     }
+}
+
+// Sets the cells from one index to another to a byte.
+fn set_bytes(cells: &mut Vec<Cell>, start: usize, end: usize, byte: u8)
+    requires order { start ≤ end }
+    requires within { end ≤ length cells.old.items }
+    ensures { cells.new.items ≡ take start cells.old.items
+        ++ replicate (end - start) (byte_cell byte) ++ drop end cells.old.items }
+{
+    let cell = Cell::Bits {
+        value: byte,
+        set: 255,
+    };
+    cells.as_mut_slice()[start..end].fill(cell);
 }

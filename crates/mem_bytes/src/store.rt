@@ -128,13 +128,14 @@ pub trait Store {
             (after_fill (memory self.old) at byte count) }
         ensures limit { limit self.new ≡ limit self.old };
 
-    /// The cell at a place, as it is: unset or of a pointer too.
+    /// The cell at a place, as it is: unset or of a pointer too. It is one that `put_cell` takes.
     ///
     /// # Errors
     ///
     /// `Dead` or `Outside`.
     fn cell(&self, at: Ptr) -> Result<Cell, Fault>
-        ensures { result ≡ cell_at (memory self.now) at };
+        ensures value { result ≡ cell_at (memory self.now) at }
+        ensures held { IfOk result IsCell };
 
     /// Sets the cell at a place. A pointer's byte is one of the eight of a pointer that isn't null.
     ///

@@ -1,5 +1,6 @@
 use Rattle.std.proofs.Common.{◌+◌, ◌-◌, arith}
 use Rattle.mem_bytes.proofs.Bytes.{cells_step, left_step}
+use Rattle.mem_bytes.proofs.Cells.{bit_cells_are}
 use Rattle.mem_bytes.proofs.field.bit_cells.Goals as goal
 
 pub loop-index-preserved : goal.loop-index-preserved
@@ -11,3 +12,8 @@ loop-index-preserved c =
       bits_left = left_step _ _ index kept.bits_left;
       set_left = left_step _ _ index kept.set_left;
     }
+
+pub returns-clause-held : goal.returns-clause-held
+returns-clause-held c =
+    let kept = c.loop-index.invariant in
+    bit_cells_are c.loop-index.index c.args.bits c.args.set c.loop-index.cells (8 - c.loop-index.index) kept.written
