@@ -15,9 +15,13 @@ pub mod ExampleUndefinedCalls
 pub mod ExampleUnits
 pub mod Finished
 pub mod Functions
+pub mod Kept
+pub mod KeptNodes
+pub mod KeptSteps
 pub mod Programs
 pub mod Quiet
 pub mod Reached
 pub mod Statics
 pub mod Trails
+pub mod Unwritten
 pub mod Values
