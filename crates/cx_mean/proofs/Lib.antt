@@ -9,6 +9,7 @@ pub mod ExampleRecords
 pub mod ExampleRows
 pub mod ExampleStatements
 pub mod ExampleSteps
+pub mod ExampleStuck
 pub mod ExampleTables
 pub mod ExampleUndefined
 pub mod ExampleUndefinedCalls
