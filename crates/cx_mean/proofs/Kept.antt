@@ -31,15 +31,19 @@ neither_second false other is = is
 abbrev meets : Range → Range → Bool
 meets range one = list_any (overlap one) (range ∷ [])
 
-avoids_first : (first second : List Range) (range : Range) → Avoids (first ++ second) range → Avoids first range
+pub avoids_first : (first second : List Range) (range : Range) → Avoids (first ++ second) range → Avoids first range
 avoids_first first second range is =
     neither_first (any_overlap first (range ∷ [])) (any_overlap second (range ∷ []))
     (sym (list_any-append (meets range) first second) ∙ is)
 
-avoids_second : (first second : List Range) (range : Range) → Avoids (first ++ second) range → Avoids second range
+pub avoids_second : (first second : List Range) (range : Range) → Avoids (first ++ second) range → Avoids second range
 avoids_second first second range is =
     neither_second (any_overlap first (range ∷ [])) (any_overlap second (range ∷ []))
     (sym (list_any-append (meets range) first second) ∙ is)
+
+-- what avoids some ranges avoids others
+abbrev pub Covers : List Range → List Range → Type 0
+Covers large small = (range : Range) → Avoids large range → Avoids small range
 
 only_one : (test : Bool) → (test || false) ≡ false → test ≡ false
 only_one true is = absurd (cc)

@@ -24,7 +24,7 @@ use Rattle.cx_mean.specs.Operands.{CWhy, breaks, stuck, needed, accessed, by_poi
 use Rattle.cx_mean.specs.Settings.{CSetting, scalar_in_type, extent_in, types_in_setting}
 use Rattle.cx_mean.specs.Unwritten.{KeepsBeside}
 use Rattle.cx_mean.specs.Values.{is_of_kind, value_of_kind, number_in, converted_value, converted_scalar, to_scalar}
-use Rattle.cx_mean.proofs.Kept.{keeps_after, keeps_write, keeps_field, held_written}
+use Rattle.cx_mean.proofs.Kept.{Covers, avoids_first, keeps_after, keeps_write, keeps_field, held_written}
 use Rattle.mem_bytes.proofs.Held.{held_later}
 use Rattle.mem_bytes.proofs.Written.{put_writes}
 use Rattle.mem_bytes.proofs.Reached.{and_then_ok, changed, part_ok}
@@ -179,21 +179,23 @@ IsHeldValue (designates to) = Unit {0}
 IsHeldValue (designates_bits at bit width) = Unit {0}
 IsHeldValue missing = Unit {0}
 
--- what is so behind a piece of an evaluation that began in an earlier memory
-pub record KeptSince (before : Blocks) (value : CValue) (marks : Marks) (after : Blocks) : Type 0 where
+-- what is so behind a piece of an evaluation that began in an earlier memory, when some ranges had been written
+pub record KeptSince (base : List Range) (before : Blocks) (value : CValue) (marks : Marks) (after : Blocks) : Type 0 where
   pub stays : KeepsBeside marks.writes before after
+  pub covers : Covers marks.writes base
   pub held : HoldsCells after
   pub value_held : IsHeldValue value
 
 -- the same before it gives a value
-pub record Kept (before : Blocks) (marks : Marks) (now : Blocks) : Type 0 where
+pub record Kept (base : List Range) (before : Blocks) (marks : Marks) (now : Blocks) : Type 0 where
   pub stays : KeepsBeside marks.writes before now
+  pub covers : Covers marks.writes base
   pub held : HoldsCells now
 
 -- ---- loads
 
-abbrev Loaded : Blocks → Blocks → CLoaded → Type 0
-Loaded before now one = KeptSince before one.value one.marks now
+abbrev Loaded : List Range → Blocks → Blocks → CLoaded → Type 0
+Loaded base before now one = KeptSince base before one.value one.marks now
 
 -- cells of a memory that holds such are such
 part_held : (block : Block) (offset size align : ℕ) → All IsHeld block.cells → IfGiven (All IsHeld) (record_part_of block offset size align)
@@ -214,61 +216,62 @@ slot_held (Some block) offset size align held = access_held (record_part_of bloc
 record_held : (blocks : Blocks) (at : Ptr) (size align : ℕ) → HoldsCells blocks → IfGiven (All IsHeld) (accessed (record_at blocks at size align))
 record_held blocks at size align held = slot_held (live_block blocks at.block) at.offset size align (λ block live. held at.block block live)
 
-kind_loaded : (before blocks : Blocks) (at : Ptr) (marks : Marks) (kind : CKind) → Kept before marks blocks → IfGiven (Loaded before blocks) (loaded_kind blocks at marks kind)
-kind_loaded before blocks at marks (of_scalar kind) kept =
-    given_then (Loaded before blocks) (accessed (part_at blocks at (scalar_size kind))) _ (λ _.
-    given_then (Loaded before blocks) (sequenced_after marks (bits_of_bytes at (scalar_size kind))) _ (λ range.
-    given_then (Loaded before blocks) (accessed (value_at blocks at kind)) _ (λ value.
-    record { stays = kept.stays; held = kept.held; value_held = tt })))
-kind_loaded before blocks at marks (of_record laid) kept =
-    given_then (Loaded before blocks) (accessed (part_at blocks at laid.size)) _ (λ _.
-    given_then (Loaded before blocks) (sequenced_after marks (bits_of_bytes at laid.size)) _ (λ range.
-    given_and (All IsHeld) (Loaded before blocks) (accessed (record_at blocks at laid.size laid.align)) _ (record_held blocks at laid.size laid.align kept.held) (λ found are.
-    record { stays = kept.stays; held = kept.held; value_held = are })))
+kind_loaded : (base : List Range) (before blocks : Blocks) (at : Ptr) (marks : Marks) (kind : CKind) → Kept base before marks blocks → IfGiven (Loaded base before blocks) (loaded_kind blocks at marks kind)
+kind_loaded base before blocks at marks (of_scalar kind) kept =
+    given_then (Loaded base before blocks) (accessed (part_at blocks at (scalar_size kind))) _ (λ _.
+    given_then (Loaded base before blocks) (sequenced_after marks (bits_of_bytes at (scalar_size kind))) _ (λ range.
+    given_then (Loaded base before blocks) (accessed (value_at blocks at kind)) _ (λ value.
+    record { stays = kept.stays; covers = kept.covers; held = kept.held; value_held = tt })))
+kind_loaded base before blocks at marks (of_record laid) kept =
+    given_then (Loaded base before blocks) (accessed (part_at blocks at laid.size)) _ (λ _.
+    given_then (Loaded base before blocks) (sequenced_after marks (bits_of_bytes at laid.size)) _ (λ range.
+    given_and (All IsHeld) (Loaded base before blocks) (accessed (record_at blocks at laid.size laid.align)) _ (record_held blocks at laid.size laid.align kept.held) (λ found are.
+    record { stays = kept.stays; covers = kept.covers; held = kept.held; value_held = are })))
 
-from_loaded : (setting : CSetting) (before blocks : Blocks) (type : CTy) (marks : Marks) (place : Result Value CWhy) → Kept before marks blocks → IfGiven (Loaded before blocks) (loaded_from setting blocks type marks place)
-from_loaded setting before blocks type marks place kept =
-    given_then (Loaded before blocks) (kind_of setting type) _ (λ kind.
-    given_then (Loaded before blocks) place _ (λ to.
-    given_then (Loaded before blocks) (object_at to) _ (λ at. kind_loaded before blocks at marks kind kept)))
+from_loaded : (setting : CSetting) (base : List Range) (before blocks : Blocks) (type : CTy) (marks : Marks) (place : Result Value CWhy) → Kept base before marks blocks → IfGiven (Loaded base before blocks) (loaded_from setting blocks type marks place)
+from_loaded setting base before blocks type marks place kept =
+    given_then (Loaded base before blocks) (kind_of setting type) _ (λ kind.
+    given_then (Loaded base before blocks) place _ (λ to.
+    given_then (Loaded base before blocks) (object_at to) _ (λ at. kind_loaded base before blocks at marks kind kept)))
 
-pub load_keeps : (setting : CSetting) (frame : Frame) (before blocks : Blocks) (type : CTy) (place : CValue) (marks : Marks) → Kept before marks blocks →
-    IfGiven (Loaded before blocks) (loaded setting frame blocks type place marks)
-load_keeps setting frame before blocks type (designates_bits at bit width) marks kept =
-    given_then (Loaded before blocks) (needed (scalar_in_type setting type)) _ (λ kind.
-    given_field (Loaded before blocks) bit width _ (λ _.
-    given_then (Loaded before blocks) (accessed (part_at blocks at (bytes_touched bit width))) _ (λ _.
-    given_then (Loaded before blocks) (sequenced_after marks (bits_of_field at bit width)) _ (λ range.
-    given_then (Loaded before blocks) (accessed (field_at blocks at bit width)) _ (λ bits.
-    given_then (Loaded before blocks) (field_value kind width bits) _ (λ value.
-    record { stays = kept.stays; held = kept.held; value_held = tt }))))))
-load_keeps setting frame before blocks type (scalar value) marks kept = from_loaded setting before blocks type marks (place_in frame (scalar value)) kept
-load_keeps setting frame before blocks type (cells held from) marks kept = from_loaded setting before blocks type marks (place_in frame (cells held from)) kept
-load_keeps setting frame before blocks type (names number) marks kept = from_loaded setting before blocks type marks (place_in frame (names number)) kept
-load_keeps setting frame before blocks type (designates to) marks kept = from_loaded setting before blocks type marks (place_in frame (designates to)) kept
-load_keeps setting frame before blocks type missing marks kept = from_loaded setting before blocks type marks (place_in frame missing) kept
+pub load_keeps : (setting : CSetting) (frame : Frame) (base : List Range) (before blocks : Blocks) (type : CTy) (place : CValue) (marks : Marks) → Kept base before marks blocks →
+    IfGiven (Loaded base before blocks) (loaded setting frame blocks type place marks)
+load_keeps setting frame base before blocks type (designates_bits at bit width) marks kept =
+    given_then (Loaded base before blocks) (needed (scalar_in_type setting type)) _ (λ kind.
+    given_field (Loaded base before blocks) bit width _ (λ _.
+    given_then (Loaded base before blocks) (accessed (part_at blocks at (bytes_touched bit width))) _ (λ _.
+    given_then (Loaded base before blocks) (sequenced_after marks (bits_of_field at bit width)) _ (λ range.
+    given_then (Loaded base before blocks) (accessed (field_at blocks at bit width)) _ (λ bits.
+    given_then (Loaded base before blocks) (field_value kind width bits) _ (λ value.
+    record { stays = kept.stays; covers = kept.covers; held = kept.held; value_held = tt }))))))
+load_keeps setting frame base before blocks type (scalar value) marks kept = from_loaded setting base before blocks type marks (place_in frame (scalar value)) kept
+load_keeps setting frame base before blocks type (cells held from) marks kept = from_loaded setting base before blocks type marks (place_in frame (cells held from)) kept
+load_keeps setting frame base before blocks type (names number) marks kept = from_loaded setting base before blocks type marks (place_in frame (names number)) kept
+load_keeps setting frame base before blocks type (designates to) marks kept = from_loaded setting base before blocks type marks (place_in frame (designates to)) kept
+load_keeps setting frame base before blocks type missing marks kept = from_loaded setting base before blocks type marks (place_in frame missing) kept
 
 -- ---- stores
 
-abbrev Stored : Blocks → CStored → Type 0
-Stored before one = KeptSince before one.value one.marks one.blocks
+abbrev Stored : List Range → Blocks → CStored → Type 0
+Stored base before one = KeptSince base before one.value one.marks one.blocks
 
 -- a write of a range behind what was kept
-then_written : (before now after : Blocks) (marks : Marks) (range bits : Range) (value : CValue) → Kept before marks now → range ≡ bits → KeepsBeside (bits ∷ []) now after → HoldsCells after → IsHeldValue value →
-    KeptSince before value (with_write range marks) after
-then_written before now after marks range bits value kept here stays held is = record {
+then_written : (base : List Range) (before now after : Blocks) (marks : Marks) (range bits : Range) (value : CValue) → Kept base before marks now → range ≡ bits → KeepsBeside (bits ∷ []) now after → HoldsCells after → IsHeldValue value →
+    KeptSince base before value (with_write range marks) after
+then_written base before now after marks range bits value kept here stays held is = record {
   stays = keeps_after marks.writes (range ∷ []) before now after kept.stays (subst (λ (one : Range). KeepsBeside (one ∷ []) now after) (sym here) stays);
+  covers = λ other avoids. kept.covers other (avoids_first marks.writes (range ∷ []) other avoids);
   held = held;
   value_held = is;
 }
 
-scalar_stored : (before blocks : Blocks) (at : Ptr) (marks : Marks) (new : CValue) (kind : Scalar) → IsScalar kind → Kept before marks blocks → IfGiven (Stored before) (stored_kind blocks at marks new (of_scalar kind))
-scalar_stored before blocks at marks new kind is_scalar kept =
-    given_and (λ (value : Value). is_of_kind kind value ≡ true) (Stored before) (value_of_kind kind new) _ (given_kind kind new) (λ value is.
-    given_then (Stored before) (accessed (part_at blocks at (scalar_size kind))) _ (λ _.
-    given_and (λ (range : Range). range ≡ bits_of_bytes at (scalar_size kind)) (Stored before) (sequenced_after marks (bits_of_bytes at (scalar_size kind))) _ (given_sequenced marks (bits_of_bytes at (scalar_size kind))) (λ range here.
-    given_and (λ (after : Blocks). after_put blocks at kind value ≡ Ok after) (Stored before) (accessed (after_put blocks at kind value)) _ (given_access (after_put blocks at kind value)) (λ after made.
-    then_written before blocks after marks range (bits_of_bytes at (scalar_size kind)) (scalar value) kept here
+scalar_stored : (base : List Range) (before blocks : Blocks) (at : Ptr) (marks : Marks) (new : CValue) (kind : Scalar) → IsScalar kind → Kept base before marks blocks → IfGiven (Stored base before) (stored_kind blocks at marks new (of_scalar kind))
+scalar_stored base before blocks at marks new kind is_scalar kept =
+    given_and (λ (value : Value). is_of_kind kind value ≡ true) (Stored base before) (value_of_kind kind new) _ (given_kind kind new) (λ value is.
+    given_then (Stored base before) (accessed (part_at blocks at (scalar_size kind))) _ (λ _.
+    given_and (λ (range : Range). range ≡ bits_of_bytes at (scalar_size kind)) (Stored base before) (sequenced_after marks (bits_of_bytes at (scalar_size kind))) _ (given_sequenced marks (bits_of_bytes at (scalar_size kind))) (λ range here.
+    given_and (λ (after : Blocks). after_put blocks at kind value ≡ Ok after) (Stored base before) (accessed (after_put blocks at kind value)) _ (given_access (after_put blocks at kind value)) (λ after made.
+    then_written base before blocks after marks range (bits_of_bytes at (scalar_size kind)) (scalar value) kept here
     (keeps_write blocks after at (scalar_size kind) (put_writes blocks after at kind value is_scalar (kind_value kind value is) made))
     (held_later blocks after kept.held (Later.put at kind value Later.now is_scalar (kind_value kind value is) made))
     tt))))
@@ -308,31 +311,31 @@ record_written blocks after at align held before are made =
     let writes = record_writes blocks after at align held made in
     held_written blocks after at (length held) writes.0 before (subst (All IsHeld) (sym writes.1) are)
 
-record_stored : (before blocks : Blocks) (at : Ptr) (marks : Marks) (new : CValue) (laid : Laid) → IsHeldValue new → Kept before marks blocks → IfGiven (Stored before) (stored_kind blocks at marks new (of_record laid))
-record_stored before blocks at marks new laid is kept =
-    given_and (λ (found : List Cell). All IsHeld found × (length found ≡ laid.size)) (Stored before) (cells_in laid.size new) _ (given_cells laid.size new is) (λ held are.
-    given_then (Stored before) (accessed (part_at blocks at laid.size)) _ (λ _.
-    given_and (λ (range : Range). range ≡ bits_of_bytes at laid.size) (Stored before) (sequenced_after marks (bits_of_bytes at laid.size)) _ (given_sequenced marks (bits_of_bytes at laid.size)) (λ range here.
-    given_then (Stored before) (accessed (record_at blocks at laid.size laid.align)) _ (λ _.
-    given_then (Stored before) (exact_or_apart laid.size at (source_of new)) _ (λ _.
-    given_and (λ (after : Blocks). after_put_record blocks at laid.align held ≡ Ok after) (Stored before) (accessed (after_put_record blocks at laid.align held)) _ (given_access (after_put_record blocks at laid.align held)) (λ after made.
-    then_written before blocks after marks range (bits_of_bytes at laid.size) (cells held None) kept here
+record_stored : (base : List Range) (before blocks : Blocks) (at : Ptr) (marks : Marks) (new : CValue) (laid : Laid) → IsHeldValue new → Kept base before marks blocks → IfGiven (Stored base before) (stored_kind blocks at marks new (of_record laid))
+record_stored base before blocks at marks new laid is kept =
+    given_and (λ (found : List Cell). All IsHeld found × (length found ≡ laid.size)) (Stored base before) (cells_in laid.size new) _ (given_cells laid.size new is) (λ held are.
+    given_then (Stored base before) (accessed (part_at blocks at laid.size)) _ (λ _.
+    given_and (λ (range : Range). range ≡ bits_of_bytes at laid.size) (Stored base before) (sequenced_after marks (bits_of_bytes at laid.size)) _ (given_sequenced marks (bits_of_bytes at laid.size)) (λ range here.
+    given_then (Stored base before) (accessed (record_at blocks at laid.size laid.align)) _ (λ _.
+    given_then (Stored base before) (exact_or_apart laid.size at (source_of new)) _ (λ _.
+    given_and (λ (after : Blocks). after_put_record blocks at laid.align held ≡ Ok after) (Stored base before) (accessed (after_put_record blocks at laid.align held)) _ (given_access (after_put_record blocks at laid.align held)) (λ after made.
+    then_written base before blocks after marks range (bits_of_bytes at laid.size) (cells held None) kept here
     (keeps_write blocks after at laid.size (subst (λ (size : ℕ). Writes blocks at size after) are.1 (record_writes blocks after at laid.align held made).0))
     (record_written blocks after at laid.align held kept.held are.0 made)
     are.0))))))
 
-bits_stored : (before blocks : Blocks) (at : Ptr) (bit width : ℕ) (marks : Marks) (new : CValue) (kind : Scalar) → Kept before marks blocks → IfGiven (Stored before) (stored_bits blocks at bit width marks new kind)
-bits_stored before blocks at bit width marks new kind kept =
-    given_field (Stored before) bit width _ (λ place.
-    given_then (Stored before) (value_of_kind kind new) _ (λ one.
-    given_then (Stored before) (number_in one) _ (λ number.
-    given_then (Stored before) (accessed (part_at blocks at (bytes_touched bit width))) _ (λ _.
-    given_and (λ (range : Range). range ≡ bits_of_field at bit width) (Stored before) (sequenced_after marks (bits_of_field at bit width)) _ (given_sequenced marks (bits_of_field at bit width)) (λ range here.
+bits_stored : (base : List Range) (before blocks : Blocks) (at : Ptr) (bit width : ℕ) (marks : Marks) (new : CValue) (kind : Scalar) → Kept base before marks blocks → IfGiven (Stored base before) (stored_bits blocks at bit width marks new kind)
+bits_stored base before blocks at bit width marks new kind kept =
+    given_field (Stored base before) bit width _ (λ place.
+    given_then (Stored base before) (value_of_kind kind new) _ (λ one.
+    given_then (Stored base before) (number_in one) _ (λ number.
+    given_then (Stored base before) (accessed (part_at blocks at (bytes_touched bit width))) _ (λ _.
+    given_and (λ (range : Range). range ≡ bits_of_field at bit width) (Stored base before) (sequenced_after marks (bits_of_field at bit width)) _ (given_sequenced marks (bits_of_field at bit width)) (λ range here.
     let bits = residue number (2 ^ width) in
     let below : bits < 2 ^ width = residue_below number (2 ^ width) (pow_pos width) in
-    given_and (λ (after : Blocks). after_put_bits blocks at bit width bits ≡ Ok after) (Stored before) (accessed (after_put_bits blocks at bit width bits)) _ (given_access (after_put_bits blocks at bit width bits)) (λ after made.
-    given_then (Stored before) (field_value kind width bits) _ (λ value.
-    then_written before blocks after marks range (bits_of_field at bit width) (scalar value) kept here
+    given_and (λ (after : Blocks). after_put_bits blocks at bit width bits ≡ Ok after) (Stored base before) (accessed (after_put_bits blocks at bit width bits)) _ (given_access (after_put_bits blocks at bit width bits)) (λ after made.
+    given_then (Stored base before) (field_value kind width bits) _ (λ value.
+    then_written base before blocks after marks range (bits_of_field at bit width) (scalar value) kept here
     (keeps_field blocks after at bit width bits kept.held place below made)
     (held_later blocks after kept.held (Later.put_bits at bit width bits Later.now place below made))
     tt)))))))
@@ -342,9 +345,9 @@ abbrev IsKind : CKind → Type 0
 IsKind (of_scalar kind) = IsScalar kind
 IsKind (of_record laid) = Unit {0}
 
-kind_stored : (before blocks : Blocks) (at : Ptr) (marks : Marks) (new : CValue) (kind : CKind) → IsKind kind → IsHeldValue new → Kept before marks blocks → IfGiven (Stored before) (stored_kind blocks at marks new kind)
-kind_stored before blocks at marks new (of_scalar kind) is new_held kept = scalar_stored before blocks at marks new kind is kept
-kind_stored before blocks at marks new (of_record laid) is new_held kept = record_stored before blocks at marks new laid new_held kept
+kind_stored : (base : List Range) (before blocks : Blocks) (at : Ptr) (marks : Marks) (new : CValue) (kind : CKind) → IsKind kind → IsHeldValue new → Kept base before marks blocks → IfGiven (Stored base before) (stored_kind blocks at marks new kind)
+kind_stored base before blocks at marks new (of_scalar kind) is new_held kept = scalar_stored base before blocks at marks new kind is kept
+kind_stored base before blocks at marks new (of_record laid) is new_held kept = record_stored base before blocks at marks new laid new_held kept
 
 scalar_kind_is : (found : Option Scalar) → IfKind found → IfGiven IsKind (scalar_kind found)
 scalar_kind_is None is = tt
@@ -363,21 +366,21 @@ kind_by_is (array element length) found laid is = tt
 kind_by_is (record_type number) found laid is = record_kind_is laid
 kind_by_is (function result params variadic) found laid is = tt
 
-from_stored : (setting : CSetting) (before blocks : Blocks) (type : CTy) (new : CValue) (marks : Marks) (place : Result Value CWhy) → IsHeldValue new → Kept before marks blocks → IfGiven (Stored before) (stored_to setting blocks type new marks place)
-from_stored setting before blocks type new marks place is kept =
-    given_and IsKind (Stored before) (kind_of setting type) _ (kind_by_is (form_of_type type) (scalar_in_type setting type) (extent_in setting type) (form_is_scalar (types_in_setting setting) (form_of_type type))) (λ kind is_kind.
-    given_then (Stored before) place _ (λ to.
-    given_then (Stored before) (object_at to) _ (λ at. kind_stored before blocks at marks new kind is_kind is kept)))
+from_stored : (setting : CSetting) (base : List Range) (before blocks : Blocks) (type : CTy) (new : CValue) (marks : Marks) (place : Result Value CWhy) → IsHeldValue new → Kept base before marks blocks → IfGiven (Stored base before) (stored_to setting blocks type new marks place)
+from_stored setting base before blocks type new marks place is kept =
+    given_and IsKind (Stored base before) (kind_of setting type) _ (kind_by_is (form_of_type type) (scalar_in_type setting type) (extent_in setting type) (form_is_scalar (types_in_setting setting) (form_of_type type))) (λ kind is_kind.
+    given_then (Stored base before) place _ (λ to.
+    given_then (Stored base before) (object_at to) _ (λ at. kind_stored base before blocks at marks new kind is_kind is kept)))
 
-pub store_keeps : (setting : CSetting) (frame : Frame) (before blocks : Blocks) (type : CTy) (place new : CValue) (marks : Marks) → IsHeldValue new → Kept before marks blocks →
-    IfGiven (Stored before) (stored setting frame blocks type place new marks)
-store_keeps setting frame before blocks type (designates_bits at bit width) new marks is kept =
-    given_then (Stored before) (needed (scalar_in_type setting type)) _ (λ kind. bits_stored before blocks at bit width marks new kind kept)
-store_keeps setting frame before blocks type (scalar value) new marks is kept = from_stored setting before blocks type new marks (place_in frame (scalar value)) is kept
-store_keeps setting frame before blocks type (cells held from) new marks is kept = from_stored setting before blocks type new marks (place_in frame (cells held from)) is kept
-store_keeps setting frame before blocks type (names number) new marks is kept = from_stored setting before blocks type new marks (place_in frame (names number)) is kept
-store_keeps setting frame before blocks type (designates to) new marks is kept = from_stored setting before blocks type new marks (place_in frame (designates to)) is kept
-store_keeps setting frame before blocks type missing new marks is kept = from_stored setting before blocks type new marks (place_in frame missing) is kept
+pub store_keeps : (setting : CSetting) (frame : Frame) (base : List Range) (before blocks : Blocks) (type : CTy) (place new : CValue) (marks : Marks) → IsHeldValue new → Kept base before marks blocks →
+    IfGiven (Stored base before) (stored setting frame blocks type place new marks)
+store_keeps setting frame base before blocks type (designates_bits at bit width) new marks is kept =
+    given_then (Stored base before) (needed (scalar_in_type setting type)) _ (λ kind. bits_stored base before blocks at bit width marks new kind kept)
+store_keeps setting frame base before blocks type (scalar value) new marks is kept = from_stored setting base before blocks type new marks (place_in frame (scalar value)) is kept
+store_keeps setting frame base before blocks type (cells held from) new marks is kept = from_stored setting base before blocks type new marks (place_in frame (cells held from)) is kept
+store_keeps setting frame base before blocks type (names number) new marks is kept = from_stored setting base before blocks type new marks (place_in frame (names number)) is kept
+store_keeps setting frame base before blocks type (designates to) new marks is kept = from_stored setting base before blocks type new marks (place_in frame (designates to)) is kept
+store_keeps setting frame base before blocks type missing new marks is kept = from_stored setting base before blocks type new marks (place_in frame missing) is kept
 
 -- ---- values that are no loads
 

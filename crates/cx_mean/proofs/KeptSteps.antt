@@ -14,7 +14,7 @@ use Rattle.cx_mean.specs.Settings.{CSetting, extent_in}
 use Rattle.cx_mean.specs.Unwritten.{KeepsBeside}
 use Rattle.cx_mean.specs.Values.{unary_value, binary_value, converted_value}
 use Rattle.cx_mean.specs.Work.{CUpdate}
-use Rattle.cx_mean.proofs.Kept.{keeps_write, held_written}
+use Rattle.cx_mean.proofs.Kept.{Covers, keeps_write, held_written}
 use Rattle.cx_mean.proofs.KeptNodes.{IfGiven, given_and, given_then, given_else, given_sized, IsHeldValue, KeptSince, Kept, load_keeps, store_keeps, member_held, pointed_held, converted_held, held_scalar}
 use Rattle.mem_bytes.proofs.Windows.{bytes_all}
 use Rattle.mem_bytes.specs.Access.{and_then}
@@ -32,7 +32,7 @@ abbrev pub writes_in : List COperand → List Range
 writes_in [] = []
 writes_in (first ∷ others) = first.marks.writes ++ writes_in others
 
-united_writes : (operands : List COperand) → IfGiven (λ (all : Marks). all.writes ≡ writes_in operands) (united_operands operands)
+pub united_writes : (operands : List COperand) → IfGiven (λ (all : Marks). all.writes ≡ writes_in operands) (united_operands operands)
 united_writes [] = refl
 united_writes (first ∷ others) =
     given_and (λ (rest : Marks). rest.writes ≡ writes_in others) (λ (all : Marks). all.writes ≡ first.marks.writes ++ writes_in others) (united_operands others) _ (united_writes others)
@@ -40,118 +40,120 @@ united_writes (first ∷ others) =
     (ap (λ (ranges : List Range). first.marks.writes ++ ranges) same))
 
 -- the operands of a node after their evaluation
-pub record Operands (before : Blocks) (operands : List COperand) (now : Blocks) : Type 0 where
+pub record Operands (base : List Range) (before : Blocks) (operands : List COperand) (now : Blocks) : Type 0 where
   pub stays : KeepsBeside (writes_in operands) before now
+  pub covers : Covers (writes_in operands) base
   pub held : HoldsCells now
 
-kept_united : (before now : Blocks) (operands : List COperand) (marks : Marks) → Operands before operands now → marks.writes ≡ writes_in operands → Kept before marks now
-kept_united before now operands marks are same = record {
+pub kept_united : (base : List Range) (before now : Blocks) (operands : List COperand) (marks : Marks) → Operands base before operands now → marks.writes ≡ writes_in operands → Kept base before marks now
+kept_united base before now operands marks are same = record {
   stays = subst (λ (ranges : List Range). KeepsBeside ranges before now) (sym same) are.stays;
+  covers = subst (λ (ranges : List Range). Covers ranges base) (sym same) are.covers;
   held = are.held;
 }
 
 -- ---- nodes that need all their operands
 
-abbrev pub Done : Blocks → CDone → Type 0
-Done before one = KeptSince before one.value one.marks one.blocks
+abbrev pub Done : List Range → Blocks → CDone → Type 0
+Done base before one = KeptSince base before one.value one.marks one.blocks
 
 -- a step that leaves memory as it is
-given_value : (before now : Blocks) (marks : Marks) (outcome : Result CValue CWhy) → Kept before marks now → IfGiven IsHeldValue outcome →
-    IfGiven (Done before) (and_then outcome (λ value. Ok (record { value = value; marks = marks; blocks = now })))
-given_value before now marks (Ok value) kept is = record { stays = kept.stays; held = kept.held; value_held = is }
-given_value before now marks (Err why) kept is = tt
+given_value : (base : List Range) (before now : Blocks) (marks : Marks) (outcome : Result CValue CWhy) → Kept base before marks now → IfGiven IsHeldValue outcome →
+    IfGiven (Done base before) (and_then outcome (λ value. Ok (record { value = value; marks = marks; blocks = now })))
+given_value base before now marks (Ok value) kept is = record { stays = kept.stays; covers = kept.covers; held = kept.held; value_held = is }
+given_value base before now marks (Err why) kept is = tt
 
-given_load : (before now : Blocks) (outcome : Result CLoaded CWhy) → IfGiven (λ (one : CLoaded). KeptSince before one.value one.marks now) outcome →
-    IfGiven (Done before) (and_then outcome (λ one. Ok (record { value = one.value; marks = one.marks; blocks = now })))
-given_load before now (Ok one) is = is
-given_load before now (Err why) is = tt
+given_load : (base : List Range) (before now : Blocks) (outcome : Result CLoaded CWhy) → IfGiven (λ (one : CLoaded). KeptSince base before one.value one.marks now) outcome →
+    IfGiven (Done base before) (and_then outcome (λ one. Ok (record { value = one.value; marks = one.marks; blocks = now })))
+given_load base before now (Ok one) is = is
+given_load base before now (Err why) is = tt
 
-given_store : (before : Blocks) (outcome : Result CStored CWhy) → IfGiven (λ (one : CStored). KeptSince before one.value one.marks one.blocks) outcome →
-    IfGiven (Done before) (and_then outcome (λ one. Ok (record { value = one.value; marks = one.marks; blocks = one.blocks })))
-given_store before (Ok one) is = is
-given_store before (Err why) is = tt
+pub given_store : (base : List Range) (before : Blocks) (outcome : Result CStored CWhy) → IfGiven (λ (one : CStored). KeptSince base before one.value one.marks one.blocks) outcome →
+    IfGiven (Done base before) (and_then outcome (λ one. Ok (record { value = one.value; marks = one.marks; blocks = one.blocks })))
+given_store base before (Ok one) is = is
+given_store base before (Err why) is = tt
 
-unary_keeps : (setting : CSetting) (type : CTy) (form : CForm) (frame : Frame) (before now : Blocks) (marks : Marks) (one : COperand) → Kept before marks now → IsHeldValue one.value →
-    IfGiven (Done before) (unary_done setting type form frame marks now one)
-unary_keeps setting type (load from) frame before now marks one kept is = given_load before now _ (load_keeps setting frame before now type one.value marks kept)
-unary_keeps setting type (deref from) frame before now marks one kept is =
-    given_value before now marks (deref_value one.value) kept (given_then IsHeldValue (scalar_value one.value) _ pointed_held)
-unary_keeps setting type (member of spot) frame before now marks one kept is =
-    given_value before now marks (member_value setting frame now type spot one.value) kept (member_held setting frame now type spot one.value is)
-unary_keeps setting type (address of) frame before now marks one kept is =
-    given_value before now marks (address_value frame one.value) kept (held_scalar (place_in frame one.value))
-unary_keeps setting type (convert value) frame before now marks one kept is =
-    given_value before now marks (converted_value setting type now one.value) kept (converted_held setting type now one.value)
-unary_keeps setting type (unary op value) frame before now marks one kept is =
-    given_value before now marks _ kept (given_then IsHeldValue (scalar_value one.value) _ (λ given. held_scalar (unary_value setting op type now given)))
-unary_keeps setting type (whole number) frame before now marks one kept is = tt
-unary_keeps setting type null frame before now marks one kept is = tt
-unary_keeps setting type (object number) frame before now marks one kept is = tt
-unary_keeps setting type (code number) frame before now marks one kept is = tt
-unary_keeps setting type (binary op left right) frame before now marks one kept is = tt
-unary_keeps setting type (and left right) frame before now marks one kept is = tt
-unary_keeps setting type (or left right) frame before now marks one kept is = tt
-unary_keeps setting type (cond test first second) frame before now marks one kept is = tt
-unary_keeps setting type (assign target value) frame before now marks one kept is = tt
-unary_keeps setting type (assign_by op computes target value) frame before now marks one kept is = tt
-unary_keeps setting type (step up post on) frame before now marks one kept is = tt
-unary_keeps setting type (call callee args) frame before now marks one kept is = tt
-unary_keeps setting type (call_by callee args) frame before now marks one kept is = tt
-unary_keeps setting type (comma first second) frame before now marks one kept is = tt
-unary_keeps setting type (literal number puts) frame before now marks one kept is = tt
+unary_keeps : (setting : CSetting) (type : CTy) (form : CForm) (frame : Frame) (base : List Range) (before now : Blocks) (marks : Marks) (one : COperand) → Kept base before marks now → IsHeldValue one.value →
+    IfGiven (Done base before) (unary_done setting type form frame marks now one)
+unary_keeps setting type (load from) frame base before now marks one kept is = given_load base before now _ (load_keeps setting frame base before now type one.value marks kept)
+unary_keeps setting type (deref from) frame base before now marks one kept is =
+    given_value base before now marks (deref_value one.value) kept (given_then IsHeldValue (scalar_value one.value) _ pointed_held)
+unary_keeps setting type (member of spot) frame base before now marks one kept is =
+    given_value base before now marks (member_value setting frame now type spot one.value) kept (member_held setting frame now type spot one.value is)
+unary_keeps setting type (address of) frame base before now marks one kept is =
+    given_value base before now marks (address_value frame one.value) kept (held_scalar (place_in frame one.value))
+unary_keeps setting type (convert value) frame base before now marks one kept is =
+    given_value base before now marks (converted_value setting type now one.value) kept (converted_held setting type now one.value)
+unary_keeps setting type (unary op value) frame base before now marks one kept is =
+    given_value base before now marks _ kept (given_then IsHeldValue (scalar_value one.value) _ (λ given. held_scalar (unary_value setting op type now given)))
+unary_keeps setting type (whole number) frame base before now marks one kept is = tt
+unary_keeps setting type null frame base before now marks one kept is = tt
+unary_keeps setting type (object number) frame base before now marks one kept is = tt
+unary_keeps setting type (code number) frame base before now marks one kept is = tt
+unary_keeps setting type (binary op left right) frame base before now marks one kept is = tt
+unary_keeps setting type (and left right) frame base before now marks one kept is = tt
+unary_keeps setting type (or left right) frame base before now marks one kept is = tt
+unary_keeps setting type (cond test first second) frame base before now marks one kept is = tt
+unary_keeps setting type (assign target value) frame base before now marks one kept is = tt
+unary_keeps setting type (assign_by op computes target value) frame base before now marks one kept is = tt
+unary_keeps setting type (step up post on) frame base before now marks one kept is = tt
+unary_keeps setting type (call callee args) frame base before now marks one kept is = tt
+unary_keeps setting type (call_by callee args) frame base before now marks one kept is = tt
+unary_keeps setting type (comma first second) frame base before now marks one kept is = tt
+unary_keeps setting type (literal number puts) frame base before now marks one kept is = tt
 
-pub one_keeps : (setting : CSetting) (type : CTy) (form : CForm) (frame : Frame) (before now : Blocks) (one : COperand) → Operands before (one ∷ []) now → IsHeldValue one.value →
-    IfGiven (Done before) (node_done setting type form frame now (one ∷ []))
-one_keeps setting type form frame before now one are is =
-    given_and (λ (marks : Marks). marks.writes ≡ writes_in (one ∷ [])) (Done before) (united_operands (one ∷ [])) _ (united_writes (one ∷ [])) (λ marks same.
-    unary_keeps setting type form frame before now marks one (kept_united before now (one ∷ []) marks are same) is)
+pub one_keeps : (setting : CSetting) (type : CTy) (form : CForm) (frame : Frame) (base : List Range) (before now : Blocks) (one : COperand) → Operands base before (one ∷ []) now → IsHeldValue one.value →
+    IfGiven (Done base before) (node_done setting type form frame now (one ∷ []))
+one_keeps setting type form frame base before now one are is =
+    given_and (λ (marks : Marks). marks.writes ≡ writes_in (one ∷ [])) (Done base before) (united_operands (one ∷ [])) _ (united_writes (one ∷ [])) (λ marks same.
+    unary_keeps setting type form frame base before now marks one (kept_united base before now (one ∷ []) marks are same) is)
 
-binary_keeps : (setting : CSetting) (type : CTy) (op : _) (left right : _) (frame : Frame) (before now : Blocks) (marks : Marks) (one other : COperand) → Kept before marks now →
-    IfGiven (Done before) (binary_done setting type (binary op left right) frame marks now one other)
-binary_keeps setting type op left right frame before now marks one other kept =
-    given_value before now marks _ kept
+pub binary_keeps : (setting : CSetting) (type : CTy) (op : _) (left right : _) (frame : Frame) (base : List Range) (before now : Blocks) (marks : Marks) (one other : COperand) → Kept base before marks now →
+    IfGiven (Done base before) (binary_done setting type (binary op left right) frame marks now one other)
+binary_keeps setting type op left right frame base before now marks one other kept =
+    given_value base before now marks _ kept
     (given_then IsHeldValue (typed_value one) _ (λ first.
     given_then IsHeldValue (typed_value other) _ (λ second. held_scalar (binary_value setting op type now first second))))
 
-pub operator_keeps : (setting : CSetting) (type : CTy) (op : _) (left right : _) (frame : Frame) (before now : Blocks) (one other : COperand) → Operands before (one ∷ other ∷ []) now →
-    IfGiven (Done before) (node_done setting type (binary op left right) frame now (one ∷ other ∷ []))
-operator_keeps setting type op left right frame before now one other are =
-    given_and (λ (marks : Marks). marks.writes ≡ writes_in (one ∷ other ∷ [])) (Done before) (united_operands (one ∷ other ∷ [])) _ (united_writes (one ∷ other ∷ [])) (λ marks same.
-    binary_keeps setting type op left right frame before now marks one other (kept_united before now (one ∷ other ∷ []) marks are same))
+pub operator_keeps : (setting : CSetting) (type : CTy) (op : _) (left right : _) (frame : Frame) (base : List Range) (before now : Blocks) (one other : COperand) → Operands base before (one ∷ other ∷ []) now →
+    IfGiven (Done base before) (node_done setting type (binary op left right) frame now (one ∷ other ∷ []))
+operator_keeps setting type op left right frame base before now one other are =
+    given_and (λ (marks : Marks). marks.writes ≡ writes_in (one ∷ other ∷ [])) (Done base before) (united_operands (one ∷ other ∷ [])) _ (united_writes (one ∷ other ∷ [])) (λ marks same.
+    binary_keeps setting type op left right frame base before now marks one other (kept_united base before now (one ∷ other ∷ []) marks are same))
 
-pub assign_keeps : (setting : CSetting) (type : CTy) (target value : _) (frame : Frame) (before now : Blocks) (one other : COperand) → Operands before (one ∷ other ∷ []) now → IsHeldValue other.value →
-    IfGiven (Done before) (node_done setting type (assign target value) frame now (one ∷ other ∷ []))
-assign_keeps setting type target value frame before now one other are is =
-    given_and (λ (marks : Marks). marks.writes ≡ writes_in (one ∷ other ∷ [])) (Done before) (united_operands (one ∷ other ∷ [])) _ (united_writes (one ∷ other ∷ [])) (λ marks same.
-    given_store before _ (store_keeps setting frame before now type one.value other.value marks is (kept_united before now (one ∷ other ∷ []) marks are same)))
+pub assign_keeps : (setting : CSetting) (type : CTy) (target value : _) (frame : Frame) (base : List Range) (before now : Blocks) (one other : COperand) → Operands base before (one ∷ other ∷ []) now → IsHeldValue other.value →
+    IfGiven (Done base before) (node_done setting type (assign target value) frame now (one ∷ other ∷ []))
+assign_keeps setting type target value frame base before now one other are is =
+    given_and (λ (marks : Marks). marks.writes ≡ writes_in (one ∷ other ∷ [])) (Done base before) (united_operands (one ∷ other ∷ [])) _ (united_writes (one ∷ other ∷ [])) (λ marks same.
+    given_store base before _ (store_keeps setting frame base before now type one.value other.value marks is (kept_united base before now (one ∷ other ∷ []) marks are same)))
 
 -- ---- `op=`, `++` and `--`
 
-abbrev pub Updating : Blocks → Blocks → CUpdating → Type 0
-Updating before now one = Kept before one.marks now
+abbrev pub Updating : List Range → Blocks → Blocks → CUpdating → Type 0
+Updating base before now one = Kept base before one.marks now
 
-updating_kept : (before now : Blocks) (change : CChange) (one : CLoaded) → KeptSince before one.value one.marks now → IfGiven (Updating before now) (updating change one)
-updating_kept before now change one is = given_then (Updating before now) (scalar_value one.value) _ (λ old. record { stays = is.stays; held = is.held })
+updating_kept : (base : List Range) (before now : Blocks) (change : CChange) (one : CLoaded) → KeptSince base before one.value one.marks now → IfGiven (Updating base before now) (updating change one)
+updating_kept base before now change one is = given_then (Updating base before now) (scalar_value one.value) _ (λ old. record { stays = is.stays; covers = is.covers; held = is.held })
 
-pub updating_keeps : (setting : CSetting) (form : CForm) (frame : Frame) (before now : Blocks) (operands : List COperand) → Operands before operands now →
-    IfGiven (Updating before now) (node_updating setting form frame now operands)
-updating_keeps setting form frame before now operands are =
-    given_and (λ (marks : Marks). marks.writes ≡ writes_in operands) (Updating before now) (united_operands operands) _ (united_writes operands) (λ marks same.
-    given_then (Updating before now) (changes setting form operands) _ (λ change.
-    given_and (λ (one : CLoaded). KeptSince before one.value one.marks now) (Updating before now) (loaded setting frame now (unqualified change.target.type) change.target.value marks) _
-    (load_keeps setting frame before now (unqualified change.target.type) change.target.value marks (kept_united before now operands marks are same))
-    (λ one is. updating_kept before now change one is)))
+pub updating_keeps : (setting : CSetting) (form : CForm) (frame : Frame) (base : List Range) (before now : Blocks) (operands : List COperand) → Operands base before operands now →
+    IfGiven (Updating base before now) (node_updating setting form frame now operands)
+updating_keeps setting form frame base before now operands are =
+    given_and (λ (marks : Marks). marks.writes ≡ writes_in operands) (Updating base before now) (united_operands operands) _ (united_writes operands) (λ marks same.
+    given_then (Updating base before now) (changes setting form operands) _ (λ change.
+    given_and (λ (one : CLoaded). KeptSince base before one.value one.marks now) (Updating base before now) (loaded setting frame now (unqualified change.target.type) change.target.value marks) _
+    (load_keeps setting frame base before now (unqualified change.target.type) change.target.value marks (kept_united base before now operands marks are same))
+    (λ one is. updating_kept base before now change one is)))
 
 update_held : (is_postfix : Bool) (old : Value) (value : CValue) → IsHeldValue value → IsHeldValue (update_value is_postfix old value)
 update_held true old value is = tt
 update_held false old value is = is
 
-pub update_keeps : (setting : CSetting) (frame : Frame) (before now : Blocks) (update : CUpdate) (marks : Marks) (new : Value) → Kept before marks now →
-    IfGiven (Done before) (update_stored setting frame now update marks new)
-update_keeps setting frame before now update marks new kept =
-    given_and (λ (one : CStored). KeptSince before one.value one.marks one.blocks) (Done before) (stored setting frame now update.target_type update.target (scalar new) marks) _
-    (store_keeps setting frame before now update.target_type update.target (scalar new) marks tt kept) (λ one is.
-    record { stays = is.stays; held = is.held; value_held = update_held update.is_postfix update.old one.value is.value_held })
+pub update_keeps : (setting : CSetting) (frame : Frame) (base : List Range) (before now : Blocks) (update : CUpdate) (marks : Marks) (new : Value) → Kept base before marks now →
+    IfGiven (Done base before) (update_stored setting frame now update marks new)
+update_keeps setting frame base before now update marks new kept =
+    given_and (λ (one : CStored). KeptSince base before one.value one.marks one.blocks) (Done base before) (stored setting frame now update.target_type update.target (scalar new) marks) _
+    (store_keeps setting frame base before now update.target_type update.target (scalar new) marks tt kept) (λ one is.
+    record { stays = is.stays; covers = is.covers; held = is.held; value_held = update_held update.is_postfix update.old one.value is.value_held })
 
 -- ---- compound literals
 
@@ -230,13 +232,13 @@ clear_keeps setting frame number puts now were =
     (keeps_write now _ at (size_of block) writes.0, held_written now _ at (size_of block) writes.0 were (subst (All IsHeld) (sym writes.1) is.0))))))
 
 pub literal_keeps : (setting : CSetting) (frame : Frame) (now : Blocks) (number : ℕ) (puts : CPuts) → HoldsCells now →
-    IfGiven (λ (one : CDone). Kept now one.marks one.blocks) (literal_cleared setting frame now number puts)
+    IfGiven (λ (one : CDone). Kept [] now one.marks one.blocks) (literal_cleared setting frame now number puts)
 literal_keeps setting frame now number puts were =
-    given_and (Cleared now) (λ (one : CDone). Kept now one.marks one.blocks) (object_cleared setting frame number (Some puts) now) _ (clear_keeps setting frame number puts now were) (λ one is.
-    record { stays = is.0; held = is.1 })
+    given_and (Cleared now) (λ (one : CDone). Kept [] now one.marks one.blocks) (object_cleared setting frame number (Some puts) now) _ (clear_keeps setting frame number puts now were) (λ one is.
+    record { stays = is.0; covers = λ range avoids. refl; held = is.1 })
 
-pub put_keeps : (setting : CSetting) (frame : Frame) (before now : Blocks) (number : ℕ) (spot : Spot) (type : CTy) (operand : COperand) → Kept before operand.marks now → IsHeldValue operand.value →
-    IfGiven (λ (one : CStored). KeptSince before one.value one.marks one.blocks) (put_stored setting frame now number spot type operand)
-put_keeps setting frame before now number spot type operand kept is =
-    given_then (λ (one : CStored). KeptSince before one.value one.marks one.blocks) (needed (slot_of frame number)) _ (λ at.
-    store_keeps setting frame before now type (part_place at spot) operand.value operand.marks is kept)
+pub put_keeps : (setting : CSetting) (frame : Frame) (base : List Range) (before now : Blocks) (number : ℕ) (spot : Spot) (type : CTy) (operand : COperand) → Kept base before operand.marks now → IsHeldValue operand.value →
+    IfGiven (λ (one : CStored). KeptSince base before one.value one.marks one.blocks) (put_stored setting frame now number spot type operand)
+put_keeps setting frame base before now number spot type operand kept is =
+    given_then (λ (one : CStored). KeptSince base before one.value one.marks one.blocks) (needed (slot_of frame number)) _ (λ at.
+    store_keeps setting frame base before now type (part_place at spot) operand.value operand.marks is kept)

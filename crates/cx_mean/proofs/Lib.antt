@@ -19,6 +19,7 @@ pub mod Functions
 pub mod Kept
 pub mod KeptNodes
 pub mod KeptSteps
+pub mod KeptWork
 pub mod Programs
 pub mod Quiet
 pub mod Reached

@@ -34,7 +34,7 @@ end_bind P Q (out world) go one all = tt
 
 -- what holds behind an expression that began in a world
 pub record Since (before : World) (operand : COperand) (after : World) : Type 0 where
-  pub kept : KeptSince (blocks_of before) operand.value operand.marks (blocks_of after)
+  pub kept : KeptSince [] (blocks_of before) operand.value operand.marks (blocks_of after)
   pub alone : after ≡ with_memory (blocks_of after) before
 
 -- a memory put in a world that differs in memory alone
@@ -58,37 +58,39 @@ given_anything : {A E : Type 0} (outcome : Result A E) → IfGiven Anything outc
 given_anything (Ok value) = tt
 given_anything (Err why) = tt
 
-done_since : (before now : World) (type : CTy) (place : Place) (outcome : Result CDone CWhy) → now ≡ with_memory (blocks_of now) before → IfGiven (Done (blocks_of before)) outcome → (steps : ℕ) →
+done_since : (before now : World) (type : CTy) (place : Place) (outcome : Result CDone CWhy) → now ≡ with_memory (blocks_of now) before → IfGiven (Done [] (blocks_of before)) outcome → (steps : ℕ) →
     AtEnd (Since before) (c_done place type now outcome steps)
 done_since before now type place outcome alone is steps =
-    end_step (Done (blocks_of before)) (Since before) place outcome _ now steps is (λ one left kept.
+    end_step (Done [] (blocks_of before)) (Since before) place outcome _ now steps is (λ one left kept.
     record { kept = kept; alone = alone_with before now one.blocks alone })
 
 updates_since : (setting : CSetting) (frame : Frame) (before now : World) (type : CTy) (place : Place) (outcome : Result CUpdating CWhy) → now ≡ with_memory (blocks_of now) before →
-    IfGiven (Updating (blocks_of before) (blocks_of now)) outcome → (steps : ℕ) → AtEnd (Since before) (c_updates setting frame place type now outcome steps)
+    IfGiven (Updating [] (blocks_of before) (blocks_of now)) outcome → (steps : ℕ) → AtEnd (Since before) (c_updates setting frame place type now outcome steps)
 updates_since setting frame before now type place outcome alone is steps =
-    end_step (Updating (blocks_of before) (blocks_of now)) (Since before) place outcome _ now steps is (λ one left kept.
+    end_step (Updating [] (blocks_of before) (blocks_of now)) (Since before) place outcome _ now steps is (λ one left kept.
     end_step Anything (Since before) place (update_computed setting (blocks_of now) one.update) _ now left (given_anything (update_computed setting (blocks_of now) one.update)) (λ new more _.
     end_step Anything (Since before) place (update_converted setting (blocks_of now) one.update new) _ now more (given_anything (update_converted setting (blocks_of now) one.update new)) (λ value rest _.
     done_since before now type place (update_stored setting frame (blocks_of now) one.update one.marks value) alone
-    (update_keeps setting frame (blocks_of before) (blocks_of now) one.update one.marks value kept) rest)))
+    (update_keeps setting frame [] (blocks_of before) (blocks_of now) one.update one.marks value kept) rest)))
 
 -- ---- one part behind another
 
 -- the second operand of `&&` or `||` gives a number
-tested_gives : (blocks : Blocks) (value : CValue) → IfGiven IsHeldValue (tested blocks value)
+pub tested_gives : (blocks : Blocks) (value : CValue) → IfGiven IsHeldValue (tested blocks value)
 tested_gives blocks value = given_then IsHeldValue (truth_of_value blocks value) _ (λ truth. tt)
 
-one_operand : (before now : World) (one : COperand) → Since before one now → Operands (blocks_of before) (one ∷ []) (blocks_of now)
+one_operand : (before now : World) (one : COperand) → Since before one now → Operands [] (blocks_of before) (one ∷ []) (blocks_of now)
 one_operand before now one is = record {
   stays = subst (λ (ranges : List Range). KeepsBeside ranges (blocks_of before) (blocks_of now)) (sym (append-nil one.marks.writes)) is.kept.stays;
+  covers = λ range avoids. refl;
   held = is.kept.held;
 }
 
-two_operands : (before now after : World) (one other : COperand) → Since before one now → Since now other after → Operands (blocks_of before) (one ∷ other ∷ []) (blocks_of after)
+two_operands : (before now after : World) (one other : COperand) → Since before one now → Since now other after → Operands [] (blocks_of before) (one ∷ other ∷ []) (blocks_of after)
 two_operands before now after one other is too = record {
   stays = keeps_after one.marks.writes (other.marks.writes ++ []) (blocks_of before) (blocks_of now) (blocks_of after) is.kept.stays
       (subst (λ (ranges : List Range). KeepsBeside ranges (blocks_of now) (blocks_of after)) (sym (append-nil other.marks.writes)) too.kept.stays);
+  covers = λ range avoids. refl;
   held = too.kept.held;
 }
 
@@ -101,6 +103,7 @@ then_marks : (before now after : World) (marks : Marks) (other : COperand) → K
 then_marks before now after marks other stays alone too = record {
   kept = record {
     stays = keeps_after marks.writes other.marks.writes (blocks_of before) (blocks_of now) (blocks_of after) stays too.kept.stays;
+    covers = λ range avoids. refl;
     held = too.kept.held;
     value_held = too.kept.value_held;
   };
@@ -117,7 +120,7 @@ tested_since before now type place marks second stays alone part steps =
     end_bind (Since now) (Since before) (second now steps) _ (part steps) (λ other after left too.
     let both_since = then_marks before now after marks other stays alone too in
     end_step IsHeldValue (Since before) place (tested (blocks_of after) other.value) _ after left (tested_gives (blocks_of after) other.value) (λ value rest is.
-    record { kept = record { stays = both_since.kept.stays; held = both_since.kept.held; value_held = is }; alone = both_since.alone }))
+    record { kept = record { stays = both_since.kept.stays; covers = λ range avoids. refl; held = both_since.kept.held; value_held = is }; alone = both_since.alone }))
 
 carried_since : (before now : World) (marks : Marks) (second : CPiece COperand) → KeepsBeside marks.writes (blocks_of before) (blocks_of now) → now ≡ with_memory (blocks_of now) before → Part now second → (steps : ℕ) →
     AtEnd (Since before) (c_carried marks second now steps)
@@ -125,7 +128,7 @@ carried_since before now marks second stays alone part steps =
     end_bind (Since now) (Since before) (second now steps) _ (part steps) (λ other after left too. then_marks before now after marks other stays alone too)
 
 decided_since : (before now : World) (type : CTy) (truth : Bool) (one : COperand) → Since before one now → (left : ℕ) → AtEnd (Since before) (decided_as type truth (at_sequence_point one.marks) now left)
-decided_since before now type truth one is left = record { kept = record { stays = is.kept.stays; held = is.kept.held; value_held = tt }; alone = is.alone }
+decided_since before now type truth one is left = record { kept = record { stays = is.kept.stays; covers = λ range avoids. refl; held = is.kept.held; value_held = tt }; alone = is.alone }
 
 and_since : (before now : World) (type : CTy) (place : Place) (one : COperand) (second : CPiece COperand) → Since before one now → Part now second → (truth : Bool) (left : ℕ) →
     AtEnd (Since before) (c_and place type (at_sequence_point one.marks) second truth now left)
@@ -164,7 +167,7 @@ module _ (setting : CSetting) (calls : CCalls) (frame : Frame) where
   one_since type place form part world steps held is =
       end_bind (Since world) (Since world) (c_value setting calls frame part world steps) _ (is world steps held) (λ one now left since.
       done_since world now type place (node_done setting type form frame (blocks_of now) (one ∷ [])) since.alone
-      (one_keeps setting type form frame (blocks_of world) (blocks_of now) one (one_operand world now one since) since.kept.value_held) left)
+      (one_keeps setting type form frame [] (blocks_of world) (blocks_of now) one (one_operand world now one since) since.kept.value_held) left)
 
   two_since : {A : Type 0} (Q : A → World → Type 0) (first second : CExpr) (world : World) (steps : ℕ) → HoldsCells (blocks_of world) → Evaluated first → Evaluated second → (go : COperand → COperand → World → ℕ → CRan A) →
       ((one other : COperand) (now after : World) (left : ℕ) → Since world one now → Since now other after → AtEnd Q (go one other after left)) →
@@ -178,10 +181,10 @@ module _ (setting : CSetting) (calls : CCalls) (frame : Frame) where
     value_since (expr type place form) quiet world steps held = form_since type place form quiet world steps held
 
     form_since : (type : CTy) (place : Place) (form : CForm) → form_calls_nothing form ≡ true → (world : World) (steps : ℕ) → HoldsCells (blocks_of world) → AtEnd (Since world) (c_form setting calls frame type place form world steps)
-    form_since type place (whole value) quiet world steps held = record { kept = record { stays = keeps_same (blocks_of world); held = held; value_held = tt }; alone = refl }
-    form_since type place null quiet world steps held = record { kept = record { stays = keeps_same (blocks_of world); held = held; value_held = tt }; alone = refl }
-    form_since type place (object number) quiet world steps held = record { kept = record { stays = keeps_same (blocks_of world); held = held; value_held = tt }; alone = refl }
-    form_since type place (code number) quiet world steps held = record { kept = record { stays = keeps_same (blocks_of world); held = held; value_held = tt }; alone = refl }
+    form_since type place (whole value) quiet world steps held = record { kept = record { stays = keeps_same (blocks_of world); covers = λ range avoids. refl; held = held; value_held = tt }; alone = refl }
+    form_since type place null quiet world steps held = record { kept = record { stays = keeps_same (blocks_of world); covers = λ range avoids. refl; held = held; value_held = tt }; alone = refl }
+    form_since type place (object number) quiet world steps held = record { kept = record { stays = keeps_same (blocks_of world); covers = λ range avoids. refl; held = held; value_held = tt }; alone = refl }
+    form_since type place (code number) quiet world steps held = record { kept = record { stays = keeps_same (blocks_of world); covers = λ range avoids. refl; held = held; value_held = tt }; alone = refl }
     form_since type place (load from) quiet world steps held = one_since type place (load from) from world steps held (value_since from quiet)
     form_since type place (deref from) quiet world steps held = one_since type place (deref from) from world steps held (value_since from quiet)
     form_since type place (member of spot) quiet world steps held = one_since type place (member of spot) of world steps held (value_since of quiet)
@@ -192,21 +195,21 @@ module _ (setting : CSetting) (calls : CCalls) (frame : Frame) where
         let both_quiet = and_parts (calls_nothing first) (calls_nothing second) quiet in
         two_since (Since world) first second world steps held (value_since first both_quiet.0) (value_since second both_quiet.1) _ (λ one other now after left is too.
         done_since world after type place (node_done setting type (binary op first second) frame (blocks_of after) (one ∷ other ∷ [])) (two_alone world now after one other is too)
-        (operator_keeps setting type op first second frame (blocks_of world) (blocks_of after) one other (two_operands world now after one other is too)) left)
+        (operator_keeps setting type op first second frame [] (blocks_of world) (blocks_of after) one other (two_operands world now after one other is too)) left)
     form_since type place (assign target value) quiet world steps held =
         let both_quiet = and_parts (calls_nothing target) (calls_nothing value) quiet in
         two_since (Since world) target value world steps held (value_since target both_quiet.0) (value_since value both_quiet.1) _ (λ one other now after left is too.
         done_since world after type place (node_done setting type (assign target value) frame (blocks_of after) (one ∷ other ∷ [])) (two_alone world now after one other is too)
-        (assign_keeps setting type target value frame (blocks_of world) (blocks_of after) one other (two_operands world now after one other is too) too.kept.value_held) left)
+        (assign_keeps setting type target value frame [] (blocks_of world) (blocks_of after) one other (two_operands world now after one other is too) too.kept.value_held) left)
     form_since type place (assign_by op computes target value) quiet world steps held =
         let both_quiet = and_parts (calls_nothing target) (calls_nothing value) quiet in
         two_since (Since world) target value world steps held (value_since target both_quiet.0) (value_since value both_quiet.1) _ (λ one other now after left is too.
         updates_since setting frame world after type place (node_updating setting (assign_by op computes target value) frame (blocks_of after) (one ∷ other ∷ [])) (two_alone world now after one other is too)
-        (updating_keeps setting (assign_by op computes target value) frame (blocks_of world) (blocks_of after) (one ∷ other ∷ []) (two_operands world now after one other is too)) left)
+        (updating_keeps setting (assign_by op computes target value) frame [] (blocks_of world) (blocks_of after) (one ∷ other ∷ []) (two_operands world now after one other is too)) left)
     form_since type place (step up post on) quiet world steps held =
         end_bind (Since world) (Since world) (c_value setting calls frame on world steps) _ (value_since on quiet world steps held) (λ one now left since.
         updates_since setting frame world now type place (node_updating setting (step up post on) frame (blocks_of now) (one ∷ [])) since.alone
-        (updating_keeps setting (step up post on) frame (blocks_of world) (blocks_of now) (one ∷ []) (one_operand world now one since)) left)
+        (updating_keeps setting (step up post on) frame [] (blocks_of world) (blocks_of now) (one ∷ []) (one_operand world now one since)) left)
     form_since type place (and first second) quiet world steps held =
         let both_quiet = and_parts (calls_nothing first) (calls_nothing second) quiet in
         end_bind (Since world) (Since world) (c_value setting calls frame first world steps) _ (value_since first both_quiet.0 world steps held) (λ one now left since.
@@ -228,21 +231,21 @@ module _ (setting : CSetting) (calls : CCalls) (frame : Frame) where
     form_since type place (call callee args) quiet world steps held = absurd (cc (quiet))
     form_since type place (call_by callee args) quiet world steps held = absurd (cc (quiet))
     form_since type place (literal number puts) quiet world steps held =
-        end_step (λ (one : CDone). Kept (blocks_of world) one.marks one.blocks) (Since world) place (literal_cleared setting frame (blocks_of world) number puts) _ world steps
+        end_step (λ (one : CDone). Kept [] (blocks_of world) one.marks one.blocks) (Since world) place (literal_cleared setting frame (blocks_of world) number puts) _ world steps
         (literal_keeps setting frame (blocks_of world) number puts held) (λ one left kept.
         fill_since type number puts quiet world (with_memory one.blocks world) one.marks kept refl left)
 
     -- the puts of a compound literal that began in a world
-    fill_since : (type : CTy) (number : ℕ) (puts : CPuts) → puts_call_nothing puts ≡ true → (before now : World) (marks : Marks) → Kept (blocks_of before) marks (blocks_of now) → now ≡ with_memory (blocks_of now) before → (steps : ℕ) →
+    fill_since : (type : CTy) (number : ℕ) (puts : CPuts) → puts_call_nothing puts ≡ true → (before now : World) (marks : Marks) → Kept [] (blocks_of before) marks (blocks_of now) → now ≡ with_memory (blocks_of now) before → (steps : ℕ) →
         AtEnd (Since before) (c_fill setting calls frame type number puts marks now steps)
-    fill_since type number no_puts quiet before now marks kept alone steps = record { kept = record { stays = kept.stays; held = kept.held; value_held = tt }; alone = alone }
+    fill_since type number no_puts quiet before now marks kept alone steps = record { kept = record { stays = kept.stays; covers = λ range avoids. refl; held = kept.held; value_held = tt }; alone = alone }
     fill_since type number (more_puts (put spot part value) others) quiet before now marks kept alone steps =
         let both_quiet = and_parts (calls_nothing value) (puts_call_nothing others) quiet in
         end_bind (Since now) (Since before) (c_value setting calls frame value now steps) _ (value_since value both_quiet.0 now steps kept.held) (λ operand later left since.
-        end_step (λ (one : CStored). KeptSince (blocks_of now) one.value one.marks one.blocks) (Since before) (place_of value) (put_stored setting frame (blocks_of later) number spot part operand) _ later left
-        (put_keeps setting frame (blocks_of now) (blocks_of later) number spot part operand (record { stays = since.kept.stays; held = since.kept.held }) since.kept.value_held) (λ one more is.
+        end_step (λ (one : CStored). KeptSince [] (blocks_of now) one.value one.marks one.blocks) (Since before) (place_of value) (put_stored setting frame (blocks_of later) number spot part operand) _ later left
+        (put_keeps setting frame [] (blocks_of now) (blocks_of later) number spot part operand (record { stays = since.kept.stays; covers = λ range avoids. refl; held = since.kept.held }) since.kept.value_held) (λ one more is.
         fill_since type number others both_quiet.1 before (with_memory one.blocks later) (marks_after_put marks one.marks)
-        (record { stays = keeps_after marks.writes one.marks.writes (blocks_of before) (blocks_of now) one.blocks kept.stays is.stays; held = is.held })
+        (record { stays = keeps_after marks.writes one.marks.writes (blocks_of before) (blocks_of now) one.blocks kept.stays is.stays; covers = λ range avoids. refl; held = is.held })
         (alone_with now later one.blocks since.alone ∙ alone_with before now one.blocks alone) more))
 
 pub unwritten_stays : UnwrittenStays

@@ -1,6 +1,6 @@
 -- What evaluation leaves as it was: an expression without calls changes only what its marks say that it wrote. By this the rules
 -- of conflicting accesses (ISO C99, 6.5p2), which speak of marks, speak of memory.
-use Rattle.std.specs.Prelude.{◌≡◌, ℕ, true, false, List, [], ◌∷◌}
+use Rattle.std.specs.Prelude.{◌≡◌, ℕ, true, false, List, [], ◌∷◌, Ok, Err}
 use Rattle.cr_base.specs.declared.scalar.Scalar.{Scalar}
 use Rattle.cr_runs.specs.Runs.{came}
 use Rattle.cr_world.specs.World.{World, blocks_of, with_memory}
@@ -10,6 +10,8 @@ use Rattle.cx_mean.specs.Marks.{Range, any_overlap, bits_of_bytes, bits_of_field
 use Rattle.cx_mean.specs.Operands.{COperand, Frame}
 use Rattle.cx_mean.specs.Quiet.{calls_nothing}
 use Rattle.cx_mean.specs.Settings.{CSetting}
+use Rattle.cx_mean.specs.Steps.{did, asks_call, CStepped, step_at}
+use Rattle.cx_mean.specs.Work.{CWork, finished, begun}
 use Rattle.mem_bytes.specs.Access.{part_at, value_at, field_at, record_at}
 use Rattle.mem_bytes.specs.Calls.{IsFieldPlace}
 use Rattle.mem_bytes.specs.Coding.{scalar_size}
@@ -51,3 +53,28 @@ UnwrittenStays =
     calls_nothing e ≡ true → HoldsCells (blocks_of before) →
     c_value setting calls frame e before steps ≡ came operand after left →
     Unwritten operand before after
+
+-- ---- under any order
+
+-- what is left of an expression after some steps, each at any of its ready nodes
+pub data Evaluates (setting : CSetting) (frame : Frame) (first : CWork) (before : Blocks) : CWork → Blocks → Type 0 where
+  not_yet : Evaluates setting frame first before first before
+  and_then_at : {work next : CWork} {now after : Blocks} (pick : ℕ) → Evaluates setting frame first before work now →
+      step_at setting frame now pick work ≡ Ok (did next after) → Evaluates setting frame first before next after
+
+-- a step calls no function
+abbrev pub CallsNothing : CStepped → Type 0
+CallsNothing (Ok (did work blocks)) = Unit {0}
+CallsNothing (Ok (asks_call called work)) = ⊥
+CallsNothing (Err fault) = Unit {0}
+
+-- the same in whatever order an expression without calls is evaluated
+pub record UnwrittenStaysInAnyOrder : Type 0 where
+  -- what the marks of its operand don't say that it wrote is what it was
+  pub stays : (setting : CSetting) (frame : Frame) (e : CExpr) (before after : Blocks) (operand : COperand) →
+      calls_nothing e ≡ true → HoldsCells before → Evaluates setting frame (begun e) before (finished operand) after →
+      KeepsBeside operand.marks.writes before after
+  -- and no step of it calls
+  pub calls_nothing : (setting : CSetting) (frame : Frame) (e : CExpr) (before now : Blocks) (work : CWork) (pick : ℕ) →
+      calls_nothing e ≡ true → HoldsCells before → Evaluates setting frame (begun e) before work now →
+      CallsNothing (step_at setting frame now pick work)
