@@ -168,7 +168,7 @@ to_scalar (Whole width signed) blocks value = to_number (Whole width signed) blo
 to_scalar Object blocks value = to_pointer Object blocks value
 to_scalar Code blocks value = to_pointer Code blocks value
 
-abbrev converted_scalar : Option Scalar → Blocks → CValue → Result CValue CWhy
+abbrev pub converted_scalar : Option Scalar → Blocks → CValue → Result CValue CWhy
 converted_scalar None blocks value = Err stuck
 converted_scalar (Some kind) blocks value =
     and_then (scalar_value value) (λ one. and_then (to_scalar kind blocks one) (λ new. Ok (scalar new)))
