@@ -1,0 +1,3 @@
+mod Examples
+pub mod JobLaws
+pub mod NumberLaws
