@@ -1,0 +1,6 @@
+pub mod Bounded
+pub mod Extended
+pub mod Pieces
+pub mod Silent
+pub mod Trails
+pub mod Unfolded
