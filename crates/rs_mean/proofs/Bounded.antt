@@ -1,17 +1,16 @@
 -- Pieces leave no more units than they had.
-use Rattle.std.proofs.Common.{◌≡◌, ℕ, zero, suc, ◌+◌, ◌≤◌, ℤ, Bool, true, false, List, Option, Some, None, Result, Ok, Err, refl, arith}
+use Rattle.std.proofs.Common.{ℕ, zero, suc, ◌≤◌, ℤ, Bool, true, List, Option, Result, Ok, Err, arith}
 use Rattle.cr_runs.specs.Runs.{Ran, came, halted, bad, out, bind}
 use Rattle.cr_world.specs.Held.{Held}
 use Rattle.cr_world.specs.World.{World, Stop, Got, answered, granted, object_begun}
 use Rattle.ext_calls.specs.declared.call.Call.{Call}
 use Rattle.mem_bytes.specs.declared.value.Ptr.{Ptr}
 use Rattle.mem_bytes.specs.declared.value.Value.{Value}
-use Rattle.rs_tree.specs.Tree.{Expr, Stmts, OuterTree, FunctionTree, ModuleTree}
+use Rattle.rs_tree.specs.Tree.{OuterTree, FunctionTree, ModuleTree}
 use Rattle.rs_mean.specs.declared.cause.Cause.{Cause}
 use Rattle.rs_mean.specs.Calls.{outer_call}
-use Rattle.rs_mean.specs.Laws.{LeavesWithin, LeavesNoMore, frame_in}
-use Rattle.rs_mean.specs.Lookups.{LocalBlock}
-use Rattle.rs_mean.specs.Run.{Bodies, run_stmts, bodies_within}
+use Rattle.rs_mean.specs.Laws.{LeavesWithin, LeavesNoMore}
+use Rattle.rs_mean.specs.Run.{Bodies, bodies_within}
 use Rattle.rs_mean.specs.Values.{Typed}
 use Rattle.rs_mean.specs.World.{Run, pure, fails, ends, seq, takes_unit, Did, after_step, local, after_got, tells, grants, begins, Round, again, done, next_turn, turns_within, rounds}
 use Rattle.rs_mean.proofs.Pieces.{outer_calls, Related, on_expr, on_stmts, on_body}

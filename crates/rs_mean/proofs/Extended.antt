@@ -1,9 +1,9 @@
 -- Pieces under a greater budget: a piece is the same where it doesn't ask for more, and its events begin alike.
 use Rattle.mem_bytes.specs.declared.fault.StoreFault.TheVariants.{Full, Memory}
-use Rattle.std.proofs.Common.{if◌then◌else◌, ◌≡◌, ◌∙◌, ℕ, zero, suc, ◌+◌, ◌≤◌, ◌<◌, ℤ, Bool, true, false, List, [], ◌∷◌, ◌++◌, map, Option, Some, None, Result, Ok, Err, refl, sym, ap, subst, append_assoc, append-nil, suc-add, arith}
+use Rattle.std.proofs.Common.{if◌then◌else◌, ◌≡◌, ◌∙◌, ℕ, zero, suc, ◌+◌, ℤ, Bool, true, false, List, [], ◌∷◌, ◌++◌, map, Option, Result, Ok, Err, refl, sym, ap, subst, append_assoc, append-nil, suc-add}
 use Rattle.cr_runs.specs.Runs.{Ran, came, halted, bad, out, bind, state_of}
 use Rattle.cr_world.specs.Held.{Held}
-use Rattle.cr_world.specs.World.{World, Terms, open_ended, trail_of, Stop, wrong, full, asks, astray, Got, answered, answer_from, answer_at_end, after_answer, granted, granted_on, granted_by_store, after_allocation, is_of_store, object_begun, begun_at, events_of, first_world}
+use Rattle.cr_world.specs.World.{World, Terms, open_ended, trail_of, Stop, astray, Got, answered, answer_from, answer_at_end, granted, granted_on, after_allocation, is_of_store, object_begun, begun_at, events_of, first_world}
 use Rattle.ext_calls.specs.declared.call.Call.{Call}
 use Rattle.mem_bytes.specs.declared.value.Ptr.{Ptr}
 use Rattle.mem_bytes.specs.declared.value.Value.{Value}
@@ -11,11 +11,10 @@ use Rattle.rs_tree.specs.Tree.{OuterTree, FunctionTree, ModuleTree, CrateTree}
 use Rattle.rs_mean.specs.declared.cause.Cause.{Cause}
 use Rattle.rs_mean.specs.Calls.{outer_call}
 use Rattle.rs_mean.specs.Laws.{IsFrontOf, IsGoing, MoreBudgetContinues, EventsGrow, EndedStaysEnded}
-use Rattle.rs_mean.specs.Run.{Bodies, bodies_within, run_main, ran, seen_of, ended}
+use Rattle.rs_mean.specs.Run.{bodies_within, run_main, ran, seen_of, ended}
 use Rattle.rs_mean.specs.Values.{Typed}
 use Rattle.rs_mean.specs.World.{Run, pure, fails, ends, seq, takes_unit, Did, after_step, local, after_got, tells, grants, begins, Round, again, done, next_turn, turns_within, rounds}
-use Rattle.rs_mean.proofs.Bounded.{Leaves, bounded_pure, bounded_fails, bounded_ends, bounded_local, bounded_tells, bounded_grants, bounded_begins, bounded_seq, bounded_unit, bounded_turns, bounded_rounds, behind_bounded, bodies_bounded}
-use Rattle.rs_mean.proofs.Pieces.{outer_calls, Related, on_expr, on_stmts, on_body, on_main}
+use Rattle.rs_mean.proofs.Pieces.{outer_calls, on_body, on_main}
 
 -- ---- fronts of lists
 

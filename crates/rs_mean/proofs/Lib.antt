@@ -1,4 +1,6 @@
 pub mod Bounded
+mod ExampleRuns
+mod ExampleTypes
 pub mod Extended
 pub mod Pieces
 pub mod Silent

@@ -1,6 +1,6 @@
 -- A relation of two pieces that every way to make a piece keeps holds of what two frames make of each expression and statement, where it
 -- holds of the bodies that they call. Each law is an instance.
-use Rattle.std.proofs.Common.{ℕ, zero, suc, ◌+◌, ℤ, Bool, true, false, List, [], ◌∷◌, ◌++◌, Option, Some, None, Result, Ok, Err, codes, slice_get}
+use Rattle.std.proofs.Common.{ℕ, ◌+◌, ℤ, Bool, true, false, List, [], ◌∷◌, ◌++◌, Option, Some, None, Result, Ok, Err, slice_get}
 use Rattle.cr_world.specs.Held.{Held}
 use Rattle.cr_world.specs.Known.{KnownFunction, known_named, Effect, gives, gives_nothing, ends_program, wants_block, fails as effect_fails}
 use Rattle.cr_base.specs.declared.layout.Laid.{Laid}
@@ -8,15 +8,15 @@ use Rattle.ext_calls.specs.declared.call.Call.{Call}
 use Rattle.mem_bytes.specs.declared.value.Ptr.{Ptr}
 use Rattle.mem_bytes.specs.declared.value.Value.{Value}
 use Rattle.mem_bytes.specs.declared.value.Value.TheVariants.{Whole, Null, Object, Code as Function}
-use Rattle.rs_tree.specs.Tree.{Ty, Integer, Boolean, Void, Pointer, Array, Code, Record, Tys, OptionTy, Place, Local, Static, Deref, Field, Expr, Literal, Truth, NoFunction, Read, Call as CallTree, CallBy, Wrapped, WrappingNeg, Offset, OffsetFrom, IsNull, IsNone, AddressOf, NullPointer, SomeFunction, Transmute, Neg, Not, Cast, Binary, And, Or, Choose, Exprs, no_exprs, more_exprs, Stmt, Assign, Eval, CopyBytes, If, Loop, Block, Break, Continue, Match, Return, Stmts, no_stmts, more_stmts, ArmTree, LiteralArm, Arms, no_arms, more_arms, LocalTree, OuterTree, FunctionTree, ModuleTree, CrateTree}
+use Rattle.rs_tree.specs.Tree.{Ty, Integer, Boolean, Void, Pointer, Array, Code, Record, Tys, OptionTy, Place, Local, Static, Deref, Field, Expr, Literal, Truth, NoFunction, Read, Call as CallTree, CallBy, Wrapped, WrappingNeg, Offset, OffsetFrom, IsNull, IsNone, AddressOf, NullPointer, SomeFunction, Transmute, Neg, Not, Cast, Binary, And, Or, Choose, Exprs, no_exprs, more_exprs, Stmt, Assign, Eval, CopyBytes, If, Loop, Block, Break, Continue, Match, Return, Stmts, no_stmts, more_stmts, LiteralArm, Arms, no_arms, more_arms, LocalTree, OuterTree, FunctionTree, ModuleTree, CrateTree}
 use Rattle.rs_mean.specs.declared.cause.Cause.{Cause}
 use Rattle.rs_mean.specs.declared.cause.Cause.TheVariants as cause
-use Rattle.rs_mean.specs.Calls.{Spot, load, store, begins_laid, begins_object, begin_params, begin_locals, end_locals, store_literals, begin_statics, literals_of, accepts, takes_effect, kept_as, outer_by, known_call, answer_as, opaque_call, outer_call, copies}
+use Rattle.rs_mean.specs.Calls.{Spot, begins_laid, begin_params, begin_locals, store_literals, begin_statics, literals_of, accepts, takes_effect, outer_by, answer_as, outer_call}
 use Rattle.rs_mean.specs.Layout.{FieldPlace, laid_of, field_at}
-use Rattle.rs_mean.specs.Lookups.{Callee, outer, own, callee_at, callee_among, signature_of, own_signature, function_number, Home, static_home, statics_of, OwnStatic, LocalBlock, local_home}
-use Rattle.rs_mean.specs.Run.{Bodies, Frame, spot_of_home, spot_by_type, spot_of_pointer, field_spot, field_by_type, spot_of_field, run_callee, call_found, call_at, called_as, retyped, call_pointed, Pointed, unwrapped_as, unwrapped_by_type, unwrapped, the_value, function_value, tests, run_place, run_expr, run_exprs, run_call_by, Flow, normal, breaks, continues, returned, goes_on, run_dropped, after_block, after_turn, then_on, is_arm, run_stmt, run_stmts, run_arms, given_by, in_frame, run_function, call_in, run_initialisers, run_entry, exits_with, exits, run_main}
-use Rattle.rs_mean.specs.Values.{Typed, typed, truth, test_of}
-use Rattle.rs_mean.specs.World.{Run, pure, fails, ends, seq, takes_unit, either, Did, local, or_fails, tells, grants, begins, Round, again, done, rounds, cause_of_held}
+use Rattle.rs_mean.specs.Lookups.{Callee, outer, own, callee_at, signature_of, own_signature, function_number, Home, static_home, statics_of, OwnStatic, LocalBlock, local_home}
+use Rattle.rs_mean.specs.Run.{Bodies, Frame, spot_of_home, spot_by_type, field_spot, field_by_type, call_found, called_as, call_pointed, Pointed, unwrapped_as, unwrapped_by_type, the_value, function_value, tests, run_place, run_expr, run_exprs, Flow, normal, breaks, continues, returned, goes_on, run_dropped, after_block, after_turn, then_on, is_arm, run_stmt, run_stmts, run_arms, run_function, run_initialisers, run_entry, exits_with, exits, run_main}
+use Rattle.rs_mean.specs.Values.{Typed, test_of}
+use Rattle.rs_mean.specs.World.{Run, pure, fails, ends, seq, takes_unit, either, Did, local, or_fails, tells, grants, begins, Round, rounds, cause_of_held}
 
 -- ---- calls of external functions
 

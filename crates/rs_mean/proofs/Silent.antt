@@ -1,18 +1,18 @@
 -- A piece that has no unit calls nothing outside.
-use Rattle.std.proofs.Common.{◌≡◌, ◌∙◌, ℕ, zero, suc, ◌≤◌, ℤ, true, List, Option, Result, Ok, Err, refl, sym, subst, arith}
+use Rattle.std.proofs.Common.{◌≡◌, ◌∙◌, ℕ, ℤ, true, List, Option, Result, Ok, Err, refl, sym, subst, arith}
 use Rattle.cr_runs.specs.Runs.{Ran, came, halted, bad, out, bind, state_of}
 use Rattle.cr_world.specs.Held.{Held}
-use Rattle.cr_world.specs.World.{World, Stop, Got, object_begun, begun_at, events_of}
+use Rattle.cr_world.specs.World.{World, Stop, begun_at, events_of}
 use Rattle.ext_calls.specs.declared.call.Call.{Call}
 use Rattle.mem_bytes.specs.declared.fault.StoreFault.TheVariants.{Full, Memory}
 use Rattle.mem_bytes.specs.declared.value.Ptr.{Ptr}
-use Rattle.rs_tree.specs.Tree.{Expr, Stmts, OuterTree, FunctionTree, ModuleTree}
+use Rattle.rs_tree.specs.Tree.{OuterTree, ModuleTree}
 use Rattle.rs_mean.specs.declared.cause.Cause.{Cause}
 use Rattle.rs_mean.specs.Calls.{outer_call}
-use Rattle.rs_mean.specs.Laws.{LeavesWithin, ShowsNothing, frame_in}
+use Rattle.rs_mean.specs.Laws.{LeavesWithin, ShowsNothing}
 use Rattle.rs_mean.specs.Run.{Bodies, bodies_within}
 use Rattle.rs_mean.specs.Values.{Typed}
-use Rattle.rs_mean.specs.World.{Run, pure, fails, ends, seq, takes_unit, Did, after_step, local, after_got, begins, Round, again, done, next_turn, turns_within, rounds}
+use Rattle.rs_mean.specs.World.{Run, pure, fails, ends, seq, takes_unit, Did, after_step, local, after_got, begins, Round, rounds}
 use Rattle.rs_mean.proofs.Bounded.{Leaves, bounded_pure, bounded_fails, bounded_ends, bounded_local, bounded_begins, bounded_seq, bounded_unit, bounded_rounds, bounded_outer, bodies_bounded}
 use Rattle.rs_mean.proofs.Pieces.{Related, on_expr, on_stmts}
 

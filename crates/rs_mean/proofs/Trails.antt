@@ -1,8 +1,8 @@
 -- A run under a trail is the run under the outside of its answers.
-use Rattle.std.proofs.Common.{◌≡◌, ◌∙◌, ℕ, zero, suc, ℤ, pos, negsuc, Bool, true, false, if◌then◌else◌, not, List, [], ◌∷◌, Option, Some, None, Result, Ok, Err, refl, sym, ap, subst}
+use Rattle.std.proofs.Common.{◌≡◌, ℕ, zero, suc, ℤ, pos, negsuc, Bool, true, false, List, [], ◌∷◌, Option, Result, Ok, Err, refl}
 use Rattle.cr_runs.specs.Runs.{Ran, came, halted, bad, out, bind}
 use Rattle.cr_world.specs.Held.{Held}
-use Rattle.cr_world.specs.World.{World, Outside, Terms, open_ended, trail_of, Stop, wrong, full, asks, astray, Got, answered, answer_from, answer_at_end, granted, granted_on, granted_by_store, after_allocation, is_of_store, is_refused_by, is_given, object_begun, begun_at, limit_of, events_of, first_world}
+use Rattle.cr_world.specs.World.{World, Terms, open_ended, trail_of, Stop, wrong, full, asks, astray, Got, answered, answer_from, answer_at_end, granted, granted_on, granted_by_store, after_allocation, is_refused_by, is_given, object_begun, begun_at, limit_of, first_world}
 use Rattle.ext_calls.specs.declared.call.Call.{Call}
 use Rattle.mem_bytes.specs.Counted.{Limit, after_alloc}
 use Rattle.mem_bytes.specs.Memory.{Blocks}
@@ -10,11 +10,11 @@ use Rattle.mem_bytes.specs.declared.fault.StoreFault.{StoreFault}
 use Rattle.mem_bytes.specs.declared.fault.StoreFault.TheVariants.{Full, Memory}
 use Rattle.mem_bytes.specs.declared.value.Ptr.{Ptr}
 use Rattle.mem_bytes.specs.declared.value.Value.{Value}
-use Rattle.rs_tree.specs.Tree.{OuterTree, FunctionTree, ModuleTree, CrateTree}
+use Rattle.rs_tree.specs.Tree.{OuterTree, FunctionTree, ModuleTree}
 use Rattle.rs_mean.specs.declared.cause.Cause.{Cause}
 use Rattle.rs_mean.specs.Calls.{outer_call}
 use Rattle.rs_mean.specs.Laws.{IsOfRun, TrailIsOutside}
-use Rattle.rs_mean.specs.Run.{Bodies, bodies_within, run_main, ran, seen_of}
+use Rattle.rs_mean.specs.Run.{bodies_within, ran, seen_of}
 use Rattle.rs_mean.specs.Values.{Typed}
 use Rattle.rs_mean.specs.World.{Run, pure, fails, ends, seq, takes_unit, Did, after_step, local, after_got, tells, grants, begins, Round, again, done, next_turn, turns_within, rounds}
 use Rattle.rs_mean.proofs.Pieces.{outer_calls, on_body, on_main}

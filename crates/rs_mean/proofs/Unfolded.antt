@@ -1,18 +1,17 @@
 -- Lists of statements, loops and bodies unfold.
-use Rattle.std.proofs.Common.{◌≡◌, ◌∙◌, ℕ, zero, suc, ◌≤◌, ◌<◌, ℤ, Bool, true, false, List, [], ◌∷◌, Option, Some, None, Result, Ok, Err, refl, sym, ap, arith}
+use Rattle.std.proofs.Common.{◌≡◌, ◌∙◌, ℕ, zero, suc, ◌≤◌, ◌<◌, ℤ, Bool, true, false, List, Option, Result, refl, sym, ap, arith}
 use Rattle.cr_runs.specs.Runs.{Ran, came, halted, bad, out, bind}
 use Rattle.cr_world.specs.Held.{Held}
 use Rattle.cr_world.specs.World.{World, Stop}
 use Rattle.mem_bytes.specs.declared.value.Ptr.{Ptr}
-use Rattle.rs_tree.specs.Tree.{Stmt, Stmts, no_stmts, more_stmts, Loop, OuterTree, FunctionTree, ModuleTree}
+use Rattle.rs_tree.specs.Tree.{no_stmts, more_stmts, OuterTree, FunctionTree, ModuleTree}
 use Rattle.rs_mean.specs.declared.cause.Cause.{Cause}
 use Rattle.rs_mean.specs.Calls.{outer_call}
 use Rattle.rs_mean.specs.Laws.{LeavesWithin, ListsFollow, LoopsUnfold, BodiesUnfold, behind, frame_in, bodies_of}
-use Rattle.rs_mean.specs.Lookups.{LocalBlock}
-use Rattle.rs_mean.specs.Run.{Bodies, Frame, Flow, normal, breaks, continues, returned, run_stmt, run_stmts, after_turn, then_on, run_function, bodies_within}
+use Rattle.rs_mean.specs.Run.{Flow, normal, breaks, continues, returned, run_stmt, run_stmts, after_turn, then_on, bodies_within}
 use Rattle.rs_mean.specs.Values.{Typed}
 use Rattle.rs_mean.specs.World.{Run, pure, fails, ends, seq, takes_unit, either, Did, local, begins, Round, again, done, next_turn, turns_within, rounds}
-use Rattle.rs_mean.proofs.Bounded.{Leaves, bounded_pure, bounded_fails, bounded_ends, bounded_local, bounded_begins, bounded_seq, bounded_unit, bounded_turns, bounded_rounds, bounded_outer, bodies_bounded, behind_bounded, leaves_no_more}
+use Rattle.rs_mean.proofs.Bounded.{Leaves, bounded_pure, bounded_fails, bounded_ends, bounded_local, bounded_begins, bounded_seq, bounded_unit, bounded_rounds, bounded_outer, bodies_bounded, leaves_no_more}
 use Rattle.rs_mean.proofs.Pieces.{on_body}
 
 -- ---- statements behind others

@@ -1,6 +1,6 @@
 -- Accesses to places, lives of parameters and locals, and calls of external functions (the Rust Reference, "Place expressions",
 -- "Functions" and "External blocks").
-use Rattle.std.specs.Prelude.{ℕ, zero, suc, ◌+◌, Bool, true, false, ◌&&◌, ℤ, pos, List, [], ◌∷◌, ◌++◌, map, slice_set, Option, Some, None, Result, Ok, Err, if◌then◌else◌}
+use Rattle.std.specs.Prelude.{ℕ, ◌+◌, Bool, true, false, ◌&&◌, ℤ, pos, List, [], ◌∷◌, map, Option, Some, None, Result, Ok, Err}
 use Rattle.cr_base.specs.Scalar.{converted}
 use Rattle.cr_base.specs.declared.layout.Laid.{Laid}
 use Rattle.cr_base.specs.declared.scalar.Scalar.{Scalar}
@@ -13,12 +13,11 @@ use Rattle.ext_calls.specs.declared.call.Arg.TheVariants.{Whole as Number, Text}
 use Rattle.ext_calls.specs.declared.call.Call.{Call}
 use Rattle.mem_bytes.specs.Access.{value_at, after_put}
 use Rattle.mem_bytes.specs.Memory.{Blocks}
-use Rattle.mem_bytes.specs.declared.fault.Fault.{Fault}
 use Rattle.mem_bytes.specs.declared.value.Ptr.{Ptr}
 use Rattle.mem_bytes.specs.declared.value.Value.{Value}
 use Rattle.mem_bytes.specs.declared.value.Value.TheVariants.{Whole, Null, Object, Code as Function}
 use Rattle.rs_tree.specs.declared.ty.IntegerTy.TheVariants.{I8}
-use Rattle.rs_tree.specs.Tree.{Ty, Integer, Boolean, Void, Pointer, Array, Code, Record, LocalTree, OuterTree, ModuleTree}
+use Rattle.rs_tree.specs.Tree.{Ty, Integer, Boolean, Pointer, LocalTree, OuterTree, ModuleTree}
 use Rattle.rs_mean.specs.declared.cause.Cause.{Cause}
 use Rattle.rs_mean.specs.declared.cause.Cause.TheVariants as cause
 use Rattle.rs_mean.specs.Layout.{laid_of}

@@ -1,5 +1,5 @@
 -- Laws of the runs, which functions with empty bodies carry.
-use Rattle.std.specs.Prelude.{◌≡◌, ℕ, suc, ◌+◌, ◌≤◌, ℤ, List, [], ◌∷◌, ◌++◌, Option}
+use Rattle.std.specs.Prelude.{◌≡◌, ℕ, suc, ◌+◌, ◌≤◌, ℤ, List, ◌++◌, Option}
 use Rattle.cr_runs.specs.Runs.{Ran, came, halted, bad, out, state_of}
 use Rattle.cr_world.specs.World.{World, Outside, Terms, open_ended, trail_of, Stop, wrong, full, asks, astray, events_of}
 use Rattle.mem_bytes.specs.Counted.{Limit}

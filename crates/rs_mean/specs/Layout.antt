@@ -1,6 +1,6 @@
 -- Sizes, alignments and places of fields (the Rust Reference, "Type layout" and "The C representation").
 use Rattle.std.specs.Prelude.{ℕ, ◌*◌, ◌/◌, nat_le, List, [], ◌∷◌, reverse, Option, Some, None, bytes_eq, if◌then◌else◌, option_and_then, option_map}
-use Rattle.cr_base.specs.Layout.{most_bytes, after, after_all, no_front, raised, laid, spot}
+use Rattle.cr_base.specs.Layout.{most_bytes, after, no_front, raised, laid, spot}
 use Rattle.cr_base.specs.declared.layout.Front.{Front}
 use Rattle.cr_base.specs.declared.layout.Laid.{Laid}
 use Rattle.cr_base.specs.declared.layout.Piece.{Piece}

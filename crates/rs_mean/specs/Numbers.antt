@@ -1,6 +1,6 @@
 -- Operators over numbers (the Rust Reference, "Operator expressions"; `core`, the integer types' methods): what each gives in an integer
 -- type, or why it is wrong.
-use Rattle.std.specs.Prelude.{ℕ, ◌*◌, ◌/◌, ◌^◌, nat_lt, Bool, true, false, not, if◌then◌else◌, ℤ, pos, negsuc, ◌+ℤ◌, ◌-ℤ◌, ◌*ℤ◌, neg_ℤ, int_le, int_lt, int_div, int_rem, bit_and, bit_or, bit_xor, Result, Ok, Err}
+use Rattle.std.specs.Prelude.{ℕ, ◌/◌, ◌^◌, nat_lt, Bool, true, false, not, if◌then◌else◌, ℤ, pos, negsuc, ◌+ℤ◌, ◌-ℤ◌, ◌*ℤ◌, neg_ℤ, int_le, int_lt, int_div, int_rem, bit_and, bit_or, bit_xor, Result, Ok, Err}
 use Rattle.std.specs.Ordering.{int_eq}
 use Rattle.cr_base.specs.Scalar.{modulus, residue, wrapped}
 use Rattle.rs_tree.specs.declared.expr.Operator.{Operator}

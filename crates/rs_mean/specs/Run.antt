@@ -1,15 +1,14 @@
 -- The meaning of a crate (the Rust Reference, "Statements and expressions" and "Behavior considered undefined"), under a budget of units:
 -- each turn of a loop and each call of a function takes one.
-use Rattle.std.specs.Prelude.{ℕ, zero, suc, ◌+◌, Bool, true, false, ◌&&◌, ℤ, pos, List, [], ◌∷◌, ◌++◌, map, Option, Some, None, Result, Ok, Err, bytes_eq, codes, slice_get, if◌then◌else◌, option_and_then}
+use Rattle.std.specs.Prelude.{ℕ, zero, suc, Bool, true, false, ◌&&◌, ℤ, pos, List, [], ◌∷◌, ◌++◌, Option, Some, None, Result, Ok, Err, bytes_eq, codes, slice_get}
 use Rattle.std.specs.Ordering.{int_eq}
 use Rattle.cr_runs.specs.Runs.{Ran, came, halted, bad, out}
 use Rattle.cr_world.specs.World.{World, Outside, Terms, open_ended, Stop, first_world, events_of}
 use Rattle.ext_calls.specs.declared.call.Call.{Call}
 use Rattle.mem_bytes.specs.Pointers.{moved}
-use Rattle.mem_bytes.specs.declared.value.Ptr.{Ptr}
 use Rattle.mem_bytes.specs.declared.value.Value.{Value}
 use Rattle.mem_bytes.specs.declared.value.Value.TheVariants.{Whole, Null, Object, Code as Function}
-use Rattle.rs_tree.specs.Tree.{Ty, Integer, Boolean, Void, Pointer, Array, Code, Record, Tys, no_tys, more_tys, OptionTy, no_ty, some_ty, Place, Local, Static, Deref, Field, Expr, Literal, Truth, NoFunction, Read, Call as CallTree, CallBy, Wrapped, WrappingNeg, Offset, OffsetFrom, IsNull, IsNone, AddressOf, NullPointer, SomeFunction, Transmute, Neg, Not, Cast, Binary, And, Or, Choose, Exprs, no_exprs, more_exprs, Stmt, Assign, Eval, CopyBytes, If, Loop, Block, Break, Continue, Match, Return, Stmts, no_stmts, more_stmts, ArmTree, LiteralArm, Arms, no_arms, more_arms, FunctionTree, ModuleTree, CrateTree}
+use Rattle.rs_tree.specs.Tree.{Ty, Integer, Pointer, Code, Record, Tys, no_tys, more_tys, OptionTy, no_ty, some_ty, Place, Local, Static, Deref, Field, Expr, Literal, Truth, NoFunction, Read, Call as CallTree, CallBy, Wrapped, WrappingNeg, Offset, OffsetFrom, IsNull, IsNone, AddressOf, NullPointer, SomeFunction, Transmute, Neg, Not, Cast, Binary, And, Or, Choose, Exprs, no_exprs, more_exprs, Stmt, Assign, Eval, CopyBytes, If, Loop, Block, Break, Continue, Match, Return, Stmts, no_stmts, more_stmts, LiteralArm, Arms, no_arms, more_arms, FunctionTree, ModuleTree, CrateTree}
 use Rattle.rs_mean.specs.declared.cause.Cause.{Cause}
 use Rattle.rs_mean.specs.declared.cause.Cause.TheVariants.{WrongCall, NoneCall}
 use Rattle.rs_mean.specs.Calls.{Spot, spot, load, store, begin_params, begin_locals, end_locals, begin_statics, accepts, outer_call, copies}

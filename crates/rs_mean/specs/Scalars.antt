@@ -1,6 +1,6 @@
 -- The types of the subset as scalars, and their values (the Rust Reference, "Numeric types", "Boolean type", "Pointer types" and
 -- "Type layout").
-use Rattle.std.specs.Prelude.{ℕ, ◌==◌, Bool, true, false, ◌&&◌, ℤ, int_le, int_lt, Option, Some, None, List, bytes_eq}
+use Rattle.std.specs.Prelude.{ℕ, ◌==◌, Bool, true, false, ◌&&◌, ℤ, int_le, int_lt, Option, Some, None, bytes_eq}
 use Rattle.cr_base.specs.Scalar.{least, above}
 use Rattle.cr_base.specs.declared.scalar.Scalar.{Scalar}
 use Rattle.cr_base.specs.declared.scalar.Scalar.TheVariants as scalar

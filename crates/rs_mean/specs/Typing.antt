@@ -1,5 +1,5 @@
 -- Which crates of the subset are well typed (the Rust Reference, "Type system", "Items" and "Statements and expressions").
-use Rattle.std.specs.Prelude.{ℕ, suc, ◌+◌, Bool, true, false, not, ◌&&◌, ◌||◌, nat_le, ◌==◌, List, [], ◌∷◌, ◌++◌, map, reverse, flat_map, Option, Some, None, is_some, is_none, option_map, option_and_then, bytes_eq, codes, ℤ, if◌then◌else◌}
+use Rattle.std.specs.Prelude.{ℕ, ◌+◌, Bool, true, false, not, ◌&&◌, ◌||◌, nat_le, List, [], ◌∷◌, ◌++◌, map, flat_map, Option, Some, None, is_some, is_none, option_map, option_and_then, bytes_eq, codes, ℤ, if◌then◌else◌}
 use Rattle.std.specs.List.{list_all, list_any}
 use Rattle.std.specs.Ordering.{int_eq}
 use Rattle.cr_base.specs.Layout.{most_bytes}
@@ -10,10 +10,10 @@ use Rattle.rs_tree.specs.declared.expr.Operator.TheVariants.{Add, Sub, Mul, Div,
 use Rattle.rs_tree.specs.declared.ty.IntegerTy.{IntegerTy}
 use Rattle.rs_tree.specs.declared.ty.IntegerTy.TheVariants.{I8, I32, I64, U8, U32, U64, Isize, Usize}
 use Rattle.rs_tree.specs.Names.{is_among}
-use Rattle.rs_tree.specs.Tree.{Ty, Integer, Boolean, Void, Pointer, Array, Code, Record, Tys, no_tys, more_tys, OptionTy, no_ty, some_ty, Place, Local, Static, Deref, Field, Expr, Literal, Truth, NoFunction, Read, Call, CallBy, Wrapped, WrappingNeg, Offset, OffsetFrom, IsNull, IsNone, AddressOf, NullPointer, SomeFunction, Transmute, Neg, Not, Cast, Binary, And, Or, Choose, Exprs, no_exprs, more_exprs, Stmt, Assign, Eval, CopyBytes, If, Loop, Block, Break, Continue, Match, Return, Stmts, no_stmts, more_stmts, ArmTree, LiteralArm, Arms, no_arms, more_arms, FieldTree, RecordTree, StaticTree, OuterTree, LocalTree, FunctionTree, ItemTree, RecordItem, StaticItem, ExternItem, FunctionItem, ModuleTree, CrateTree, tys, option_ty}
-use Rattle.rs_tree.specs.Valid.{all_differ, is_void, valid_crate}
-use Rattle.rs_mean.specs.Layout.{laid_with, laid_among, record_laid, laid_of, field_at, FieldPlace}
-use Rattle.rs_mean.specs.Lookups.{record_at, Callee, outer, own, callee_at, Signature, signature_of, own_signature, symbol_of, function_number, function_with, static_home, Home, local_type}
+use Rattle.rs_tree.specs.Tree.{Ty, Integer, Boolean, Void, Pointer, Array, Code, Record, Tys, no_tys, more_tys, OptionTy, no_ty, some_ty, Place, Local, Static, Deref, Field, Expr, Literal, Truth, NoFunction, Read, Call, CallBy, Wrapped, WrappingNeg, Offset, OffsetFrom, IsNull, IsNone, AddressOf, NullPointer, SomeFunction, Transmute, Neg, Not, Cast, Binary, And, Or, Choose, Exprs, no_exprs, more_exprs, Stmt, Assign, Eval, CopyBytes, If, Loop, Block, Break, Continue, Match, Return, Stmts, no_stmts, more_stmts, LiteralArm, Arms, no_arms, more_arms, FieldTree, RecordTree, StaticTree, OuterTree, LocalTree, FunctionTree, ItemTree, RecordItem, StaticItem, ExternItem, FunctionItem, ModuleTree, CrateTree, tys, option_ty}
+use Rattle.rs_tree.specs.Valid.{all_differ, is_void}
+use Rattle.rs_mean.specs.Layout.{laid_with, laid_among, record_laid, laid_of, field_at}
+use Rattle.rs_mean.specs.Lookups.{record_at, callee_at, Signature, signature_of, own_signature, symbol_of, function_number, function_with, static_home, Home, local_type}
 use Rattle.rs_mean.specs.Scalars.{is_scalar, is_integer, is_boolean, is_signed_integer, same_integer, fits_integer, same_type, same_types, same_results}
 
 -- ---- types

@@ -1,23 +1,23 @@
 -- What operators and methods give of values (the Rust Reference, "Operator expressions" and "Type cast expressions"; `core`, `pointer` and
 -- `Option`). A value carries its type. What no well-typed crate has is `WrongCall`.
-use Rattle.std.specs.Prelude.{zero, Bool, true, false, not, ℤ, pos, ◌*ℤ◌, neg_ℤ, ◌-ℤ◌, List, Option, Some, None, Result, Ok, Err, if◌then◌else◌}
+use Rattle.std.specs.Prelude.{zero, Bool, true, false, not, ℤ, pos, ◌*ℤ◌, neg_ℤ, ◌-ℤ◌, Option, Some, None, Result, Ok, Err, if◌then◌else◌}
 use Rattle.cr_base.specs.Scalar.{converted}
 use Rattle.cr_base.specs.declared.layout.Laid.{Laid}
 use Rattle.mem_bytes.specs.Memory.{Blocks}
 use Rattle.mem_bytes.specs.Pointers.{moved, distance, difference, are_equal}
 use Rattle.mem_bytes.specs.declared.value.Value.{Value}
-use Rattle.mem_bytes.specs.declared.value.Value.TheVariants.{Whole, Null, Object, Code as Function}
+use Rattle.mem_bytes.specs.declared.value.Value.TheVariants.{Whole, Null}
 use Rattle.rs_tree.specs.declared.expr.Operator.{Operator}
 use Rattle.rs_tree.specs.declared.expr.Operator.TheVariants.{Equal, NotEqual}
 use Rattle.rs_tree.specs.declared.expr.Wrapping.{Wrapping}
 use Rattle.rs_tree.specs.declared.ty.IntegerTy.{IntegerTy}
 use Rattle.rs_tree.specs.declared.ty.IntegerTy.TheVariants.{Isize}
-use Rattle.rs_tree.specs.Tree.{Ty, Integer, Boolean, Void, Pointer, Array, Code, Record}
+use Rattle.rs_tree.specs.Tree.{Ty, Integer, Boolean, Pointer, Code}
 use Rattle.rs_mean.specs.declared.cause.Cause.{Cause}
 use Rattle.rs_mean.specs.declared.cause.Cause.TheVariants.{Overflow, WrongCall}
 use Rattle.rs_mean.specs.Numbers.{number_of_truth, checked, wrapped_in, is_comparison, compared, computed, computed_truth, wrapping, complement}
 use Rattle.rs_mean.specs.Scalars.{integer_scalar}
-use Rattle.rs_mean.specs.World.{cause_of_pointer, or_cause, then_try}
+use Rattle.rs_mean.specs.World.{cause_of_pointer, or_cause}
 
 -- a value and its type
 pub record Typed : Type 0 where
