@@ -1,0 +1,8 @@
+pub mod Bounded
+mod ExampleRuns
+mod ExampleTypes
+pub mod Extended
+pub mod Pieces
+pub mod Silent
+pub mod Trails
+pub mod Unfolded

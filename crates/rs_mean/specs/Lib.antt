@@ -1,0 +1,10 @@
+pub mod Calls
+pub mod Laws
+pub mod Layout
+pub mod Lookups
+pub mod Numbers
+pub mod Run
+pub mod Scalars
+pub mod Typing
+pub mod Values
+pub mod World
