@@ -37,7 +37,7 @@ pub record KnownFunction : Type 0 where
   pub result : KnownType
   pub params : List KnownType
 
-abbrev known : List ℕ → Known → KnownType → List KnownType → KnownFunction
+abbrev pub known : List ℕ → Known → KnownType → List KnownType → KnownFunction
 known name does result params = record { name = name; does = does; result = result; params = params }
 
 unfoldable pub known_table : List KnownFunction
@@ -70,17 +70,17 @@ pub data Effect : Type 0 where
   fails : HeldFault → Effect
 
 -- a block larger than any object of the profile isn't given, and no answer is taken (7.20.3p1)
-abbrev allocation : Bool → ℕ → Held → Effect
+abbrev pub allocation : Bool → ℕ → Held → Effect
 allocation is_zero size held = if nat_le size most_bytes then wants_block is_zero size else gives Null held
 
 -- the start of an allocated block that lives (7.20.3.2p2)
 abbrev is_allocated : Ptr → Held → Bool
 is_allocated at held = at.offset == 0 && is_listed at.block held.heap
 
-abbrev freed : Ptr → Held → Effect
+abbrev pub freed : Ptr → Held → Effect
 freed at held = if is_allocated at held then gives_nothing (without_allocated at.block held) else fails not_allocated
 
-abbrev accessed_as : Value → Held → Result Blocks Fault → Effect
+abbrev pub accessed_as : Value → Held → Result Blocks Fault → Effect
 accessed_as value held (Ok blocks) = gives value (with_blocks blocks held)
 accessed_as value held (Err fault) = fails (access fault)
 
@@ -89,19 +89,19 @@ abbrev pub bytes_overlap : Ptr → Ptr → ℕ → Bool
 bytes_overlap first second count =
     first.block == second.block && nat_lt first.offset (second.offset + count) && nat_lt second.offset (first.offset + count)
 
-abbrev unless_overlapping : Bool → Ptr → Ptr → ℕ → Effect → Effect
+abbrev pub unless_overlapping : Bool → Ptr → Ptr → ℕ → Effect → Effect
 unless_overlapping true to from count effect = effect
 unless_overlapping false to from count (gives value held) =
     if bytes_overlap to from count then fails overlapping else gives value held
 unless_overlapping false to from count effect = effect
 
 -- an access through null beside one to a place, which may be dead
-abbrev null_beside : Option Block → Effect
+abbrev pub null_beside : Option Block → Effect
 null_beside None = fails (access Dead)
 null_beside (Some block) = fails through_null
 
 -- one byte or more are copied (7.21.2.1, 7.21.2.2)
-abbrev copied : Bool → Value → Value → ℕ → Held → Effect
+abbrev pub copied : Bool → Value → Value → ℕ → Held → Effect
 copied may_overlap (Object to) (Object from) count held =
     unless_overlapping may_overlap to from count (accessed_as (Object to) held (after_copy held.blocks from to count))
 copied may_overlap (Object to) Null count held = null_beside (live_block held.blocks to.block)
@@ -110,19 +110,19 @@ copied may_overlap Null Null count held = fails through_null
 copied may_overlap to from count held = fails wrong_kind
 
 -- a copy of no bytes does nothing else than to give its first argument
-abbrev copying : Bool → Value → Value → ℕ → Held → Effect
+abbrev pub copying : Bool → Value → Value → ℕ → Held → Effect
 copying may_overlap to from zero held = gives to held
 copying may_overlap to from (suc n) held = copied may_overlap to from (suc n) held
 
 -- bytes are set (7.21.6.1); the place has to live for no bytes, too
-abbrev filling : Value → ℤ → ℕ → Held → Effect
+abbrev pub filling : Value → ℤ → ℕ → Held → Effect
 filling (Object at) byte count held =
     accessed_as (Object at) held (after_fill held.blocks at (residue byte 256) count)
 filling Null byte count held = fails through_null
 filling (Whole number) byte count held = fails wrong_kind
 filling (Code number) byte count held = fails wrong_kind
 
-abbrev freeing : Value → Held → Effect
+abbrev pub freeing : Value → Held → Effect
 freeing (Object at) held = freed at held
 freeing Null held = gives_nothing held
 freeing (Whole number) held = fails wrong_kind

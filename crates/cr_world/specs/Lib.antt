@@ -1,5 +1,5 @@
 pub mod Held
 pub mod Known
-pub mod Pointers
+pub mod Laws
 pub mod Texts
 pub mod World

@@ -12,7 +12,7 @@ use Rattle.mem_bytes.specs.Memory.{Blocks, live_block}
 use Rattle.cr_world.specs.Held.{HeldFault, access, through_null, wrong_kind}
 
 -- a byte of a text, before what follows it; the zero byte ends the text
-abbrev text_from : ℕ → Result (List ℕ) Fault → Result (List ℕ) Fault
+abbrev pub text_from : ℕ → Result (List ℕ) Fault → Result (List ℕ) Fault
 text_from zero others = Ok []
 text_from (suc n) others = and_then others (λ bytes. Ok (suc n ∷ bytes))
 

@@ -5,13 +5,14 @@ use Rattle.cr_base.specs.declared.rule.URule.{URule}
 use Rattle.cr_base.specs.declared.rule.URule.TheVariants.{U1, U5, U6, U7, U8, U9, U10, U14, U15, U16}
 use Rattle.cx_core.specs.Trees.{CTy}
 use Rattle.cr_world.specs.Held.{HeldFault, access, through_null, not_allocated, overlapping, wrong_kind}
-use Rattle.cr_world.specs.Pointers.{PointerFault, to_dead, leaves_object, not_within_one, no_pointer}
 use Rattle.cr_world.specs.World.{Stop, wrong}
 use Rattle.cx_mean.specs.Marks.{Marks, Range, no_marks, conflict, both, any_overlap}
 use Rattle.mem_bytes.specs.Access.{and_then}
 use Rattle.mem_bytes.specs.declared.cell.Cell.{Cell}
 use Rattle.mem_bytes.specs.declared.fault.Fault.{Fault}
 use Rattle.mem_bytes.specs.declared.fault.Fault.TheVariants.{Dead, Outside, Misaligned, Unset, BadBool, MixedPointer}
+use Rattle.mem_bytes.specs.declared.pointer.PointerFault.{PointerFault}
+use Rattle.mem_bytes.specs.declared.pointer.PointerFault.TheVariants.{ToDead, LeavesObject, NotWithinOne, NoPointer}
 use Rattle.mem_bytes.specs.declared.value.Ptr.{Ptr}
 use Rattle.mem_bytes.specs.declared.value.Value.{Value}
 use Rattle.mem_bytes.specs.declared.value.Value.TheVariants.{Object}
@@ -64,10 +65,10 @@ why_held overlapping = breaks U16
 why_held wrong_kind = stuck
 
 abbrev why_pointer : URule → PointerFault → CWhy
-why_pointer rule to_dead = breaks U5
-why_pointer rule leaves_object = breaks rule
-why_pointer rule not_within_one = breaks rule
-why_pointer rule no_pointer = stuck
+why_pointer rule ToDead = breaks U5
+why_pointer rule LeavesObject = breaks rule
+why_pointer rule NotWithinOne = breaks rule
+why_pointer rule NoPointer = stuck
 
 -- the outcome of an operation on pointers: beside pointers to dead objects, what is wrong breaks a rule
 abbrev pub by_pointers : {A : Type 0} → URule → Result A PointerFault → Result A CWhy

@@ -10,7 +10,7 @@ use Rattle.cx_core.specs.declared.expr.Op1.TheVariants.{Not}
 use Rattle.cx_core.specs.declared.expr.Op2.{Op2}
 use Rattle.cx_core.specs.declared.expr.Op2.TheVariants.{Add, Subtract, Less, Greater, LessOrEqual, GreaterOrEqual, Equal, NotEqual}
 use Rattle.cx_core.specs.Trees.{CTy, void, basic, enum_type, pointer, array, record_type, function, form_of_type}
-use Rattle.cr_world.specs.Pointers.{usable, moved, distance, difference, equality}
+use Rattle.mem_bytes.specs.Pointers.{usable, moved, distance, difference, equality}
 use Rattle.cx_mean.specs.Numbers.{represents, number_of_truth, number_of_binary, number_of_unary}
 use Rattle.cx_mean.specs.Operands.{CWhy, stuck, needed, by_pointers, CValue, scalar, missing, scalar_value}
 use Rattle.cx_mean.specs.Settings.{CSetting, scalar_in_type, element_extent}
@@ -168,7 +168,7 @@ to_scalar (Whole width signed) blocks value = to_number (Whole width signed) blo
 to_scalar Object blocks value = to_pointer Object blocks value
 to_scalar Code blocks value = to_pointer Code blocks value
 
-abbrev converted_scalar : Option Scalar → Blocks → CValue → Result CValue CWhy
+abbrev pub converted_scalar : Option Scalar → Blocks → CValue → Result CValue CWhy
 converted_scalar None blocks value = Err stuck
 converted_scalar (Some kind) blocks value =
     and_then (scalar_value value) (λ one. and_then (to_scalar kind blocks one) (λ new. Ok (scalar new)))

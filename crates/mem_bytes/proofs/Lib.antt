@@ -6,6 +6,8 @@ pub mod Examples
 pub mod Fields
 pub mod Held
 pub mod Numbered
+pub mod OneByOne
+pub mod PointerExamples
 pub mod Reached
 pub mod Slots
 pub mod Windows

@@ -9,11 +9,11 @@ use Rattle.mem_bytes.specs.declared.fault.Fault.{Fault}
 use Rattle.mem_bytes.specs.declared.fault.Fault.TheVariants.{Misaligned, MixedPointer}
 use Rattle.mem_bytes.specs.declared.value.Ptr.{Ptr}
 use Rattle.mem_bytes.specs.declared.value.Value.{Value}
-use Rattle.mem_bytes.specs.Access.{and_then, part_of, is_aligned, scalar_part_of, live_read, live_change, value_at, after_put, field_at, after_put_bits, after_fill, after_put_cell, block_with_copy, copied_between, after_copy}
+use Rattle.mem_bytes.specs.Access.{and_then, part_of, part_at, is_aligned, scalar_part_of, is_record_aligned, record_part_of, live_read, live_change, record_at, after_put_record, value_at, after_put, field_at, after_put_bits, after_fill, after_put_cell, block_with_copy, copied_between, after_copy}
 use Rattle.mem_bytes.specs.Bits.{bytes_touched, with_field, bit_cells, field_in, with_field_in}
 use Rattle.mem_bytes.specs.Calls.{IsFieldPlace}
 use Rattle.mem_bytes.specs.Coding.{IsScalar, IsValueOf, is_bits, scalar_size, cells_of, value_of, bits_of, set_of}
-use Rattle.mem_bytes.specs.Laws.{Writes, AreApart, part_at}
+use Rattle.mem_bytes.specs.Laws.{Writes, AreApart}
 use Rattle.mem_bytes.specs.Memory.{Block, Blocks, live_block, size_of, byte_cell, with_part}
 use Rattle.mem_bytes.proofs.Bytes.{length-bit_cells}
 use Rattle.mem_bytes.proofs.Coded.{length-cells_of, value_of-cells_of}
@@ -119,6 +119,22 @@ fill_writes memory after at byte count e =
 pub put_cell_writes : (memory after : Blocks) (at : Ptr) (cell : Cell) → after_put_cell memory at cell ≡ Ok after → Writes memory at 1 after
 put_cell_writes memory after at cell e = given_writes memory after at 1 (cell ∷ []) refl e
 
+pub put_record_writes : (memory after : Blocks) (at : Ptr) (align : ℕ) (cells : List Cell) → after_put_record memory at align cells ≡ Ok after → Writes memory at (length cells) after
+put_record_writes memory after at align cells e =
+    let step : Block → Result Block Fault = λ block. and_then (record_part_of block at.offset (length cells) align) (λ _. Ok (with_part block at.offset cells)) in
+    let change = changed memory after at.block step e in
+    let parts = and_then_ok (record_part_of change.block at.offset (length cells) align) (λ _. Ok (with_part change.block at.offset cells)) change.new change.stepped in
+    let held = and_then_ok (part_of change.block at.offset (length cells)) (λ found. cond (is_record_aligned align change.block at.offset) (Ok found) (Err Misaligned)) parts.0 parts.1 in
+    let new : change.new ≡ with_part change.block at.offset cells = cc (parts.2) in
+    record {
+      block = change.block;
+      cells = cells;
+      live = change.live;
+      many = refl;
+      within = (part_ok change.block at.offset (length cells) held.0 held.1).0;
+      made = change.made ∙ ap (λ block. slice_set memory at.block (Some block)) new;
+    }
+
 copied_writes : (memory after : Blocks) (from to : Ptr) (count : ℕ) (source target : Option Block) → live_block memory to.block ≡ target → copied_between memory from to count source target ≡ Ok after → Writes memory to count after
 copied_writes memory after from to count None None live e = cc
 copied_writes memory after from to count None (Some target) live e = cc
@@ -171,6 +187,14 @@ cells_stay memory after at other count many w apart = stays (λ align part. part
 pub values_stay : (memory after : Blocks) (at other : Ptr) (count : ℕ) (scalar : Scalar) → Writes memory at count after → AreApart at count other (scalar_size scalar) → value_at after other scalar ≡ value_at memory other scalar
 values_stay memory after at other count scalar w apart =
     stays (λ align part. and_then (and_then part (λ cells. cond (other.offset % scalar_size scalar == 0 && nat_le (scalar_size scalar) align) (Ok cells) (Err Misaligned))) (value_of scalar)) memory after at other count (scalar_size scalar) w apart
+
+pub fields_stay : (memory after : Blocks) (at other : Ptr) (count bit width : ℕ) → Writes memory at count after → AreApart at count other (bytes_touched bit width) → field_at after other bit width ≡ field_at memory other bit width
+fields_stay memory after at other count bit width w apart =
+    stays (λ align part. and_then part (field_in bit width)) memory after at other count (bytes_touched bit width) w apart
+
+pub records_stay : (memory after : Blocks) (at other : Ptr) (count size align : ℕ) → Writes memory at count after → AreApart at count other size → record_at after other size align ≡ record_at memory other size align
+records_stay memory after at other count size align w apart =
+    stays (λ aligned part. and_then part (λ cells. cond (other.offset % align == 0 && nat_le align aligned) (Ok cells) (Err Misaligned))) memory after at other count size w apart
 
 -- ---- loads after stores
 
@@ -229,6 +253,20 @@ copied_stands memory after from to count (Some source) (Some target) live there 
     ∙ part_written target to.offset count read.0 many (part_ok target to.offset count room.0 room.1).0
     ∙ sym read.1
     ∙ sym (ap (λ slot. live_read slot (λ b. part_of b from.offset count)) live)
+
+-- what was copied was there
+copied_read : (memory after : Blocks) (from to : Ptr) (count : ℕ) (source target : Option Block) → live_block memory from.block ≡ source → copied_between memory from to count source target ≡ Ok after → (cells : List Cell) × (part_at memory from count ≡ Ok cells)
+copied_read memory after from to count None None live e = cc
+copied_read memory after from to count None (Some target) live e = cc
+copied_read memory after from to count (Some source) None live e = cc
+copied_read memory after from to count (Some source) (Some target) live e =
+    let made = and_then_ok (block_with_copy target to.offset source from.offset count) (λ block. Ok (slice_set memory to.block (Some block))) after e in
+    let read = and_then_ok (part_of source from.offset count) (λ cells. and_then (part_of target to.offset count) (λ _. Ok (with_part target to.offset cells))) made.0 made.1 in
+    (read.0, ap (λ slot. live_read slot (λ b. part_of b from.offset count)) live ∙ read.1)
+
+pub copy_read : (memory after : Blocks) (from to : Ptr) (count : ℕ) → 0 < count → after_copy memory from to count ≡ Ok after → (cells : List Cell) × (part_at memory from count ≡ Ok cells)
+copy_read memory after from to count p e =
+    copied_read memory after from to count (live_block memory from.block) (live_block memory to.block) refl (sym (cond-false _ _ _ (ne_eqb count 0 (λ none. omega arith))) ∙ e)
 
 pub copy_stands : (memory after : Blocks) (from to : Ptr) (count : ℕ) → 0 < count → after_copy memory from to count ≡ Ok after → part_at after to count ≡ part_at memory from count
 copy_stands memory after from to count p e =

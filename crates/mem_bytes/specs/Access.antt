@@ -1,6 +1,6 @@
 -- Accesses to memory. The faults of each are found in this order: Dead, Outside, Misaligned, then
 -- those of what the cells hold.
-use Rattle.std.specs.Prelude.{ℕ, ◌+◌, ◌%◌, Bool, ◌&&◌, ◌==◌, nat_le, if◌then◌else◌, List, [], ◌∷◌, take, drop, replicate, Option, Some, None, slice_set, slice_index_or, Result, Ok, Err}
+use Rattle.std.specs.Prelude.{ℕ, ◌+◌, ◌%◌, Bool, ◌&&◌, ◌==◌, nat_le, if◌then◌else◌, List, [], ◌∷◌, length, take, drop, replicate, Option, Some, None, slice_set, slice_index_or, Result, Ok, Err}
 use Rattle.cr_base.specs.declared.scalar.Scalar.{Scalar}
 use Rattle.mem_bytes.specs.declared.cell.Cell.{Cell}
 use Rattle.mem_bytes.specs.declared.fault.Fault.{Fault}
@@ -81,6 +81,23 @@ block_with_copy block offset source from count =
     and_then (part_of source from count) (λ cells.
     and_then (part_of block offset count) (λ _. Ok (with_part block offset cells)))
 
+-- a structure or union of an alignment may stand at an offset of a block
+abbrev pub is_record_aligned : ℕ → Block → ℕ → Bool
+is_record_aligned align block offset = offset % align == 0 && nat_le align block.align
+
+-- the cells of a structure or union of a size and an alignment; Misaligned where it may not stand
+-- there
+abbrev pub record_part_of : Block → ℕ → (size align : ℕ) → Result (List Cell) Fault
+record_part_of block offset size align =
+    and_then (part_of block offset size) (λ cells.
+    if is_record_aligned align block offset then Ok cells else Err Misaligned)
+
+-- a block after the cells of a structure or union of an alignment were stored
+abbrev pub block_with_record : Block → ℕ → (align : ℕ) → List Cell → Result Block Fault
+block_with_record block offset align cells =
+    and_then (record_part_of block offset (length cells) align) (λ _.
+    Ok (with_part block offset cells))
+
 -- ---- accesses to a memory
 
 -- what a step finds in a live block; Dead where the block isn't live
@@ -118,6 +135,21 @@ after_put_bits memory at bit width field =
 abbrev pub after_fill : Blocks → Ptr → ℕ → ℕ → Result Blocks Fault
 after_fill memory at byte count =
     live_change memory at.block (λ block. block_with_fill block at.offset byte count)
+
+-- so many cells at a place, as they are
+abbrev pub part_at : Blocks → Ptr → ℕ → Result (List Cell) Fault
+part_at memory at count = live_read (live_block memory at.block) (λ block. part_of block at.offset count)
+
+-- the cells of a structure or union of a size and an alignment, which are read in one access: a value
+-- of its type is its cells, padding too (6.2.6.1p6)
+abbrev pub record_at : Blocks → Ptr → (size align : ℕ) → Result (List Cell) Fault
+record_at memory at size align =
+    live_read (live_block memory at.block) (λ block. record_part_of block at.offset size align)
+
+-- the cells of a structure or union of an alignment are stored in one access
+abbrev pub after_put_record : Blocks → Ptr → (align : ℕ) → List Cell → Result Blocks Fault
+after_put_record memory at align cells =
+    live_change memory at.block (λ block. block_with_record block at.offset align cells)
 
 -- the one cell at a place, as it is
 abbrev pub cell_at : Blocks → Ptr → Result Cell Fault

@@ -1,5 +1,5 @@
 -- Laws of memories. Each is the contract of a function with an empty body, in src/laws.rt.
-use Rattle.std.specs.Prelude.{◌≡◌, ◌≢◌, ◌⊎◌, ℕ, ◌+◌, ◌*◌, ◌^◌, ◌<◌, ◌≤◌, List, length, replicate, All, Option, Some, None, slice_set, Result, Ok, Err}
+use Rattle.std.specs.Prelude.{◌≡◌, ◌≢◌, ◌⊎◌, ℕ, zero, suc, ◌+◌, ◌*◌, ◌^◌, ◌<◌, ◌≤◌, List, [], ◌∷◌, length, replicate, All, Option, Some, None, slice_set, Result, Ok, Err}
 use Rattle.cr_base.specs.declared.scalar.Scalar.{Scalar}
 use Rattle.cr_base.specs.declared.scalar.Scalar.TheVariants.{Object, Code}
 use Rattle.mem_bytes.specs.declared.cell.Cell.{Cell}
@@ -9,7 +9,7 @@ use Rattle.mem_bytes.specs.declared.fault.Fault.TheVariants.{Unset}
 use Rattle.mem_bytes.specs.declared.value.Ptr.{Ptr}
 use Rattle.mem_bytes.specs.declared.value.Value.{Value}
 use Rattle.mem_bytes.specs.declared.value.Value.TheVariants.{Null}
-use Rattle.mem_bytes.specs.Access.{part_of, live_read, value_at, after_put, field_at, after_put_bits, after_fill, after_put_cell, after_copy, after_kill}
+use Rattle.mem_bytes.specs.Access.{and_then, part_at, value_at, after_put, field_at, after_put_bits, after_fill, cell_at, after_put_cell, record_at, after_put_record, after_copy, after_kill}
 use Rattle.mem_bytes.specs.Bits.{bytes_touched}
 use Rattle.mem_bytes.specs.Calls.{IsAlignment, IsBlockSize, IsFieldPlace, IsPointer}
 use Rattle.mem_bytes.specs.Coding.{IsScalar, IsValueOf, scalar_size, cells_of, value_of}
@@ -67,6 +67,8 @@ pub record CallsWrite : Type 0 where
       after_fill memory at byte count ≡ Ok after → Writes memory at count after
   pub put_cell : (memory after : Blocks) (at : Ptr) (cell : Cell) →
       after_put_cell memory at cell ≡ Ok after → Writes memory at 1 after
+  pub put_record : (memory after : Blocks) (at : Ptr) (align : ℕ) (cells : List Cell) →
+      after_put_record memory at align cells ≡ Ok after → Writes memory at (length cells) after
   pub copy : (memory after : Blocks) (from to : Ptr) (count : ℕ) → 0 < count →
       after_copy memory from to count ≡ Ok after → Writes memory to count after
 
@@ -75,11 +77,7 @@ abbrev pub AreApart : Ptr → ℕ → Ptr → ℕ → Type 0
 AreApart at count other many =
     (at.block ≢ other.block) ⊎ ((at.offset + count ≤ other.offset) ⊎ (other.offset + many ≤ at.offset))
 
--- so many cells at a place, or the fault of an access to them
-abbrev pub part_at : Blocks → Ptr → ℕ → Result (List Cell) Fault
-part_at memory at count = live_read (live_block memory at.block) (λ block. part_of block at.offset count)
-
--- a write changes no cell elsewhere, and so no value there
+-- a write changes no cell elsewhere, and so no value, bit-field, structure or union there
 pub record WritesNothingElse : Type 0 where
   pub cells : (memory after : Blocks) (at other : Ptr) (count many : ℕ) →
       Writes memory at count after → AreApart at count other many →
@@ -87,6 +85,12 @@ pub record WritesNothingElse : Type 0 where
   pub values : (memory after : Blocks) (at other : Ptr) (count : ℕ) (scalar : Scalar) →
       Writes memory at count after → AreApart at count other (scalar_size scalar) →
       value_at after other scalar ≡ value_at memory other scalar
+  pub fields : (memory after : Blocks) (at other : Ptr) (count bit width : ℕ) →
+      Writes memory at count after → AreApart at count other (bytes_touched bit width) →
+      field_at after other bit width ≡ field_at memory other bit width
+  pub records : (memory after : Blocks) (at other : Ptr) (count size align : ℕ) →
+      Writes memory at count after → AreApart at count other size →
+      record_at after other size align ≡ record_at memory other size align
 
 -- the cells of one place stand at another after a copy, as they were before it, also where the two
 -- overlap
@@ -95,6 +99,33 @@ CopiesCells =
     (memory after : Blocks) (from to : Ptr) (count : ℕ) → 0 < count →
     after_copy memory from to count ≡ Ok after →
     part_at after to count ≡ part_at memory from count
+
+-- the place so many bytes behind another
+abbrev pub behind : Ptr → ℕ → Ptr
+behind at bytes = record at { offset = at.offset + bytes }
+
+-- so many cells, read one after the other
+abbrev pub cells_read : Blocks → Ptr → ℕ → Result (List Cell) Fault
+cells_read memory at zero = Ok []
+cells_read memory at (suc count) =
+    and_then (cell_at memory at) (λ first.
+    and_then (cells_read memory (behind at 1) count) (λ others. Ok (first ∷ others)))
+
+-- cells stored one after the other
+abbrev pub after_put_cells : Blocks → Ptr → List Cell → Result Blocks Fault
+after_put_cells memory at [] = Ok memory
+after_put_cells memory at (first ∷ others) =
+    and_then (after_put_cell memory at first) (λ next. after_put_cells next (behind at 1) others)
+
+-- what is read, stored or copied in one access is read, stored or copied cell by cell
+pub record GoesCellByCell : Type 0 where
+  pub read : (memory : Blocks) (at : Ptr) (size align : ℕ) (cells : List Cell) →
+      record_at memory at size align ≡ Ok cells → cells_read memory at size ≡ Ok cells
+  pub put : (memory after : Blocks) (at : Ptr) (align : ℕ) (cells : List Cell) →
+      after_put_record memory at align cells ≡ Ok after → after_put_cells memory at cells ≡ Ok after
+  pub copy : (memory after : Blocks) (from to : Ptr) (count place : ℕ) → place < count →
+      after_copy memory from to count ≡ Ok after →
+      cell_at after (behind to place) ≡ cell_at memory (behind from place)
 
 -- ---- what cells hold
 

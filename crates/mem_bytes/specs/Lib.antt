@@ -5,3 +5,4 @@ pub mod Coding
 pub mod Counted
 pub mod Laws
 pub mod Memory
+pub mod Pointers

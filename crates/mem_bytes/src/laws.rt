@@ -1,4 +1,4 @@
-ghost use Rattle.mem_bytes.specs.Laws.{DecodesEncoded, NullIsZeroBytes, NewIsUnset, LoadsStored, CallsWrite, WritesNothingElse, CopiesCells, LoadsStoredBits, BitsBesideStay, KeepsCells, CountsBlocks, NeverUsedAgain, KeepsLimit};
+ghost use Rattle.mem_bytes.specs.Laws.{DecodesEncoded, NullIsZeroBytes, NewIsUnset, LoadsStored, CallsWrite, WritesNothingElse, CopiesCells, GoesCellByCell, LoadsStoredBits, BitsBesideStay, KeepsCells, CountsBlocks, NeverUsedAgain, KeepsLimit};
 
 /// Law: the cells of a value mean that value.
 pub fn decode_of_encode()
@@ -25,8 +25,8 @@ pub fn calls_write()
     ensures { CallsWrite }
 {}
 
-/// Law: a write changes nothing elsewhere, that is in another block, or at a place that has no cell
-/// in common with it.
+/// Law: a write changes no cell, value, bit-field, structure or union elsewhere, that is in another
+/// block, or at a place that has no cell in common with it.
 pub fn writes_nothing_else()
     ensures { WritesNothingElse }
 {}
@@ -35,6 +35,11 @@ pub fn writes_nothing_else()
 /// the two overlap.
 pub fn copy_copies_cells()
     ensures { CopiesCells }
+{}
+
+/// Law: what is read, stored or copied in one access is read, stored or copied cell by cell.
+pub fn cells_go_one_by_one()
+    ensures { GoesCellByCell }
 {}
 
 /// Law: what was stored in a bit-field is loaded from it.

@@ -10,8 +10,7 @@ use Rattle.straight_mean.specs.Leftmost.{c_value}
 use Rattle.straight_mean.specs.Marks.{Range, bits_at, any_overlap}
 use Rattle.straight_mean.specs.Operands.{COperand, Frame, CWorld}
 use Rattle.straight_mean.specs.Sound.{AreInScope}
-use Rattle.mem_bytes.specs.Access.{value_at}
-use Rattle.mem_bytes.specs.Laws.{part_at}
+use Rattle.mem_bytes.specs.Access.{part_at, value_at}
 use Rattle.mem_bytes.specs.Memory.{Blocks}
 use Rattle.mem_bytes.specs.declared.value.Ptr.{Ptr}
 
