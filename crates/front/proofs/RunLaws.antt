@@ -1,6 +1,6 @@
 -- Each clause of the top call, from how the job ended and how that was told.
 use Rattle.std.specs.Prelude.{All, slice_get}
-use Rattle.std.proofs.Common.{◌≡◌, ◌≢◌, ℕ, ◌⊎◌, inl, inr, true, true≢false, List, take, Option, Some, None, refl, sym, ap, subst, ◌∙◌, arith}
+use Rattle.std.proofs.Common.{◌≡◌, ◌≢◌, ◌≤◌, ◌+◌, ◌-◌, ◌^◌, min, ℕ, ◌⊎◌, inl, inr, true, true≢false, List, take, Option, Some, None, refl, sym, ap, subst, ◌∙◌, arith}
 use Rattle.std.proofs.lemmas.Option.{slice_get_within, get_or_from_slice_get}
 use Rattle.cr_base.specs.Count.{Rose}
 use Rattle.cr_base.specs.declared.refusal.Refusal.{Refusal}
@@ -169,7 +169,7 @@ when_3 (Some (several first)) (cannot_write name) s t a b r leaves told is = abs
 when_3 (Some (several first)) memory s t a b r leaves told is = other memory a b r 3 is (λ (x : 3 ≡ 4). omega arith) (λ (x : 3 ≡ 10). omega arith) (λ (x : 3 ≡ 10). omega arith) told
 
 -- status 4
-abbrev Four : Option Job → ShelfState → ShelfState → SinkState → SinkState → Type 0
+abbrev pub Four : Option Job → ShelfState → ShelfState → SinkState → SinkState → Type 0
 Four job s t a b =
     ForJob job (λ directory names. (name : List ℕ) × IsUnwritten directory names name s t × Appended (unwritten_report name) a.written b.written)
     ⊎ ((ending : Ending) × Leaves job ending s t × WriteFailed (report_of ending) a b)
@@ -359,3 +359,29 @@ when_sound (Some (transpile directory names)) usage s t a b r leaves told units 
 when_sound (Some (transpile directory names)) (cannot_read name) s t a b r leaves told units program holds core = inr (inr leaves.rose)
 when_sound (Some (transpile directory names)) (cannot_write name) s t a b r leaves told units program holds core = inr (inr leaves.rose)
 when_sound (Some (transpile directory names)) memory s t a b r leaves told units program holds core = inr (inl told.0)
+
+-- ---- over what never fails
+
+-- a count that is 0 before and after didn't rise
+never_rose : (before now : ℕ) → before ≡ 0 → now ≡ 0 → Rose before now → ⊥
+never_rose before now e d rose =
+    let least : 1 ≤ 0 = subst (λ (n : ℕ). min (0 + 1) (2 ^ 64 - 1) ≤ n) d (subst (λ (n : ℕ). min (n + 1) (2 ^ 64 - 1) ≤ now) e rose) in
+    omega (arith, least)
+
+pub never_3 : (job : Option Job) (s t : ShelfState) (a b : SinkState) → s.faults ≡ 0 → t.faults ≡ 0 →
+    ForJob job (λ directory names. (name : List ℕ) × IsUnread names name s t × Appended (unread_report name) a.written b.written) → ⊥
+never_3 None s t a b e d why = why
+never_3 (Some (transpile directory names)) s t a b e d why = never_rose s.faults t.faults e d why.1.rose
+never_3 (Some (several first)) s t a b e d why = why
+
+unwritten_never : (job : Option Job) (s t : ShelfState) (a b : SinkState) → s.faults ≡ 0 → t.faults ≡ 0 →
+    ForJob job (λ directory names. (name : List ℕ) × IsUnwritten directory names name s t × Appended (unwritten_report name) a.written b.written) → ⊥
+unwritten_never None s t a b e d why = why
+unwritten_never (Some (transpile directory names)) s t a b e d why = never_rose s.faults t.faults e d why.1.rose
+unwritten_never (Some (several first)) s t a b e d why = why
+
+pub never_4 : (job : Option Job) (s t : ShelfState) (a b : SinkState) → s.faults ≡ 0 → t.faults ≡ 0 → a.faults ≡ 0 → b.faults ≡ 0 → Four job s t a b → ⊥
+never_4 job s t a b e d x y why = elim why [
+  | inl unwritten ↦ unwritten_never job s t a b e d unwritten
+  | inr failed ↦ never_rose a.faults b.faults x y failed.2.rose
+]
