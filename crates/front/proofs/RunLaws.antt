@@ -7,7 +7,7 @@ use Rattle.cr_base.specs.declared.refusal.Refusal.{Refusal}
 use Rattle.shelf.specs.declared.file.File.{File}
 use Rattle.shelf.specs.Shelf.{ShelfState, without_file}
 use Rattle.shelf.specs.Sink.{SinkState, Appended}
-use Rattle.front.specs.Job.{Job, transpile, several}
+use Rattle.front.specs.Job.{Job, job_of, transpile, several}
 use Rattle.front.specs.Steps.{not_built}
 use Rattle.straight_core.specs.Trees.{CProgram}
 use Rattle.straight_rust_tree.specs.Text.{text_of}
@@ -16,7 +16,7 @@ use Rattle.front.specs.Refusals.{IsRead, FirstBroken, CoreOf}
 use Rattle.front.specs.Files.{Held, WhereTold, units_of, files_in, with_files}
 use Rattle.front.specs.Report.{Ending, done, refused, usage, cannot_read, cannot_write, memory, IsTold, IsReported, WriteFailed, ReportsMemory, report_of, status_of, refusal_report, usage_report, unread_report, unwritten_report}
 use Rattle.front.specs.Transpile.{IsDone, IsRefused, IsUnread, IsUnwritten, Translates, Leaves}
-use Rattle.front.specs.Run.{is_status, is_several, ForJob, RefusedIn, Yields}
+use Rattle.front.specs.Run.{is_status, is_several, ForJob, RefusedIn, Yields, CannotWrite}
 
 four_ten : ◌≢◌ {A = ℕ} 4 10
 four_ten e = omega arith
@@ -368,11 +368,11 @@ never_rose before now e d rose =
     let least : 1 ≤ 0 = subst (λ (n : ℕ). min (0 + 1) (2 ^ 64 - 1) ≤ n) d (subst (λ (n : ℕ). min (n + 1) (2 ^ 64 - 1) ≤ now) e rose) in
     omega (arith, least)
 
-pub never_3 : (job : Option Job) (s t : ShelfState) (a b : SinkState) → s.faults ≡ 0 → t.faults ≡ 0 →
-    ForJob job (λ directory names. (name : List ℕ) × IsUnread names name s t × Appended (unread_report name) a.written b.written) → ⊥
-never_3 None s t a b e d why = why
-never_3 (Some (transpile directory names)) s t a b e d why = never_rose s.faults t.faults e d why.1.rose
-never_3 (Some (several first)) s t a b e d why = why
+unread_never : (job : Option Job) (s t : ShelfState) (unwritten written : List ℕ) → s.faults ≡ 0 → t.faults ≡ 0 →
+    ForJob job (λ directory names. (name : List ℕ) × IsUnread names name s t × Appended (unread_report name) unwritten written) → ⊥
+unread_never None s t unwritten written e d why = why
+unread_never (Some (transpile directory names)) s t unwritten written e d why = never_rose s.faults t.faults e d why.1.rose
+unread_never (Some (several first)) s t unwritten written e d why = why
 
 unwritten_never : (job : Option Job) (s t : ShelfState) (a b : SinkState) → s.faults ≡ 0 → t.faults ≡ 0 →
     ForJob job (λ directory names. (name : List ℕ) × IsUnwritten directory names name s t × Appended (unwritten_report name) a.written b.written) → ⊥
@@ -380,8 +380,12 @@ unwritten_never None s t a b e d why = why
 unwritten_never (Some (transpile directory names)) s t a b e d why = never_rose s.faults t.faults e d why.1.rose
 unwritten_never (Some (several first)) s t a b e d why = why
 
-pub never_4 : (job : Option Job) (s t : ShelfState) (a b : SinkState) → s.faults ≡ 0 → t.faults ≡ 0 → a.faults ≡ 0 → b.faults ≡ 0 → Four job s t a b → ⊥
-never_4 job s t a b e d x y why = elim why [
-  | inl unwritten ↦ unwritten_never job s t a b e d unwritten
-  | inr failed ↦ never_rose a.faults b.faults x y failed.2.rose
+pub never_3 : (words : List (List ℕ)) (s t : ShelfState) (unwritten written : List ℕ) → s.faults ≡ 0 → t.faults ≡ 0 →
+    ForJob (job_of words) (λ directory names. (name : List ℕ) × IsUnread names name s t × Appended (unread_report name) unwritten written) → ⊥
+never_3 words s t unwritten written e d why = unread_never (job_of words) s t unwritten written e d why
+
+pub never_4 : (words : List (List ℕ)) (s t : ShelfState) (a b : SinkState) → s.faults ≡ 0 → t.faults ≡ 0 → a.faults ≡ 0 → b.faults ≡ 0 → CannotWrite words s t a b → ⊥
+never_4 words s t a b e d x y why = elim why [
+  | inl unwritten ↦ unwritten_never (job_of words) s t a b e d unwritten
+  | inr told ↦ never_rose a.faults b.faults x y told.2.rose
 ]
