@@ -25,10 +25,16 @@ u1 =
     set (var 1) (two Add (post_up (var 1)) (n 1))
     -- `x1 + (x1 = 1)`, and the other way round
     ∷ two Add (val 1) (set (var 1) (n 1)) ∷ two Add (set (var 1) (n 1)) (val 1)
+    -- what either operand of an operand read counts: `(x2 + x1) + (x1 = 1)`, `(x1 + x2) + (x1 = 1)`
+    ∷ two Add (two Add (val 2) (val 1)) (set (var 1) (n 1)) ∷ two Add (two Add (val 1) (val 2)) (set (var 1) (n 1))
+    -- and what one wrote: `((x2 = 1) + (x1 = 1)) + x1`
+    ∷ two Add (two Add (set (var 2) (n 1)) (set (var 1) (n 1))) (val 1)
     -- `(x1 = 1) + (x1 = 2)`, `x1++ + x1++`
     ∷ two Add (set (var 1) (n 1)) (set (var 1) (n 2)) ∷ two Add (post_up (var 1)) (post_up (var 1))
     -- `x1 = (x1 = 1)`, `x1 += x1++`
     ∷ set (var 1) (set (var 1) (n 1)) ∷ set_by Add int_t (var 1) (post_up (var 1))
+    -- what an operand of `+=` wrote counts behind it: `(x1 += (x2 = 1)) + x2`
+    ∷ two Add (set_by Add int_t (var 1) (set (var 2) (n 1))) (val 2)
     -- a sequence point inside one operand is none between two: `(x1++, 5) + x1`
     ∷ two Add (sequence (post_up (var 1)) (n 5)) (val 1) ∷ two Add (val 1) (both_true (n 1) (set (var 1) (n 1)))
     ∷ two Add (val 1) (both_true (set (var 1) (n 1)) (n 1)) ∷ two Add (val 1) (either_true (set (var 1) (n 0)) (n 1))
