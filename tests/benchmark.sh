@@ -11,6 +11,10 @@
 #    the same units, each with its start.
 # 4. How long the shape of a control flow graph of 5,000 nodes takes, by the rows, in milliseconds: of a switch in a loop,
 #    and of a chain whose nodes are numbered forwards and backwards; the start is in the time.
+# 5. How long the calls of a store take, by the rows: nanoseconds a call of a million `kill`, `alloc`, `put` and `load` over 1,000 live
+#    blocks, of a list store and of one in a region; and of `put` and `load` alone, and of `kill` and `alloc` alone, over 100, 1,000 and
+#    10,000 live blocks; the time of a row without rounds is taken off. And the memory, in MB, that a full region of 1 MiB and one of
+#    64 MiB take.
 set -u
 top=$(cd "$(dirname "$0")/.." && pwd)
 work=$(mktemp -d) || exit 1
@@ -209,3 +213,34 @@ switch_row 5000 >"$work/switch_in_loop.row"
 chain_row 5000 1 >"$work/chain_forwards.row"
 chain_row 5000 -1 >"$work/chain_backwards.row"
 for graph in switch_in_loop chain_forwards chain_backwards; do shaped "$graph"; done
+
+# paced STORE WORK LIVE ROUNDS CALLS: the time of a call where a round of this work has so many.
+paced() {
+  echo "pace $1 $2 $3 0" >"$work/still.row"
+  echo "pace $1 $2 $3 $4" >"$work/paced.row"
+  [ "$(on_row "$work/paced.row")" = "$4" ] || { echo "a round of $2 failed"; exit 1; }
+  awk -v store="$1" -v work="$2" -v live="$3" -v calls="$(($4 * $5))" -v none="$(least_of 5 on_row still.row)" -v ours="$(least_of 5 on_row paced.row)" 'BEGIN {
+    printf "%s store, %s, %d live blocks: %.0f ns a call\n", store, work, live, (ours - none) / calls
+  }'
+}
+
+for store in list region; do
+  paced "$store" mixed 1000 250000 4
+  for live in 100 1000 10000; do
+    paced "$store" access "$live" 500000 2
+    paced "$store" churn "$live" 20000 2
+  done
+done
+
+# full NAME ROW: the memory that the program takes where a row fills a region.
+full() {
+  echo "$2" >"$work/full.row"
+  awk -v name="$1" -v kib="$(/usr/bin/time -f %M "$rows" <"$work/full.row" 2>&1 >/dev/null)" 'BEGIN {
+    printf "a full region of %s: %.1f MB\n", name, kib * 1024 / 1e6
+  }'
+}
+
+[ -x /usr/bin/time ] || { echo "skipped: the memory of a full region (/usr/bin/time isn't there)"; exit 0; }
+blocks='alloc 16777216 1 | alloc 16777216 1 | alloc 16777216 1 | alloc 16777216 1'
+full '1 MiB' 'region 1048576 65552 | alloc 1048576 1'
+full '64 MiB' "region 67108864 4194320 | $blocks"

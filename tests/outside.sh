@@ -200,6 +200,17 @@ random_records() {
   fi
 }
 
+# Random calls of a store in a region: its answers are those of a list store, and it refuses what a model says.
+region_turns() {
+  local said
+  tools_for 'random calls of a store in a region' python3 || return
+  if ! said=$(python3 "$top/tests/region_turns.py" --rows "$rows" 2>&1); then
+    bad "random calls of a store in a region: $said"
+  else
+    ok "random calls of a store in a region: $said"
+  fi
+}
+
 one answer
 one letter
 refused_in_turn
@@ -208,6 +219,7 @@ straight_mutants
 syntax_mutants
 relooper_graphs
 random_records
+region_turns
 usage='c2rs: usage: transpile -o DIR FILE..'
 report 2 "$usage"
 report 2 "$usage" transpile -o out -o out answer.c

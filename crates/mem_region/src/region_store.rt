@@ -22,10 +22,15 @@ pub const MOST_BLOCKS: u64 = 4_194_320;
 /// they were made, and slide together when one dies. Contracts see it as its limit and its memory.
 #[derive(Drop)]
 pub struct RegionStore {
+    // The most bytes that the live blocks may have together.
     bytes: u64,
+    // The most blocks that may be live.
     blocks: u64,
+    // The number of the next block.
     next: u64,
+    // The live blocks, by rising numbers.
     table: Vec<Live>,
+    // Their cells, end to end.
     cells: Vec<Packed>,
 }
 

@@ -9,8 +9,10 @@ use mem_bytes::{Fault, Ptr, scalar_size};
 #[derive(Clone, Copy)]
 pub(crate) struct Live {
     pub(crate) number: u64,
+    // In bytes, as the size.
     pub(crate) align: u64,
     pub(crate) size: u64,
+    // How many cells lie in front of its first one.
     pub(crate) start: u64,
 }
 

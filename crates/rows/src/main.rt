@@ -15,6 +15,7 @@ mod answer;
 mod asked;
 mod cell;
 mod fault;
+mod random;
 mod row;
 mod scalar;
 mod stage;

@@ -9,11 +9,13 @@ mod layout;
 mod lex;
 mod memory;
 mod name;
+mod pace;
 mod parse;
 mod rule;
 mod shape;
 mod stream;
 mod transpile;
+mod turns;
 mod value;
 
 use crate::answer::Answer;
@@ -42,6 +44,12 @@ pub(crate) enum Inside {
     Bytes,
     /// Calls of a store.
     Memory,
+    /// Calls of a store in a region.
+    Region,
+    /// Random calls of a store in a region, and of one without limit.
+    Turns,
+    /// Rounds of calls of a store, to be timed.
+    Pace,
     /// Calls of a host.
     Host,
     /// The job of words.
@@ -78,12 +86,15 @@ pub(crate) enum Outside {
     Disk,
 }
 
-const STAGES: [(&str, Stage); 20] = [
+const STAGES: [(&str, Stage); 23] = [
     ("rule", Stage::Inside(Inside::Rule)),
     ("value", Stage::Inside(Inside::Value)),
     ("copy", Stage::Inside(Inside::Copy)),
     ("bytes", Stage::Inside(Inside::Bytes)),
     ("memory", Stage::Inside(Inside::Memory)),
+    ("region", Stage::Inside(Inside::Region)),
+    ("turns", Stage::Inside(Inside::Turns)),
+    ("pace", Stage::Inside(Inside::Pace)),
     ("host", Stage::Inside(Inside::Host)),
     ("job", Stage::Inside(Inside::Job)),
     ("layout", Stage::Inside(Inside::Layout)),
@@ -131,6 +142,9 @@ impl Inside {
             Inside::Copy => copy::answer(alloc, asked, out),
             Inside::Bytes => bytes::answer(alloc, asked, out),
             Inside::Memory => memory::answer(alloc, asked, out),
+            Inside::Region => memory::answer_in_region(alloc, asked, out),
+            Inside::Turns => turns::answer(alloc, asked, out),
+            Inside::Pace => pace::answer(alloc, asked, out),
             Inside::Host => host::answer(alloc, asked, out),
             Inside::Job => job::answer(alloc, asked, out),
             Inside::Layout => layout::answer(alloc, asked, out),

@@ -1,5 +1,6 @@
 //! `memory CALL | CALL ..`: what each of these calls of a list store answers (ISO C99, 6.2.4 and 6.2.6), in
-//! their order. Types are those of `scalar`; places, values and cells those of `cell`.
+//! their order; `region BYTES BLOCKS | CALL | CALL ..`: what a store in a region answers that holds so many bytes
+//! and live blocks. Types are those of `scalar`; places, values and cells those of `cell`.
 //!
 //! | call | answer |
 //! |---|---|
@@ -7,9 +8,10 @@
 //! | `kill BLOCK`, `put PLACE TYPE VALUE`, `fill PLACE BYTE COUNT`, `copy FROM TO COUNT`, `put_cell PLACE CELL`, `put_bits PLACE BIT WIDTH NUMBER` | `ok` |
 //! | `load PLACE TYPE`, `load_bits PLACE BIT WIDTH`, `cell PLACE` | the value, the number, the cell |
 //! | `bytes BLOCK COUNT` | the first cells of a block |
-//! | `state BLOCK` | `SIZE ALIGN live`, `dead`, or `none` where no such block was made |
+//! | `state BLOCK` | `SIZE ALIGN live` or `SIZE ALIGN dead`, or `none` where no such block was made |
 //!
-//! Each may answer a fault in the place of that, by its name.
+//! Each may answer a fault in the place of that, by its name; `Full NEED LEFT` has the bytes that a block needs and
+//! those that are left.
 
 ghost use Rattle.std.specs.Prelude.{◌<◌, ◌≤◌, ◌^◌, length, IsTrue};
 ghost use Rattle.mem_bytes.specs.Calls.{IsAlignment, IsBlockSize, IsFieldPlace};
@@ -17,27 +19,71 @@ ghost use Rattle.mem_bytes.specs.Calls.{IsAlignment, IsBlockSize, IsFieldPlace};
 use crate::answer::Answer;
 use crate::asked::Asked;
 use crate::cell::{cell, place, value, write_cell, write_value};
+use crate::fault::RowFault;
 use crate::scalar::scalar;
-use crate::steps::{Steps, answer_steps};
-use mem_bytes::{Fault, ListStore, Ptr, Store};
+use crate::steps::{Steps, answer_steps, first_step};
+use mem_bytes::{Fault, ListStore, Ptr, Store, StoreFault};
+use mem_region::{MOST_BLOCKS, MOST_BYTES, RegionStore};
 use std::alloc::Global;
 
 // The greatest size of a block, in bytes.
 const LARGEST: u64 = 16_777_216;
 
 // As many blocks as a row may make.
-const MOST_BLOCKS: u64 = 1000;
+const MOST_MADE: u64 = 1 << 40;
 
 pub(crate) fn answer(alloc: Global, asked: &mut Asked, out: &mut Answer) {
     answer_steps(&mut ListStore::new(alloc), alloc, asked, out);
 }
 
+pub(crate) fn answer_in_region(alloc: Global, asked: &mut Asked, out: &mut Answer) {
+    let limit = first_step(asked);
+    let calls = asked.rest();
+    asked.begin(limit);
+    let bytes = asked.number();
+    let blocks = asked.number();
+    asked.end();
+    asked.begin(calls);
+    if let Some(mut store) = region(alloc, bytes, blocks, asked) {
+        answer_steps(&mut store, alloc, asked, out);
+    }
+}
+
+/// A store in a region that holds so many bytes and live blocks; None where it can't be had, which is a fault of the
+/// row.
+pub(crate) fn region(
+    alloc: Global,
+    bytes: u64,
+    blocks: u64,
+    asked: &mut Asked,
+) -> Option<RegionStore> {
+    if bytes > MOST_BYTES {
+        asked.refuse();
+        return None;
+    }
+    if blocks > MOST_BLOCKS {
+        asked.refuse();
+        return None;
+    }
+    asked.had(RegionStore::open(alloc, bytes, blocks))
+}
+
 impl Steps for ListStore {
     fn step(&mut self, _alloc: Global, asked: &mut Asked<'_>, out: &mut Answer) {
-        out.separate();
-        if let Some(call) = asked.named(&CALLS) {
-            call.write(self, asked, out);
-        }
+        write_step(self, asked, out);
+    }
+}
+
+impl Steps for RegionStore {
+    fn step(&mut self, _alloc: Global, asked: &mut Asked<'_>, out: &mut Answer) {
+        write_step(self, asked, out);
+    }
+}
+
+fn write_step<S: Store>(store: &mut S, asked: &mut Asked, out: &mut Answer) {
+    out.separate();
+    if let Some(call) = asked.named(&CALLS) {
+        call.write(store, asked, out);
     }
 }
 
@@ -133,11 +179,11 @@ fn write_done(outcome: Result<(), Fault>, out: &mut Answer) {
     }
 }
 
-// Whether the store may make one more block.
-fn has_room<S: Store>(store: &S) -> bool
+/// Whether the store may make one more block.
+pub(crate) fn has_room<S: Store>(store: &S) -> bool
     ensures { IsTrue result → length (S.memory store.now) < 2 ^ 60 }
 {
-    store.state(MOST_BLOCKS).is_none()
+    store.state(MOST_MADE).is_none()
 }
 
 fn block_size(asked: &mut Asked) -> u64
@@ -171,7 +217,13 @@ fn alloc<S: Store>(store: &mut S, asked: &mut Asked, out: &mut Answer) {
     }
     match store.alloc(size, align) {
         Ok(block) => out.value(block),
-        Err(fault) => out.variant(fault),
+        Err(StoreFault::Full { need, left }) => {
+            out.text("Full ");
+            out.value(need);
+            out.text(" ");
+            out.value(left);
+        }
+        Err(StoreFault::Memory) => asked.fail(RowFault::Memory),
     }
 }
 
@@ -209,21 +261,20 @@ fn bytes<S: Store>(store: &S, asked: &mut Asked, out: &mut Answer) {
 fn state<S: Store>(store: &S, asked: &mut Asked, out: &mut Answer) {
     match store.state(asked.number()) {
         None => out.text("none"),
-        Some(state) if state.live => {
+        Some(state) => {
             out.value(state.size);
             out.text(" ");
             out.value(state.align);
-            out.text(" live");
+            out.text(if state.live { " live" } else { " dead" });
         }
-        Some(_) => out.text("dead"),
     }
 }
 
-// Where a bit-field begins in its first byte, and how many bits it has.
+/// Where a bit-field begins in its first byte, and how many bits it has.
 #[derive(Clone, Copy)]
-struct FieldPlace {
-    bit: u32,
-    width: u32,
+pub(crate) struct FieldPlace {
+    pub(crate) bit: u32,
+    pub(crate) width: u32,
 }
 
 fn field_place(asked: &mut Asked) -> FieldPlace
