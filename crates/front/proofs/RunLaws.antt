@@ -368,7 +368,7 @@ never_rose before now e d rose =
     let least : 1 ≤ 0 = subst (λ (n : ℕ). min (0 + 1) (2 ^ 64 - 1) ≤ n) d (subst (λ (n : ℕ). min (n + 1) (2 ^ 64 - 1) ≤ now) e rose) in
     omega (arith, least)
 
-unread_never : (job : Option Job) (s t : ShelfState) (unwritten written : List ℕ) → s.faults ≡ 0 → t.faults ≡ 0 →
+unread_never : (job : Option Job) (s t : ShelfState) (unwritten written : Option (List ℕ)) → s.faults ≡ 0 → t.faults ≡ 0 →
     ForJob job (λ directory names. (name : List ℕ) × IsUnread names name s t × Appended (unread_report name) unwritten written) → ⊥
 unread_never None s t unwritten written e d why = why
 unread_never (Some (transpile directory names)) s t unwritten written e d why = never_rose s.faults t.faults e d why.1.rose
@@ -380,7 +380,7 @@ unwritten_never None s t a b e d why = why
 unwritten_never (Some (transpile directory names)) s t a b e d why = never_rose s.faults t.faults e d why.1.rose
 unwritten_never (Some (several first)) s t a b e d why = why
 
-pub never_3 : (words : List (List ℕ)) (s t : ShelfState) (unwritten written : List ℕ) → s.faults ≡ 0 → t.faults ≡ 0 →
+pub never_3 : (words : List (List ℕ)) (s t : ShelfState) (unwritten written : Option (List ℕ)) → s.faults ≡ 0 → t.faults ≡ 0 →
     ForJob (job_of words) (λ directory names. (name : List ℕ) × IsUnread names name s t × Appended (unread_report name) unwritten written) → ⊥
 never_3 words s t unwritten written e d why = unread_never (job_of words) s t unwritten written e d why
 
