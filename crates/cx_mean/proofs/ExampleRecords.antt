@@ -165,9 +165,41 @@ part_and_whole : with_pair (static 1 s [] ∷ static 2 s [] ∷ []) [] (give (tw
 unfolding layouts_of pair s with_pair y_of v
 part_and_whole = refl
 
+-- so do a read of the whole and a write of a part: `(x1 = x2).x + (x2.x = 1)`
+whole_and_part : with_pair (static 1 s [] ∷ static 2 s [] ∷ []) [] (give (two Add (dot int_t (set (v 1) (get (v 2))) (byte 0)) (set (x_of (v 2)) (n 1))) ∷ []) ≡ breaks_at 1 U1
+unfolding layouts_of pair s with_pair x_of v
+whole_and_part = refl
+
 two_members : with_pair (static 2 s [] ∷ []) [] (give (two Add (set (x_of (v 2)) (n 1)) (set (y_of (v 2)) (n 2))) ∷ []) ≡ ends (pos 3)
 unfolding layouts_of pair s with_pair x_of y_of v
 two_members = refl
+
+-- a member of a value is read where it stands: with `struct t { struct s a, b, c; } o;`, the value `(1 ? o : o).b` overlaps the bytes from 12 on, and
+-- not those from 16 on
+triple : CTypes
+triple = record {
+  records = Some (record { number = 0; tag = Some (codes "s"); is_union = false; members = named_member (codes "x") int_t ∷ named_member (codes "y") int_t ∷ [] })
+      ∷ Some (record { number = 1; tag = Some (codes "t"); is_union = false; members = named_member (codes "a") (record_t 0) ∷ named_member (codes "b") (record_t 0) ∷ named_member (codes "c") (record_t 0) ∷ [] }) ∷ [];
+  record_tags = record { tag = Some (codes "s"); is_union = false } ∷ record { tag = Some (codes "t"); is_union = false } ∷ [];
+  record_units = 0 ∷ 0 ∷ [];
+  enums = [];
+  enum_units = [];
+}
+
+o : CExpr
+o = var_as (record_t 1) 1
+
+member_stored_at : ℕ → Both
+member_stored_at k = runs (program_of triple (static 1 (record_t 1) [] ∷ []) (main_fun [] (
+    run (set (star (record_t 0) (conv (to (record_t 0)) (two_as (to char_t) Add (conv (to char_t) (addr o)) (n k)))) (dot (record_t 0) (choose (n 1) (get o) (get o)) (byte 8))) ∷ []) ∷ [])) 60
+
+member_overlaps : member_stored_at 12 ≡ breaks_at 1 U16
+unfolding layouts_of triple o member_stored_at
+member_overlaps = refl
+
+member_apart : member_stored_at 16 ≡ ends (pos 0)
+unfolding layouts_of triple o member_stored_at
+member_apart = refl
 
 -- ---- bit-fields: `struct s { unsigned a : 3; unsigned b : 5; int c : 3; _Bool d : 1; };`
 
@@ -340,6 +372,11 @@ literal_value = refl
 literal_zero : with_pair (local 1 s ∷ []) (1 ∷ []) (give (get (y_of (lit (put_at 0 (n 1) ∷ [])))) ∷ []) ≡ ends (pos 0)
 unfolding layouts_of pair s with_pair y_of lit
 literal_zero = refl
+
+-- there is a sequence point behind its first write, also where no put follows
+literal_no_puts : with_pair (local 1 s ∷ []) (1 ∷ []) (give (get (y_of (lit []))) ∷ []) ≡ ends (pos 0)
+unfolding layouts_of pair s with_pair y_of lit
+literal_no_puts = refl
 
 -- its address: `(&(struct s){ 3 })->x`
 literal_address : with_pair (local 1 s ∷ []) (1 ∷ []) (give (get (x_of (star s (addr (lit (put_at 0 (n 3) ∷ [])))))) ∷ []) ≡ ends (pos 3)

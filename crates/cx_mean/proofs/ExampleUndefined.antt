@@ -29,6 +29,8 @@ u1 =
     ∷ two Add (set (var 1) (n 1)) (set (var 1) (n 2)) ∷ two Add (post_up (var 1)) (post_up (var 1))
     -- `x1 = (x1 = 1)`, `x1 += x1++`
     ∷ set (var 1) (set (var 1) (n 1)) ∷ set_by Add int_t (var 1) (post_up (var 1))
+    -- what an operand of `+=` wrote counts behind it: `(x1 += (x2 = 1)) + x2`
+    ∷ two Add (set_by Add int_t (var 1) (set (var 2) (n 1))) (val 2)
     -- a sequence point inside one operand is none between two: `(x1++, 5) + x1`
     ∷ two Add (sequence (post_up (var 1)) (n 5)) (val 1) ∷ two Add (val 1) (both_true (n 1) (set (var 1) (n 1)))
     ∷ two Add (val 1) (both_true (set (var 1) (n 1)) (n 1)) ∷ two Add (val 1) (either_true (set (var 1) (n 0)) (n 1))
@@ -129,6 +131,7 @@ u5 : List CExpr
 u5 = get (star int_t p4) ∷ set (star int_t p4) (n 1) ∷ get (star int_t (two_as (to int_t) Add p4 (n 0)))
     ∷ conv int_t (two_as long_t Subtract p4 p4) ∷ two Equal p4 p4 ∷ two NotEqual p4 (null_as (to int_t)) ∷ two Less p4 p4
     ∷ one_as int_t Not p4 ∷ both_true p4 (n 1) ∷ choose p4 (n 1) (n 2) ∷ conv int_t (conv (plain Truth) p4)
+    ∷ sequence (conv void_t (conv to_void p4)) (n 1) ∷ sequence (conv void_t (conv (to int_t) p4)) (n 1)
     ∷ get (star int_t (conv (to int_t) (conv to_void p4))) ∷ sequence (post_up (var_as (to int_t) 4)) (n 1) ∷ []
 
 dead_objects : with_dead u5 ≡ all_break U5 u5

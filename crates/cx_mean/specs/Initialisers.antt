@@ -3,7 +3,7 @@
 use Rattle.std.specs.Prelude.{ℕ, zero, suc, ◌+◌, List, ◌++◌, length, take, drop, replicate, Option, Some, None, Result, Ok, slice_set}
 use Rattle.cr_base.specs.declared.layout.Spot.{Spot}
 use Rattle.cx_core.specs.Trees.{CTy, CPut, put, CPuts, no_puts, more_puts}
-use Rattle.cx_mean.specs.Accesses.{CStored, stored}
+use Rattle.cx_mean.specs.Accesses.{CStored, sized, stored}
 use Rattle.cx_mean.specs.Operands.{CWhy, needed, CValue, designates, designates_bits, Frame, slot_of, COperand}
 use Rattle.cx_mean.specs.Settings.{CSetting, extent_in}
 use Rattle.mem_bytes.specs.Access.{and_then}
@@ -27,24 +27,24 @@ part_place at spot = part_with (record { block = at.block; offset = at.offset + 
 -- ---- bits that no put covers
 
 -- cells with others from an offset on
-abbrev with_cells : ℕ → List Cell → List Cell → List Cell
+abbrev pub with_cells : ℕ → List Cell → List Cell → List Cell
 with_cells offset new held = take offset held ++ new ++ drop (offset + length new) held
 
 -- cells of bits with a bit-field unset
-abbrev field_unset : (bit width : ℕ) → List Cell → List Cell
+abbrev pub field_unset : (bit width : ℕ) → List Cell → List Cell
 field_unset bit width part = bit_cells (length part) (bits_of part) (with_field bit width 0 (set_of part))
 
-abbrev unset_by : Spot → (size : ℕ) → (width : ℕ) → List Cell → List Cell
+abbrev pub unset_by : Spot → (size : ℕ) → (width : ℕ) → List Cell → List Cell
 unset_by spot size zero held = with_cells spot.byte (replicate size unset_cell) held
 unset_by spot size (suc n) held =
     with_cells spot.byte (field_unset spot.bit (suc n) (take (bytes_touched spot.bit (suc n)) (drop spot.byte held))) held
 
 -- the bits that a put covers become unset
-abbrev unset_put : CSetting → CPut → List Cell → Result (List Cell) CWhy
+abbrev pub unset_put : CSetting → CPut → List Cell → Result (List Cell) CWhy
 unset_put setting (put spot type value) held =
     and_then (needed (extent_in setting type)) (λ laid. Ok (unset_by spot laid.size spot.width held))
 
-abbrev unset_puts : CSetting → CPuts → List Cell → Result (List Cell) CWhy
+abbrev pub unset_puts : CSetting → CPuts → List Cell → Result (List Cell) CWhy
 unset_puts setting no_puts held = Ok held
 unset_puts setting (more_puts first others) held =
     and_then (unset_put setting first held) (λ after. unset_puts setting others after)
@@ -56,16 +56,17 @@ first_cells setting size (Some puts) = unset_puts setting puts (replicate size (
 
 -- ---- objects
 
--- an object that was made anew: its place, its size, and the memory after that
+-- an object that was made anew, as many bytes as before: its place, its size, and the memory after that
 pub record CCleared : Type 0 where
   pub at : Ptr
   pub size : ℕ
   pub blocks : Blocks
 
-abbrev cleared_block : CSetting → Option CPuts → Blocks → Ptr → Block → Result CCleared CWhy
+abbrev pub cleared_block : CSetting → Option CPuts → Blocks → Ptr → Block → Result CCleared CWhy
 cleared_block setting puts blocks at block =
-    and_then (first_cells setting (size_of block) puts) (λ held.
-    Ok (record { at = at; size = size_of block; blocks = slice_set blocks at.block (Some (record block { cells = held })) }))
+    and_then (first_cells setting (size_of block) puts) (λ given.
+    and_then (sized (size_of block) given) (λ held.
+    Ok (record { at = at; size = size_of block; blocks = slice_set blocks at.block (Some (record block { cells = held })) })))
 
 -- the object with a number, once its declaration, or its compound literal, is reached
 abbrev pub object_cleared : CSetting → Frame → ℕ → Option CPuts → Blocks → Result CCleared CWhy

@@ -15,5 +15,6 @@ pub mod Run
 pub mod Settings
 pub mod State
 pub mod Steps
+pub mod Unwritten
 pub mod Values
 pub mod Work

@@ -10,7 +10,7 @@ use Rattle.cx_core.specs.declared.expr.Op2.TheVariants.{Add, Subtract}
 use Rattle.cx_core.specs.Trees.{CTy, unqualified, CExpr, CForm, load, deref, member, address, convert, unary, binary, and, or, cond, assign, assign_by, step, comma, CPuts, type_of}
 use Rattle.cx_core.specs.Typing.{width_of}
 use Rattle.mem_bytes.specs.Pointers.{place_moved}
-use Rattle.cx_mean.specs.Accesses.{CKind, of_scalar, of_record, kind_of, object_at, field_value, CLoaded, loaded, CStored, stored}
+use Rattle.cx_mean.specs.Accesses.{CKind, of_scalar, of_record, kind_of, object_at, at_field_place, field_value, CLoaded, loaded, CStored, stored}
 use Rattle.cx_mean.specs.Initialisers.{part_with, object_cleared}
 use Rattle.cx_mean.specs.Marks.{Marks, no_marks, bits_of_bytes, with_write, at_sequence_point, both}
 use Rattle.cx_mean.specs.Numbers.{number_of_truth}
@@ -33,79 +33,80 @@ pub record CDone : Type 0 where
   pub marks : Marks
   pub blocks : Blocks
 
-abbrev done : CValue → Marks → Blocks → CDone
+abbrev pub done : CValue → Marks → Blocks → CDone
 done value marks blocks = record { value = value; marks = marks; blocks = blocks }
 
 -- a step that leaves memory as it is
-abbrev gives_value : Marks → Blocks → Result CValue CWhy → Result CDone CWhy
+abbrev pub gives_value : Marks → Blocks → Result CValue CWhy → Result CDone CWhy
 gives_value marks blocks outcome = and_then outcome (λ value. Ok (done value marks blocks))
 
 -- ---- lvalues (6.5.2.3, 6.5.3.2)
 
 -- what a pointer points to; by itself that is never wrong
-abbrev pointed_to : Value → Result CValue CWhy
+abbrev pub pointed_to : Value → Result CValue CWhy
 pointed_to (Pointer at) = Ok (designates (Pointer at))
 pointed_to Null = Ok (designates Null)
 pointed_to (Number number) = Err stuck
 pointed_to (Function number) = Err stuck
 
-abbrev deref_value : CValue → Result CValue CWhy
+abbrev pub deref_value : CValue → Result CValue CWhy
 deref_value value = and_then (scalar_value value) pointed_to
 
 -- a member of the object at a place: the object lives, and the member begins in it or at its end
-abbrev member_at : Blocks → Spot → Ptr → Result CValue CWhy
+abbrev pub member_at : Blocks → Spot → Ptr → Result CValue CWhy
 member_at blocks spot at =
     and_then (by_pointers U11 (place_moved blocks at (pos spot.byte))) (λ new. Ok (part_with new spot.bit spot.width))
 
-abbrev member_of_place : Blocks → Spot → Result Value CWhy → Result CValue CWhy
+abbrev pub member_of_place : Blocks → Spot → Result Value CWhy → Result CValue CWhy
 member_of_place blocks spot place =
     and_then place (λ to. and_then (object_at to) (member_at blocks spot))
 
 -- so many cells of a value
-abbrev value_part : List Cell → (offset count : ℕ) → Result (List Cell) CWhy
+abbrev pub value_part : List Cell → (offset count : ℕ) → Result (List Cell) CWhy
 value_part held offset count =
     if nat_le (offset + count) (length held) then Ok (take count (drop offset held)) else Err stuck
 
-abbrev moved_by : ℕ → Ptr → Ptr
+abbrev pub moved_by : ℕ → Ptr → Ptr
 moved_by bytes at = record { block = at.block; offset = at.offset + bytes }
 
-abbrev member_of_kind : ℕ → List Cell → Option Ptr → CKind → Result CValue CWhy
+abbrev pub member_of_kind : ℕ → List Cell → Option Ptr → CKind → Result CValue CWhy
 member_of_kind byte held from (of_scalar kind) =
     and_then (value_part held byte (scalar_size kind)) (λ part.
     and_then (accessed (value_of kind part)) (λ value. Ok (scalar value)))
 member_of_kind byte held from (of_record laid) =
     and_then (value_part held byte laid.size) (λ part. Ok (cells part (option_map (moved_by byte) from)))
 
-abbrev member_bits : Spot → ℕ → List Cell → Scalar → Result CValue CWhy
+abbrev pub member_bits : Spot → ℕ → List Cell → Scalar → Result CValue CWhy
 member_bits spot width held kind =
-    and_then (value_part held spot.byte (bytes_touched spot.bit width)) (λ part.
+    at_field_place spot.bit width
+    (and_then (value_part held spot.byte (bytes_touched spot.bit width)) (λ part.
     and_then (accessed (field_in spot.bit width part)) (λ bits.
-    and_then (field_value kind width bits) (λ value. Ok (scalar value))))
+    and_then (field_value kind width bits) (λ value. Ok (scalar value)))))
 
-abbrev member_with : CSetting → CTy → Spot → (width : ℕ) → List Cell → Option Ptr → Result CValue CWhy
+abbrev pub member_with : CSetting → CTy → Spot → (width : ℕ) → List Cell → Option Ptr → Result CValue CWhy
 member_with setting type spot zero held from = and_then (kind_of setting type) (member_of_kind spot.byte held from)
 member_with setting type spot (suc n) held from =
     and_then (needed (scalar_in_type setting type)) (member_bits spot (suc n) held)
 
 -- a member of an lvalue is an lvalue, and one of a value is a value (6.5.2.3p3)
-abbrev member_value : CSetting → Frame → Blocks → CTy → Spot → CValue → Result CValue CWhy
+abbrev pub member_value : CSetting → Frame → Blocks → CTy → Spot → CValue → Result CValue CWhy
 member_value setting frame blocks type spot (cells held from) = member_with setting type spot spot.width held from
 member_value setting frame blocks type spot missing = Err (breaks U14)
 member_value setting frame blocks type spot place = member_of_place blocks spot (place_in frame place)
 
 -- the address of an lvalue, or of the first element of an array
-abbrev address_value : Frame → CValue → Result CValue CWhy
+abbrev pub address_value : Frame → CValue → Result CValue CWhy
 address_value frame place = and_then (place_in frame place) (λ to. Ok (scalar to))
 
 -- ---- nodes that need all their operands
 
-abbrev done_by_load : Blocks → Result CLoaded CWhy → Result CDone CWhy
+abbrev pub done_by_load : Blocks → Result CLoaded CWhy → Result CDone CWhy
 done_by_load blocks outcome = and_then outcome (λ one. Ok (done one.value one.marks blocks))
 
-abbrev done_by_store : Result CStored CWhy → Result CDone CWhy
+abbrev pub done_by_store : Result CStored CWhy → Result CDone CWhy
 done_by_store outcome = and_then outcome (λ one. Ok (done one.value one.marks one.blocks))
 
-abbrev unary_done : CSetting → CTy → CForm → Frame → Marks → Blocks → COperand → Result CDone CWhy
+abbrev pub unary_done : CSetting → CTy → CForm → Frame → Marks → Blocks → COperand → Result CDone CWhy
 unary_done setting type (load from) frame marks blocks one =
     done_by_load blocks (loaded setting frame blocks type one.value marks)
 unary_done setting type (deref from) frame marks blocks one = gives_value marks blocks (deref_value one.value)
@@ -120,10 +121,10 @@ unary_done setting type (unary op value) frame marks blocks one =
     and_then (unary_value setting op type blocks given) (λ new. Ok (scalar new))))
 unary_done setting type form frame marks blocks one = Err stuck
 
-abbrev typed_value : COperand → Result CTyped CWhy
+abbrev pub typed_value : COperand → Result CTyped CWhy
 typed_value one = and_then (scalar_value one.value) (λ given. Ok (record { type = one.type; value = given }))
 
-abbrev binary_done : CSetting → CTy → CForm → Frame → Marks → Blocks → COperand → COperand → Result CDone CWhy
+abbrev pub binary_done : CSetting → CTy → CForm → Frame → Marks → Blocks → COperand → COperand → Result CDone CWhy
 binary_done setting type (binary op left right) frame marks blocks one other =
     gives_value marks blocks
     (and_then (typed_value one) (λ first.
@@ -133,7 +134,7 @@ binary_done setting type (assign target value) frame marks blocks one other =
     done_by_store (stored setting frame blocks type one.value other.value marks)
 binary_done setting type form frame marks blocks one other = Err stuck
 
-abbrev done_by_count : CSetting → CTy → CForm → Frame → Marks → Blocks → List COperand → Result CDone CWhy
+abbrev pub done_by_count : CSetting → CTy → CForm → Frame → Marks → Blocks → List COperand → Result CDone CWhy
 done_by_count setting type form frame marks blocks (one ∷ []) = unary_done setting type form frame marks blocks one
 done_by_count setting type form frame marks blocks (one ∷ other ∷ []) =
     binary_done setting type form frame marks blocks one other
@@ -159,7 +160,7 @@ pub record CChange : Type 0 where
   pub target : COperand
   pub is_postfix : Bool
 
-abbrev updating : CChange → CLoaded → Result CUpdating CWhy
+abbrev pub updating : CChange → CLoaded → Result CUpdating CWhy
 updating change one =
     and_then (scalar_value one.value) (λ old.
     Ok (record {
@@ -176,7 +177,7 @@ updating change one =
     }))
 
 -- the first step: the load
-abbrev update_loaded : CSetting → Frame → Blocks → Marks → CChange → Result CUpdating CWhy
+abbrev pub update_loaded : CSetting → Frame → Blocks → Marks → CChange → Result CUpdating CWhy
 update_loaded setting frame blocks marks change =
     and_then (loaded setting frame blocks (unqualified change.target.type) change.target.value marks) (updating change)
 
@@ -196,7 +197,7 @@ change_by_one setting up post on target =
       is_postfix = post;
     }
 
-abbrev changes : CSetting → CForm → List COperand → Result CChange CWhy
+abbrev pub changes : CSetting → CForm → List COperand → Result CChange CWhy
 changes setting (assign_by op computes target value) (one ∷ other ∷ []) =
     and_then (typed_value other) (λ right.
     Ok (record { op = op; computes = computes; right = right; target = one; is_postfix = false }))
@@ -220,7 +221,7 @@ abbrev pub update_converted : CSetting → Blocks → CUpdate → Value → Resu
 update_converted setting blocks update new =
     and_then (converted_value setting update.target_type blocks (scalar new)) scalar_value
 
-abbrev update_value : Bool → Value → CValue → CValue
+abbrev pub update_value : Bool → Value → CValue → CValue
 update_value true old new = scalar old
 update_value false old new = new
 
@@ -238,7 +239,7 @@ pub data CChoice : Type 0 where
   tests_next : CExpr → CChoice
   carries_next : CExpr → CChoice
 
-abbrev truth : Bool → CValue
+abbrev pub truth : Bool → CValue
 truth holds = scalar (Number (number_of_truth holds))
 
 abbrev pub chosen_and : CExpr → Bool → CChoice

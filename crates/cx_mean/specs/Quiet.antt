@@ -1,4 +1,4 @@
--- Expressions that call nothing (ISO C99, 6.5.2.2): what their marks don't say that they wrote stays; that isn't proved yet.
+-- Expressions that call nothing (ISO C99, 6.5.2.2): what their marks don't say that they wrote stays (Unwritten.antt).
 use Rattle.std.specs.Prelude.{Bool, true, false, ◌&&◌}
 use Rattle.cx_core.specs.Trees.{CExpr, expr, CForm, whole, null, object, code, load, deref, member, address, convert, unary, binary, and, or, cond, assign, assign_by, step, call, call_by, comma, literal, CPut, put, CPuts, no_puts, more_puts}
 
@@ -7,7 +7,7 @@ abbrev mutual
   pub calls_nothing : CExpr → Bool
   calls_nothing (expr type place form) = form_calls_nothing form
 
-  form_calls_nothing : CForm → Bool
+  pub form_calls_nothing : CForm → Bool
   form_calls_nothing (whole value) = true
   form_calls_nothing null = true
   form_calls_nothing (object number) = true
@@ -30,9 +30,9 @@ abbrev mutual
   form_calls_nothing (comma first second) = calls_nothing first && calls_nothing second
   form_calls_nothing (literal number puts) = puts_call_nothing puts
 
-  puts_call_nothing : CPuts → Bool
+  pub puts_call_nothing : CPuts → Bool
   puts_call_nothing no_puts = true
   puts_call_nothing (more_puts first others) = put_calls_nothing first && puts_call_nothing others
 
-  put_calls_nothing : CPut → Bool
+  pub put_calls_nothing : CPut → Bool
   put_calls_nothing (put spot type value) = calls_nothing value

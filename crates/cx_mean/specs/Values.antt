@@ -54,9 +54,9 @@ tested_pointer blocks value = and_then (by_pointers U12 (usable blocks value)) (
 
 abbrev pub is_true : Blocks → Value → Result Bool CWhy
 is_true blocks (Number number) = Ok (is_not_zero (Number number))
-is_true blocks Null = Ok false
+is_true blocks Null = Ok (is_not_zero Null)
 is_true blocks (Pointer at) = tested_pointer blocks (Pointer at)
-is_true blocks (Function number) = Ok true
+is_true blocks (Function number) = Ok (is_not_zero (Function number))
 
 -- ---- operators with one operand
 
@@ -118,19 +118,10 @@ pub record CTyped : Type 0 where
   pub type : CTy
   pub value : Value
 
--- the scalar type in which an operator over numbers computes: a comparison in that of its operands
-abbrev computes_in : CSetting → Op2 → CTy → CTy → Option Scalar
-computes_in setting Less type operand = scalar_in_type setting operand
-computes_in setting Greater type operand = scalar_in_type setting operand
-computes_in setting LessOrEqual type operand = scalar_in_type setting operand
-computes_in setting GreaterOrEqual type operand = scalar_in_type setting operand
-computes_in setting Equal type operand = scalar_in_type setting operand
-computes_in setting NotEqual type operand = scalar_in_type setting operand
-computes_in setting op type operand = scalar_in_type setting type
-
-abbrev two_numbers : CSetting → Op2 → CTy → CTy → ℤ → ℤ → Result Value CWhy
-two_numbers setting op type operand left right =
-    and_then (needed (computes_in setting op type operand)) (λ kind.
+-- two numbers, in the type of the operator
+abbrev two_numbers : CSetting → Op2 → CTy → ℤ → ℤ → Result Value CWhy
+two_numbers setting op type left right =
+    and_then (needed (scalar_in_type setting type)) (λ kind.
     and_then (number_of_binary op kind left right) (λ number. Ok (Number number)))
 
 abbrev number_of_pointers : Result ℤ CWhy → Result Value CWhy
@@ -138,7 +129,7 @@ number_of_pointers outcome = and_then outcome (λ number. Ok (Number number))
 
 -- what an operator gives, in a type
 abbrev binary_of : CSetting → Op2 → CTy → Blocks → (left right : CTy) → Value → Value → Result Value CWhy
-binary_of setting op type blocks left right (Number one) (Number other) = two_numbers setting op type left one other
+binary_of setting op type blocks left right (Number one) (Number other) = two_numbers setting op type one other
 binary_of setting op type blocks left right (Number one) second = number_and_pointer setting op blocks right second one
 binary_of setting op type blocks left right first (Number other) = pointer_and_number setting op blocks left first other
 binary_of setting op type blocks left right first second = number_of_pointers (two_pointers setting op blocks left first second)
@@ -168,7 +159,7 @@ to_scalar (Whole width signed) blocks value = to_number (Whole width signed) blo
 to_scalar Object blocks value = to_pointer Object blocks value
 to_scalar Code blocks value = to_pointer Code blocks value
 
-abbrev converted_scalar : Option Scalar → Blocks → CValue → Result CValue CWhy
+abbrev pub converted_scalar : Option Scalar → Blocks → CValue → Result CValue CWhy
 converted_scalar None blocks value = Err stuck
 converted_scalar (Some kind) blocks value =
     and_then (scalar_value value) (λ one. and_then (to_scalar kind blocks one) (λ new. Ok (scalar new)))

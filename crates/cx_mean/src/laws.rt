@@ -1,6 +1,7 @@
 //! Laws of the meaning of C. The functions do nothing: their contracts are the laws.
 
 ghost use Rattle.cx_mean.specs.Laws.{LeftmostIsRun, EndedRunsStay, EventsOnlyGrow, TrailIsOutside, StaticsBegin};
+ghost use Rattle.cx_mean.specs.Unwritten.{UnwrittenStays, UnwrittenStaysInAnyOrder};
 
 /// Law: under the empty order, which always takes the leftmost node, a run shows after any number of
 /// steps what the leftmost run shows that goes by recursion on the program's trees.
@@ -28,4 +29,15 @@ pub fn trail_is_outside()
 /// order, all of whose bytes are 0.
 pub fn statics_begin()
     ensures { StaticsBegin }
+{}
+
+/// Law: an expression without calls changes only what its marks say that it wrote: every cell, value,
+/// structure, union and bit-field elsewhere is what it was, and nothing but memory changed.
+pub fn unwritten_stays()
+    ensures { UnwrittenStays }
+{}
+
+/// Law: the same in whatever order an expression without calls is evaluated, and no step of it calls.
+pub fn unwritten_stays_in_any_order()
+    ensures { UnwrittenStaysInAnyOrder }
 {}
