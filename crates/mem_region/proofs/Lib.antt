@@ -1,0 +1,10 @@
+pub mod Blocks
+pub mod Calls
+pub mod Changing
+pub mod Copying
+pub mod Laid
+pub mod Reading
+pub mod Searched
+pub mod Slid
+pub mod Writes
+pub mod Written
