@@ -1,0 +1,5 @@
+pub mod Closed
+pub mod Lexed
+pub mod Same
+pub mod Table
+pub mod Views
