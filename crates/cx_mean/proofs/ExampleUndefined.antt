@@ -25,6 +25,10 @@ u1 =
     set (var 1) (two Add (post_up (var 1)) (n 1))
     -- `x1 + (x1 = 1)`, and the other way round
     ∷ two Add (val 1) (set (var 1) (n 1)) ∷ two Add (set (var 1) (n 1)) (val 1)
+    -- what either operand of an operand read counts: `(x2 + x1) + (x1 = 1)`, `(x1 + x2) + (x1 = 1)`
+    ∷ two Add (two Add (val 2) (val 1)) (set (var 1) (n 1)) ∷ two Add (two Add (val 1) (val 2)) (set (var 1) (n 1))
+    -- and what one wrote: `((x2 = 1) + (x1 = 1)) + x1`
+    ∷ two Add (two Add (set (var 2) (n 1)) (set (var 1) (n 1))) (val 1)
     -- `(x1 = 1) + (x1 = 2)`, `x1++ + x1++`
     ∷ two Add (set (var 1) (n 1)) (set (var 1) (n 2)) ∷ two Add (post_up (var 1)) (post_up (var 1))
     -- `x1 = (x1 = 1)`, `x1 += x1++`
