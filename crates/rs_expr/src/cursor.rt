@@ -109,6 +109,16 @@ impl<'a> Cursor<'a> {
         }
     }
 
+    /// The bytes of the token behind the next two.
+    pub fn text_behind_two(&self) -> &[u8]
+        ensures { result.now ≡ signs.text_at (drop 2 self.now) }
+    {
+        match self.rest {
+            [_, _, token, ..] => text(token),
+            _ => b"",
+        }
+    }
+
     /// The bytes of the token behind the next four.
     pub fn text_behind_four(&self) -> &[u8]
         ensures { result.now ≡ signs.text_at (drop 4 self.now) }
@@ -128,7 +138,7 @@ impl<'a> Cursor<'a> {
     }
 
     /// Leaves a comma behind, where it stands.
-    pub(crate) fn skip_comma(&mut self)
+    pub fn skip_comma(&mut self)
         ensures { self.new ≡ reading.comma_behind (signs.sign_at self.old) self.old }
     {
         if self.peek() == Sign::Comma {

@@ -17,6 +17,6 @@ mod words;
 pub use cursor::Cursor;
 pub use expr_nodes::place_of;
 pub use exprs::expr;
-pub use numbers::literal;
+pub use numbers::{literal, size_of};
 pub use sign::Sign;
 pub use types::{option_result, ty};

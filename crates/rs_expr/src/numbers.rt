@@ -63,7 +63,7 @@ fn value_of(word: &[u8]) -> u128
 }
 
 /// The number of 64 bits that a word writes, or 0 where it is over them.
-pub(crate) fn size_of(word: &[u8]) -> u64
+pub fn size_of(word: &[u8]) -> u64
     ensures { result ≡ numbers.size_of word.now }
 {
     let size = digits_size(word);
