@@ -1,7 +1,7 @@
 -- Readers of places and expressions (the Rust Reference, "Expressions"). `below` reads an expression that stands in another.
-use Rattle.std.specs.Prelude.{ℕ, zero, suc, true, false, Bool, codes, List, [], ◌∷◌, drop, length, Option, Some, None, if◌then◌else◌}
+use Rattle.std.specs.Prelude.{◌&&◌, not, ℕ, zero, suc, true, false, Bool, codes, List, [], ◌∷◌, drop, length, Option, Some, None, if◌then◌else◌}
 use Rattle.rs_expr.specs.Numbers.{literal}
-use Rattle.rs_expr.specs.Reading.{Reader, read_of, listed}
+use Rattle.rs_expr.specs.Reading.{Toks, Reader, read_of, listed}
 use Rattle.rs_expr.specs.Signs.{sign_at, text_at, entry_of}
 use Rattle.rs_expr.specs.Types.{ty, signature}
 use Rattle.rs_expr.specs.declared.sign.Sign.{Sign}
@@ -276,13 +276,17 @@ inverted below tokens = read_of (Not (right below tokens).0) (right below tokens
 unfoldable pub pointed : Reader Expr → Reader Expr
 pointed below tokens = read_of (Read (Deref (right below tokens).0)) (right below tokens).1
 
-abbrev pub minus_by : Sign → Reader Expr → Reader Expr
-minus_by of.Number below tokens = number tokens
-minus_by _ below tokens = opposite below tokens
+abbrev pub is_number : Sign → Bool
+is_number of.Number = true
+is_number _ = false
+
+-- a literal that no dot stands behind is behind the next token
+abbrev pub is_lone : Toks → Bool
+is_lone tokens = is_number (sign_at (drop 1 tokens)) && not (is_dot (sign_at (drop 2 tokens)))
 
 -- a negative literal, or `-o`
 unfoldable pub minus : Reader Expr → Reader Expr
-minus below tokens = minus_by (sign_at (drop 1 tokens)) below tokens
+minus below tokens = if is_lone tokens then number tokens else opposite below tokens
 
 -- `e } else { e }`, where the condition is read
 unfoldable pub choose_from : Expr → Reader Expr → Reader Expr

@@ -147,13 +147,20 @@ fn pointed(alloc: Global, cursor: &mut Cursor<'_>, levels: usize) -> Result<Boxe
     Ok(read)
 }
 
+// Whether a literal that no dot stands behind is behind the next token.
+fn is_lone(cursor: &Cursor<'_>) -> bool
+    ensures { result ≡ reader.is_lone cursor.now }
+{
+    cursor.peek_behind().is_number() && !cursor.peek_behind_two().is_dot()
+}
+
 // A negative literal, or `-o`.
 #[cycle(expr)]
 #[tactic(auto, unfolding(crate::specs::Exprs::minus))]
 fn minus(alloc: Global, cursor: &mut Cursor<'_>, levels: usize) -> Result<Boxed<RExpr>, Memory>
     ensures { Gives (λ e. expr_view e) result cursor.new (reader.minus (reader.expr levels) cursor.old) }
 {
-    if cursor.peek_behind() == Sign::Number {
+    if is_lone(cursor) {
         return number(alloc, cursor);
     }
     opposite(alloc, cursor, levels)

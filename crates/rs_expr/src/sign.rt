@@ -82,6 +82,16 @@ impl Sign {
 }
 
 impl Sign {
+    /// Whether this is a word that begins with a digit.
+    pub(crate) fn is_number(self) -> bool
+        ensures { result ≡ exprs.is_number self }
+    {
+        match self {
+            Sign::Number => true,
+            _ => false,
+        }
+    }
+
     /// Whether this is a dot.
     pub(crate) fn is_dot(self) -> bool
         ensures { result ≡ exprs.is_dot self }
