@@ -1,8 +1,8 @@
 -- Worked examples: the job of words that are written out, which the check computes.
-use Rattle.std.specs.Prelude.{◌≡◌, [], ◌∷◌, Some, None, codes}
+use Rattle.std.specs.Prelude.{◌≡◌, ℕ, zero, suc, true, List, [], ◌∷◌, Some, None, is_some, codes}
 use Rattle.std.proofs.Common.{refl}
 use Rattle.clap.proofs.OnLiterals.{clap_on_literals}
-use Rattle.jobs.specs.Job.{job_of, transpile, run_c, run_rust}
+use Rattle.jobs.specs.Job.{job_of, order_of, transpile, run_c, run_rust}
 
 in_order : job_of (codes "transpile" ∷ codes "-o" ∷ codes "out" ∷ codes "a.c" ∷ []) ≡ Some (transpile (codes "out") (codes "a.c" ∷ []))
 unfolding clap_on_literals
@@ -295,3 +295,16 @@ long_output = refl
 attached_and_apart : job_of (codes "transpile" ∷ codes "-oout" ∷ codes "-o" ∷ codes "out" ∷ codes "a.c" ∷ []) ≡ None
 unfolding clap_on_literals
 attached_and_apart = refl
+
+-- zeros with a comma between two, one more than so many
+many : ℕ → List ℕ
+many zero = 48 ∷ []
+many (suc n) = 48 ∷ 44 ∷ many n
+
+longest_order : is_some (order_of (many 9999)) ≡ true
+unfolding many
+longest_order = refl
+
+too_long_order : order_of (many 10000) ≡ None
+unfolding many
+too_long_order = refl

@@ -1,4 +1,5 @@
--- Worked runs of each form, at its bounds, which the check computes. What isn't wrong gives what `rustc`'s program gives.
+-- Worked runs of each form, at its bounds, which the check computes. Those that end, need no answer of their own and aren't wrong end as
+-- the program of `rustc` does, but for `past_end_told`.
 use Rattle.std.specs.Prelude.{◌≡◌, pos, negsuc, true, false, [], ◌∷◌, Some, None, codes}
 use Rattle.std.proofs.Common.{refl}
 use Rattle.cr_base.specs.declared.scalar.Scalar.TheVariants as scalar
@@ -481,7 +482,8 @@ null_equal : rs_run (record { modules = record { name = codes "a"; items = Funct
 unfolding pure fails ends seq takes_unit local tells grants begins rounds known_table
 null_equal = refl
 
--- one past an end is told from another object, and a pointer to a dead object from itself moved nowhere
+-- `==` is told of every two pointers, by their objects and offsets: also of one past an end, which a program of `rustc` may find
+-- equal to the next object, and of a dead one
 past_end_told : rs_run (record { modules = record { name = codes "a"; items = FunctionItem (record { attribute = Mangled; name = codes "main_0"; params = []; result = Some (Integer I32); locals = record { name = codes "x"; ty = Integer I32 } ∷ record { name = codes "y"; ty = Integer I32 } ∷ []; body = stmts (Return (Some (Cast (Binary (Offset (AddressOf (Local (codes "x"))) (Literal (pos 1) Isize)) Equal (AddressOf (Local (codes "y")))) (Integer I32))) ∷ []) }) ∷ FunctionItem (record { attribute = Mangled; name = codes "run_static_initializers"; params = []; result = None; locals = []; body = stmts ([]) }) ∷ [] } ∷ []; entry = 0 }) (record { answers = [] }) 30 ≡ record { events = []; progress = ended (pos 0) }
 unfolding pure fails ends seq takes_unit local tells grants begins rounds known_table
 past_end_told = refl
