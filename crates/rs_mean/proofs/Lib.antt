@@ -1,4 +1,6 @@
 pub mod Bounded
+mod ExampleCases
+mod ExampleForms
 mod ExampleRuns
 mod ExampleTypes
 pub mod Extended
