@@ -1,4 +1,4 @@
 mod full;
-mod jobs;
 mod large;
+mod statuses;
 mod sure;

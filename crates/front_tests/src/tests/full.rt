@@ -1,6 +1,6 @@
 //! Jobs that find no memory.
 
-use crate::tests::jobs::{UNIT, Wanted, leaves, status_of, unit, words};
+use crate::tests::statuses::{UNIT, Wanted, leaves, status_of, unit, words};
 use cr_base::Memory;
 use shelf::{Got, MemShelf, MemSink, Shelf, ShelfFault};
 use std::alloc::Global;

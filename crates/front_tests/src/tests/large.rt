@@ -1,6 +1,6 @@
 //! Units that are large.
 
-use crate::tests::jobs::{MODULE, UNIT, Wanted, leaves, unit, words};
+use crate::tests::statuses::{MODULE, UNIT, Wanted, leaves, unit, words};
 use cr_base::Memory;
 use shelf::MemShelf;
 use std::alloc::{AllocError, Global};

@@ -1,6 +1,6 @@
 //! Jobs over a shelf and a sink that never fail.
 
-use crate::tests::jobs::{MODULE, UNIT, has_module, unit, words};
+use crate::tests::statuses::{MODULE, UNIT, has_module, unit, words};
 use cr_base::Memory;
 use ext_calls::SureHost;
 use front::{out_of_memory, run_surely};
