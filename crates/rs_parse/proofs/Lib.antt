@@ -1,6 +1,7 @@
 pub mod ClosedTrees
 pub mod Closing
 pub mod Digits
+pub mod Lexing
 pub mod ModuleLaws
 pub mod NameSigns
 pub mod ReadExprs
@@ -8,3 +9,5 @@ pub mod ReadItems
 pub mod ReadLists
 pub mod ReadStmts
 pub mod ReadTypes
+pub mod TextItems
+pub mod Texts

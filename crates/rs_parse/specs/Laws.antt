@@ -1,7 +1,9 @@
--- Laws of reading: a text spells the tokens of one valid module at most, and its items are read back from them.
+-- Laws of reading: a text spells the tokens of one valid module at most, its items are read back from them, and the text of a valid
+-- module spells its tokens.
 use Rattle.std.specs.Prelude.{◌≡◌, true, ℕ, List, Some, IsTrue}
 use Rattle.rs_item.specs.Items.{items}
 use Rattle.rs_lex.specs.Closed.{closed_in}
+use Rattle.rs_tree.specs.Lines.{module_lines, text_of_lines}
 use Rattle.rs_tree.specs.Reads.{spells}
 use Rattle.rs_tree.specs.Spelling.{module_tokens}
 use Rattle.rs_tree.specs.Tree.{ModuleTree}
@@ -20,3 +22,7 @@ TextsAreClosed = (unit : ModuleTree) (text : List ℕ) → valid_items unit.item
 abbrev pub OneModule : Type 0
 OneModule = (one other : ModuleTree) (text : List ℕ) → valid_items one.items ≡ true → valid_items other.items ≡ true →
     IsTrue (spells text (module_tokens one)) → IsTrue (spells text (module_tokens other)) → one.items ≡ other.items
+
+-- the printed text of a valid module spells its tokens
+abbrev pub ModuleTextsSpell : Type 0
+ModuleTextsSpell = (unit : ModuleTree) → valid_items unit.items ≡ true → IsTrue (spells (text_of_lines (module_lines unit)) (module_tokens unit))

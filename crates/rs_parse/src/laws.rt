@@ -1,6 +1,6 @@
 //! Laws of reading.
 
-ghost use Rattle.rs_parse.specs.Laws.{ModulesAreRead, TextsAreClosed, OneModule};
+ghost use Rattle.rs_parse.specs.Laws.{ModulesAreRead, TextsAreClosed, OneModule, ModuleTextsSpell};
 
 /// Law: the tokens of each valid module are read as its items.
 pub fn modules_are_read()
@@ -16,4 +16,9 @@ pub fn texts_are_closed()
 /// Law: two valid modules that the same text spells have the same items.
 pub fn one_module()
     ensures { OneModule }
+{}
+
+/// Law: the printed text of each valid module spells that module's tokens.
+pub fn module_texts_spell()
+    ensures { ModuleTextsSpell }
 {}

@@ -3,4 +3,4 @@
 
 mod laws;
 
-pub use laws::{modules_are_read, one_module, texts_are_closed};
+pub use laws::{module_texts_spell, modules_are_read, one_module, texts_are_closed};
