@@ -34,7 +34,7 @@ front_of t n = (t, n)
 abbrev piece_of : Toks → ℕ → Toks × ℕ
 piece_of ts n = (ts, n)
 
-same_self : (xs : Text) → bytes_eq xs xs ≡ true
+pub same_self : (xs : Text) → bytes_eq xs xs ≡ true
 same_self [] = refl
 same_self (x ∷ xs) = let e : nat_eq x x ≡ true = grind (arith, nat_tests) in ap (λ b. b && bytes_eq xs xs) e ∙ same_self xs
 

@@ -1,9 +1,12 @@
 pub mod ClosedTrees
 pub mod Closing
+pub mod CrateText
 pub mod Digits
 pub mod Lexing
+pub mod MainText
 pub mod ModuleLaws
 pub mod NameSigns
+pub mod OneCrate
 pub mod ReadExprs
 pub mod ReadItems
 pub mod ReadLists

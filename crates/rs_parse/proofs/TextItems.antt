@@ -47,7 +47,7 @@ l_bracket_end {n} {b} {bs} good = record { on = λ t us h r. (close_bracket (goo
 pub record LinesGood (lines : List Line) (xs : Toks) : Type 0 where
   pub good : Good false (text_of_lines lines) xs
 
-no_lines : LinesGood [] []
+pub no_lines : LinesGood [] []
 no_lines = record { good = nothing }
 
 lines_moved : {ls : List Line} {xs ys : Toks} → xs ≡ ys → LinesGood ls xs → LinesGood ls ys
@@ -62,17 +62,17 @@ line_good d {a} {xs} good =
     let ended : Good false (a ++ codes "\n") (xs ++ []) = soft_then good (l_newline nothing) (λ t s. refl) in
     free_then (blanks_good (4 * d)) (good_moved refl (append-nil xs) ended)
 
-cons_line : (d : ℕ) {a : Text} {xs : Toks} {ls : List Line} {bs : Toks} → Good true a xs → LinesGood ls bs → LinesGood (line d a ∷ ls) (xs ++ bs)
+pub cons_line : (d : ℕ) {a : Text} {xs : Toks} {ls : List Line} {bs : Toks} → Good true a xs → LinesGood ls bs → LinesGood (line d a ∷ ls) (xs ++ bs)
 cons_line d first more = record { good = free_then (line_good d first) more.good }
 
-one_line : (d : ℕ) {a : Text} {xs : Toks} → Good true a xs → LinesGood (line d a ∷ []) xs
+pub one_line : (d : ℕ) {a : Text} {xs : Toks} → Good true a xs → LinesGood (line d a ∷ []) xs
 one_line d {a} {xs} first = lines_moved (append-nil xs) (cons_line d first no_lines)
 
 flat_append : (xs ys : List Line) → text_of_lines (xs ++ ys) ≡ text_of_lines xs ++ text_of_lines ys
 flat_append [] ys = refl
 flat_append (x ∷ xs) ys = ap (λ l. line_bytes x ++ l) (flat_append xs ys) ∙ sym (append_assoc (line_bytes x) (text_of_lines xs) (text_of_lines ys))
 
-lines_then : {ls ms : List Line} {xs ys : Toks} → LinesGood ls xs → LinesGood ms ys → LinesGood (ls ++ ms) (xs ++ ys)
+pub lines_then : {ls ms : List Line} {xs ys : Toks} → LinesGood ls xs → LinesGood ms ys → LinesGood (ls ++ ms) (xs ++ ys)
 lines_then {ls} {ms} first next = record { good = good_moved (sym (flat_append ls ms)) refl (free_then first.good next.good) }
 
 close_line : (d : ℕ) → LinesGood (closing d ∷ []) (Mark (codes "}") ∷ [])
