@@ -137,19 +137,19 @@ double_step (suc zero) p text ts us s is walks next = cc
 double_step (suc (suc n)) p text ts us s is walks next =
     cut_then (suc (suc n)) n p Close (Mark text) (Close ∷ Close ∷ []) ts us (two_closes n p text is) (next n Close s walks)
 
-word_is : (t : RToken) (x : List ℕ) → is_token t (Word x) ≡ true → t ≡ Word x
+pub word_is : (t : RToken) (x : List ℕ) → is_token t (Word x) ≡ true → t ≡ Word x
 word_is (Word a) x h = ap Word (same_text a x (sym h))
 word_is _ x h = cc
 
-label_is : (t : RToken) (x : List ℕ) → is_token t (Label x) ≡ true → t ≡ Label x
+pub label_is : (t : RToken) (x : List ℕ) → is_token t (Label x) ≡ true → t ≡ Label x
 label_is (Label a) x h = ap Label (same_text a x (sym h))
 label_is _ x h = cc
 
-quoted_is : (t : RToken) (x : List ℕ) → is_token t (Quoted x) ≡ true → t ≡ Quoted x
+pub quoted_is : (t : RToken) (x : List ℕ) → is_token t (Quoted x) ≡ true → t ≡ Quoted x
 quoted_is (Quoted a) x h = ap Quoted (same_text a x (sym h))
 quoted_is _ x h = cc
 
-mark_is : (t : RToken) (x : List ℕ) → is_token t (Mark x) ≡ true → t ≡ Mark x
+pub mark_is : (t : RToken) (x : List ℕ) → is_token t (Mark x) ≡ true → t ≡ Mark x
 mark_is (Mark a) x h = ap Mark (same_text a x (sym h))
 mark_is _ x h = cc
 

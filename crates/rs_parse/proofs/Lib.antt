@@ -1,10 +1,16 @@
 pub mod ClosedTrees
 pub mod Closing
+pub mod CrateText
 pub mod Digits
+pub mod Lexing
+pub mod MainText
 pub mod ModuleLaws
 pub mod NameSigns
+pub mod OneCrate
 pub mod ReadExprs
 pub mod ReadItems
 pub mod ReadLists
 pub mod ReadStmts
 pub mod ReadTypes
+pub mod TextItems
+pub mod Texts

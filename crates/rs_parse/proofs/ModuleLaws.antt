@@ -9,9 +9,10 @@ use Rattle.rs_tree.specs.Spelling.{module_tokens}
 use Rattle.rs_tree.specs.Tokens.{RToken, tokens_in}
 use Rattle.rs_tree.specs.Tree.{ModuleTree, ItemTree}
 use Rattle.rs_tree.specs.Valid.{valid_item, valid_items, are_in_order, ends_with_initialiser}
-use Rattle.rs_parse.specs.Laws.{ModulesAreRead, TextsAreClosed, OneModule}
+use Rattle.rs_parse.specs.Laws.{ModulesAreRead, TextsAreClosed, OneModule, ModuleTextsSpell}
 use Rattle.rs_parse.proofs.ClosedTrees.{items_closed}
 use Rattle.rs_parse.proofs.ReadItems.{items_read}
+use Rattle.rs_parse.proofs.TextItems.{items_spelled}
 
 each_valid : (list : List ItemTree) → valid_items list ≡ true → list_all valid_item list ≡ true
 each_valid list v =
@@ -36,3 +37,6 @@ items_or (Some ts) = items ts
 pub one_module : OneModule
 one_module one other text v w h g =
     sym (modules_are_read one v) ∙ ap items_or (sym (texts_are_closed one text v h) ∙ texts_are_closed other text w g) ∙ modules_are_read other w
+
+pub module_texts_spell : ModuleTextsSpell
+module_texts_spell unit v = (items_spelled unit.items (each_valid unit.items v)).fit

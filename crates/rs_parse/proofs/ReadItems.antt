@@ -83,7 +83,7 @@ one_of : (n m : ℕ) (b : Bool) → nat_eq m n ≡ b → (others : Bool) → (b 
 one_of n m true is others h small next = grind (arith, nat_tests, is, small)
 one_of n m false is others h small next = next h
 
-among_small : (n : ℕ) (ms : List ℕ) → list_all (λ m. nat_le m 16) ms ≡ true → list_any (λ m. nat_eq m n) ms ≡ true → nat_le n 16 ≡ true
+pub among_small : (n : ℕ) (ms : List ℕ) → list_all (λ m. nat_le m 16) ms ≡ true → list_any (λ m. nat_eq m n) ms ≡ true → nat_le n 16 ≡ true
 among_small n [] all h = cc
 among_small n (m ∷ ms) all h =
     let parts = and_parts (nat_le m 16) (list_all (λ m. nat_le m 16) ms) all in

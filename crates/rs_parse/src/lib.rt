@@ -3,4 +3,6 @@
 
 mod laws;
 
-pub use laws::{modules_are_read, one_module, texts_are_closed};
+pub use laws::{
+    module_texts_spell, modules_are_read, one_crate, one_module, text_reads, texts_are_closed,
+};
