@@ -1,10 +1,12 @@
 pub mod ClosedTrees
 pub mod Closing
 pub mod CrateText
+pub mod CutFits
 pub mod Digits
 pub mod Lexing
 pub mod MainText
 pub mod ModuleLaws
+pub mod ModuleRead
 pub mod NameSigns
 pub mod OneCrate
 pub mod ReadExprs

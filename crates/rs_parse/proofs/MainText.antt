@@ -71,7 +71,7 @@ abbrev pub main_tokens : List Text → Text → Toks
 main_tokens names entry =
     allowed ++ (declared names ++ (head_of_main ++ ((Word (codes "unsafe") ∷ Mark (codes "{") ∷ []) ++ (begun names ++ (left entry ++ ((Mark (codes "}") ∷ []) ++ (Mark (codes "}") ∷ [])))))))
 
-plain_both : (xs ys : Toks) → list_all is_plain xs ≡ true → list_all is_plain ys ≡ true → list_all is_plain (xs ++ ys) ≡ true
+pub plain_both : (xs ys : Toks) → list_all is_plain xs ≡ true → list_all is_plain ys ≡ true → list_all is_plain (xs ++ ys) ≡ true
 plain_both [] ys h g = g
 plain_both (x ∷ xs) ys h g = let parts = and_parts (is_plain x) (list_all is_plain xs) h in ap (λ b. b && list_all is_plain (xs ++ ys)) parts.0 ∙ plain_both xs ys parts.1 g
 

@@ -6,7 +6,7 @@ use rs_tree::Line;
 use std::alloc::Global;
 
 /// The bytes of lines, as they stand in a file.
-pub(crate) fn bytes_of(alloc: Global, lines: &[Line]) -> Result<Items<u8>, Memory>
+pub fn bytes_of(alloc: Global, lines: &[Line]) -> Result<Items<u8>, Memory>
     ensures { IfOk result (λ bytes. bytes ≡ text_of_lines lines.now) }
 {
     let mut bytes = Vec::new(alloc);
