@@ -1,0 +1,6 @@
+//! Which crates of the written Rust are well typed, and how their types are laid out (the Rust Reference,
+//! "Type system" and "Type layout").
+#![tactic(auto)]
+
+mod kind;
+mod same;
