@@ -1,0 +1,6 @@
+use Rattle.std.proofs.Common.{◌≡◌, drop, map}
+use Rattle.rs_expr.specs.Signs.{entry_of}
+use Rattle.rs_expr.proofs.words.entry_of.Given as goal
+
+abbrev pub invariant-loop-entry : goal.invariant-loop-entry
+invariant-loop-entry t l = entry_of (map (λ entry. (entry.0.now, entry.1)) (drop l.entry-index l.table)) l.text l.other ≡ entry_of (map (λ entry. (entry.0.now, entry.1)) l.table) l.text l.other

@@ -1,0 +1,10 @@
+pub mod ClosedTrees
+pub mod Closing
+pub mod Digits
+pub mod ModuleLaws
+pub mod NameSigns
+pub mod ReadExprs
+pub mod ReadItems
+pub mod ReadLists
+pub mod ReadStmts
+pub mod ReadTypes
