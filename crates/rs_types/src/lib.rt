@@ -3,4 +3,6 @@
 #![tactic(auto)]
 
 mod kind;
+mod lookup;
+mod operands;
 mod same;
