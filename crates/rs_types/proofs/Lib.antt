@@ -1,2 +1,4 @@
 pub mod Common
 pub mod Found
+pub mod Locals
+pub mod Types

@@ -2,7 +2,12 @@
 //! "Type system" and "Type layout").
 #![tactic(auto)]
 
+mod forms;
 mod kind;
+mod layout;
 mod lookup;
 mod operands;
 mod same;
+mod scope;
+mod signature;
+mod stands;
