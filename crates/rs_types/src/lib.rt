@@ -3,4 +3,5 @@
 #![tactic(auto)]
 
 mod kind;
+mod layout;
 mod same;
