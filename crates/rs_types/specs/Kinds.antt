@@ -3,7 +3,7 @@ use Rattle.std.specs.Prelude.{Bool, true, false, ◌||◌, map, option_map, Opti
 use Rattle.rs_tree.specs.Tree.{Ty, Integer, Boolean, Void, Pointer, Array, Code, Record, tys, option_ty}
 use Rattle.rs_tree.specs.Views.{ty_view}
 use Rattle.rs_mean.specs.Scalars.{is_integer}
-use Rattle.rs_mean.specs.Typing.{Kind, of, of_none, is_of, is_code, is_pointer}
+use Rattle.rs_mean.specs.Typing.{Kind, of, of_none, is_of, is_code, is_pointer, casts}
 use Rattle.rs_types.specs.declared.kind.HeldKind.{HeldKind}
 use Rattle.rs_types.specs.declared.kind.HeldKind.TheVariants as held
 
@@ -43,3 +43,8 @@ takes_none of_none = true
 abbrev pub kept : Bool → Kind → Option Kind
 kept true kind = Some kind
 kept false kind = None
+
+-- `as` goes from a kind to a type
+abbrev pub casts_from : Kind → Ty → Bool
+casts_from (of from) ty = casts from ty
+casts_from of_none ty = false

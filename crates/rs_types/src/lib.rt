@@ -4,4 +4,6 @@
 
 mod kind;
 mod layout;
+mod lookup;
+mod operands;
 mod same;
