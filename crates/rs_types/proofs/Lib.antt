@@ -1,3 +1,4 @@
 pub mod Common
 pub mod Layouts
 pub mod Found
+pub mod LayoutsAligned
