@@ -1,4 +1,6 @@
 pub mod Common
 pub mod Found
+pub mod Layouts
+pub mod LayoutsAligned
 pub mod Locals
 pub mod Types

@@ -10,10 +10,10 @@ ghost use Rattle.rs_tree.specs.Tree.{tys, option_ty};
 ghost use Rattle.rs_tree.specs.Views.{ty_view, function_view, module_view};
 ghost use Rattle.rs_types.specs.Forms as forms;
 ghost use Rattle.rs_types.specs.Kinds.{kind_view};
-ghost use Rattle.rs_types.specs.Layouts.{AreModulesAligned};
+ghost use Rattle.rs_types.specs.Layouts.{ModulesAreAligned};
 
-use crate::kind::{HeldKind, is_of_pointer, kept, kind_of_type};
-use crate::layout::place_of_field;
+use crate::kind::{HeldKind, common, is_of_pointer, kept, kind_of_type};
+use crate::layout::field_type_at;
 use crate::lookup::own_function_at;
 use crate::operands::{casts, is_integer_of, is_of_type};
 use crate::same::same_results;
@@ -34,7 +34,7 @@ pub(crate) fn read_kind(ty: Option<&RTy>) -> Option<HeldKind<'_>>
 
 /// The address of a place of a type.
 pub(crate) fn address_kind<'t>(modules: &[Module], ty: Option<&'t RTy>) -> Option<HeldKind<'t>>
-    requires { AreModulesAligned (map module_view modules.now) }
+    requires { ModulesAreAligned (map module_view modules.now) }
     ensures { option_map kind_view result ≡ forms.address_kind (map module_view modules.now) (option_map ty_view (option_copied ty.entry)) }
 {
     match ty {
@@ -45,7 +45,7 @@ pub(crate) fn address_kind<'t>(modules: &[Module], ty: Option<&'t RTy>) -> Optio
 
 /// The null pointer to a value of a type.
 pub(crate) fn null_pointer_kind<'t>(modules: &[Module], ty: &'t RTy) -> Option<HeldKind<'t>>
-    requires { AreModulesAligned (map module_view modules.now) }
+    requires { ModulesAreAligned (map module_view modules.now) }
     ensures { option_map kind_view result ≡ only_if (typing.type_stands (map module_view modules.now) (tree.Pointer (ty_view ty.now))) (tree.Pointer (ty_view ty.now)) }
 {
     kept(pointer_stands(modules, ty), HeldKind::Pointer(ty))
@@ -57,7 +57,7 @@ pub(crate) fn offset_kind<'t>(
     pointer: Option<HeldKind<'t>>,
     count: Option<HeldKind<'_>>,
 ) -> Option<HeldKind<'t>>
-    requires { AreModulesAligned (map module_view modules.now) }
+    requires { ModulesAreAligned (map module_view modules.now) }
     ensures { option_map kind_view result ≡ typing.offset_kind (map module_view modules.now) (own_type (option_map kind_view pointer.entry)) (option_map kind_view count.entry) }
 {
     match pointer {
@@ -84,7 +84,7 @@ pub(crate) fn apart_kind<'t>(
     pointer: Option<HeldKind<'_>>,
     other: Option<HeldKind<'_>>,
 ) -> Option<HeldKind<'t>>
-    requires { AreModulesAligned (map module_view modules.now) }
+    requires { ModulesAreAligned (map module_view modules.now) }
     ensures { option_map kind_view result ≡ typing.apart_kind (map module_view modules.now) (own_type (option_map kind_view pointer.entry)) (option_map kind_view other.entry) }
 {
     match pointer {
@@ -102,7 +102,7 @@ pub(crate) fn cast_kind<'t>(
     ty: &'t RTy,
     from: Option<HeldKind<'_>>,
 ) -> Option<HeldKind<'t>>
-    requires { AreModulesAligned (map module_view modules.now) }
+    requires { ModulesAreAligned (map module_view modules.now) }
     ensures { option_map kind_view result ≡ typing.cast_kind (map module_view modules.now) (ty_view ty.now) (own_type (option_map kind_view from.entry)) }
 {
     match from {
@@ -124,7 +124,7 @@ pub(crate) fn transmute_kind<'t>(
     to: &'t RTy,
     kind: Option<HeldKind<'_>>,
 ) -> Option<HeldKind<'t>>
-    requires { AreModulesAligned (map module_view modules.now) }
+    requires { ModulesAreAligned (map module_view modules.now) }
     ensures { option_map kind_view result ≡ forms.transmute_kind (map module_view modules.now) (ty_view from.now) (ty_view to.now) (option_map kind_view kind.entry) }
 {
     kept(
@@ -167,14 +167,26 @@ pub(crate) fn field_type<'t>(
     name: &Name,
     ty: Option<&RTy>,
 ) -> Option<&'t RTy>
-    requires { AreModulesAligned (map module_view modules.now) }
+    requires { ModulesAreAligned (map module_view modules.now) }
     ensures { option_map ty_view (option_copied result) ≡ typing.field_type (map module_view modules.now) name.now (option_map ty_view (option_copied ty.entry)) }
 {
     match ty {
-        Some(RTy::Record(path)) => match place_of_field(modules, path, name) {
-            Some(home) => Some(home.ty),
-            None => None,
-        },
+        Some(RTy::Record(path)) => field_type_at(modules, path, name),
         _ => None,
+    }
+}
+
+/// The one kind of what `if` chooses from, where its condition is a `bool`.
+pub(crate) fn chosen_kind<'t>(
+    is_truth: bool,
+    if_true: Option<HeldKind<'t>>,
+    if_false: Option<HeldKind<'t>>,
+) -> Option<HeldKind<'t>>
+    ensures { option_map kind_view result ≡ typing.chosen_kind is_truth (typing.common (option_map kind_view if_true.entry) (option_map kind_view if_false.entry)) }
+{
+    if is_truth {
+        common(if_true, if_false)
+    } else {
+        None
     }
 }

@@ -2,6 +2,7 @@
 //! "Type system" and "Type layout").
 #![tactic(auto)]
 
+mod exprs;
 mod forms;
 mod kind;
 mod layout;

@@ -8,7 +8,7 @@ ghost use Rattle.rs_tree.specs.Tree as tree;
 ghost use Rattle.rs_tree.specs.Tree.{tys, option_ty};
 ghost use Rattle.rs_tree.specs.Valid.{is_void};
 ghost use Rattle.rs_tree.specs.Views.{ty_view, module_view};
-ghost use Rattle.rs_types.specs.Layouts.{AreModulesAligned};
+ghost use Rattle.rs_types.specs.Layouts.{ModulesAreAligned};
 
 use crate::layout::laid_of;
 use crate::lookup::record_at;
@@ -38,7 +38,7 @@ pub(crate) fn is_scalar_type(ty: &RTy) -> bool
 
 /// Whether values of a type have a size that isn't too large: the target of a pointer that is moved.
 pub(crate) fn is_target(modules: &[Module], ty: &RTy) -> bool
-    requires { AreModulesAligned (map module_view modules.now) }
+    requires { ModulesAreAligned (map module_view modules.now) }
     ensures { result ≡ is_some (layout.laid_of (map module_view modules.now) (ty_view ty.now)) }
 {
     laid_of(modules, ty).is_some()
@@ -47,7 +47,7 @@ pub(crate) fn is_target(modules: &[Module], ty: &RTy) -> bool
 /// Whether a type stands in a crate: its records exist, and its arrays have lengths and aren't too large.
 #[cycle(stands)]
 pub(crate) fn type_stands(modules: &[Module], ty: &RTy) -> bool
-    requires { AreModulesAligned (map module_view modules.now) }
+    requires { ModulesAreAligned (map module_view modules.now) }
     ensures { result ≡ type_stands (map module_view modules.now) (ty_view ty.now) }
 {
     match ty {
@@ -65,7 +65,7 @@ pub(crate) fn type_stands(modules: &[Module], ty: &RTy) -> bool
 /// Whether the types of parameters are scalar and stand.
 #[cycle(stands)]
 pub(crate) fn params_stand(modules: &[Module], params: &Items<RTy>) -> bool
-    requires { AreModulesAligned (map module_view modules.now) }
+    requires { ModulesAreAligned (map module_view modules.now) }
     ensures { result ≡ params_stand (map module_view modules.now) (tys (map ty_view params.now)) }
 {
     for param in params.as_slice() {
@@ -79,7 +79,7 @@ pub(crate) fn params_stand(modules: &[Module], params: &Items<RTy>) -> bool
 /// Whether the type of a result, if there is one, is scalar and stands.
 #[cycle(stands)]
 pub(crate) fn result_stands(modules: &[Module], given: &Option<Boxed<RTy>>) -> bool
-    requires { AreModulesAligned (map module_view modules.now) }
+    requires { ModulesAreAligned (map module_view modules.now) }
     ensures { result ≡ result_stands (map module_view modules.now) (option_ty (option_map ty_view given.now)) }
 {
     match given {
@@ -90,7 +90,7 @@ pub(crate) fn result_stands(modules: &[Module], given: &Option<Boxed<RTy>>) -> b
 
 /// Whether a type is one of objects, which aren't too large.
 pub(crate) fn object_stands(modules: &[Module], ty: &RTy) -> bool
-    requires { AreModulesAligned (map module_view modules.now) }
+    requires { ModulesAreAligned (map module_view modules.now) }
     ensures { result ≡ object_stands (map module_view modules.now) (ty_view ty.now) }
 {
     type_stands(modules, ty) && is_target(modules, ty)
@@ -98,7 +98,7 @@ pub(crate) fn object_stands(modules: &[Module], ty: &RTy) -> bool
 
 /// Whether the type of a pointer to a value of this type stands.
 pub(crate) fn pointer_stands(modules: &[Module], target: &RTy) -> bool
-    requires { AreModulesAligned (map module_view modules.now) }
+    requires { ModulesAreAligned (map module_view modules.now) }
     ensures { result ≡ type_stands (map module_view modules.now) (tree.Pointer (ty_view target.now)) }
 {
     is_void(target) || type_stands(modules, target)
