@@ -1,5 +1,6 @@
 -- Which scope a held one is.
-use Rattle.std.specs.Prelude.{ℕ, Bool, true, false, ◌&&◌, ◌||◌, List, [], ◌∷◌, ◌++◌, map, option_map, bytes_eq}
+use Rattle.std.specs.Prelude.{ℕ, Bool, ◌&&◌, List, [], ◌∷◌, ◌++◌, map, option_map, bytes_eq}
+use Rattle.std.specs.List.{list_any}
 use Rattle.rs_tree.specs.Views.{ty_view, local_view, module_view}
 use Rattle.rs_mean.specs.Typing.{LabelScope, Scope}
 use Rattle.rs_types.specs.declared.scope.HeldScope.{HeldScope}
@@ -21,10 +22,6 @@ scope_view scope = record {
   labels = labels_view scope.labels.now;
 }
 
-abbrev pub has_name : List ℕ → List LabelScope → Bool
-has_name name [] = false
-has_name name (label ∷ labels) = bytes_eq label.name name || has_name name labels
-
-abbrev pub has_loop : List ℕ → List LabelScope → Bool
-has_loop name [] = false
-has_loop name (label ∷ labels) = bytes_eq label.name name && label.is_loop || has_loop name labels
+-- a label of a name that meets a test
+abbrev pub has_among : (LabelScope → Bool) → List ℕ → List LabelScope → Bool
+has_among test name labels = list_any (λ label. bytes_eq label.name name && test label) labels

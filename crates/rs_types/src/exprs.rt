@@ -30,7 +30,7 @@ use rs_tree::{RExpr, RPlace, RTy};
 /// The type of a place.
 #[cycle(exprs)]
 pub(crate) fn place_type<'t>(scope: HeldScope<'t>, place: &'t RPlace) -> Option<&'t RTy>
-    requires { ModulesAreAligned (map module_view scope.entry.modules.now) }
+    requires { ModulesAreAligned (map module_view scope.modules.now) }
     ensures { option_map ty_view (option_copied result) ≡ place_type (scope_view scope.entry) (place_view place.now) }
 {
     match place {
@@ -44,7 +44,7 @@ pub(crate) fn place_type<'t>(scope: HeldScope<'t>, place: &'t RPlace) -> Option<
 /// The kind of the value of an expression, or None where it is ill typed or has no value.
 #[cycle(exprs)]
 pub(crate) fn kind_of<'t>(scope: HeldScope<'t>, expr: &'t RExpr) -> Option<HeldKind<'t>>
-    requires { ModulesAreAligned (map module_view scope.entry.modules.now) }
+    requires { ModulesAreAligned (map module_view scope.modules.now) }
     ensures { option_map kind_view result ≡ kind_of (scope_view scope.entry) (expr_view expr.now) }
 {
     match expr {
@@ -73,14 +73,20 @@ pub(crate) fn kind_of<'t>(scope: HeldScope<'t>, expr: &'t RExpr) -> Option<HeldK
         RExpr::Cast(operand, ty) => {
             cast_kind(scope.modules, ty.get(), kind_of(scope, operand.get()))
         }
-        _ => kind_of_two(scope, expr),
+        RExpr::Wrapping(_, _, _)
+        | RExpr::Offset(_, _)
+        | RExpr::OffsetFrom(_, _)
+        | RExpr::Binary(_, _, _)
+        | RExpr::And(_, _)
+        | RExpr::Or(_, _)
+        | RExpr::Choose(_, _, _) => kind_of_two(scope, expr),
     }
 }
 
 // The kind of an expression of two operands or three.
 #[cycle(exprs)]
 fn kind_of_two<'t>(scope: HeldScope<'t>, expr: &'t RExpr) -> Option<HeldKind<'t>>
-    requires { ModulesAreAligned (map module_view scope.entry.modules.now) }
+    requires { ModulesAreAligned (map module_view scope.modules.now) }
     ensures { option_map kind_view result ≡ forms.where_several (expr_view expr.now) (kind_of (scope_view scope.entry) (expr_view expr.now)) }
 {
     match expr {
@@ -121,7 +127,7 @@ fn call_kind<'t>(
     signature: Option<HeldSignature<'t>>,
     args: &'t Items<RExpr>,
 ) -> Option<HeldKind<'t>>
-    requires { ModulesAreAligned (map module_view scope.entry.modules.now) }
+    requires { ModulesAreAligned (map module_view scope.modules.now) }
     ensures { option_map kind_view result ≡ forms.call_kind (scope_view scope.entry) (option_map signature_view signature.entry) (exprs (map expr_view args.now)) }
 {
     match signature {
@@ -138,7 +144,7 @@ pub(crate) fn args_fit<'t>(
     signature: HeldSignature<'t>,
     args: &'t Items<RExpr>,
 ) -> bool
-    requires { ModulesAreAligned (map module_view scope.entry.modules.now) }
+    requires { ModulesAreAligned (map module_view scope.modules.now) }
     ensures { result ≡ args_fit (scope_view scope.entry) (signature_view signature.entry).params signature.entry.variadic (exprs (map expr_view args.now)) }
 {
     let mut left = signature.params;

@@ -12,3 +12,4 @@ mod same;
 mod scope;
 mod signature;
 mod stands;
+mod stmts;

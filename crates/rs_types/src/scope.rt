@@ -1,11 +1,10 @@
 //! What the names of a body stand for.
 
-ghost use Rattle.std.specs.Prelude.{◌≡◌, map, option_map};
+ghost use Rattle.std.specs.Prelude.{◌≡◌, true, map, option_map};
 ghost use Rattle.std.specs.Option.{option_copied};
 ghost use Rattle.rs_mean.specs.Lookups.{local_type};
-ghost use Rattle.rs_mean.specs.Typing.{is_new_label};
 ghost use Rattle.rs_tree.specs.Views.{ty_view};
-ghost use Rattle.rs_types.specs.Scopes.{has_loop, has_name, labels_view, scope_view};
+ghost use Rattle.rs_types.specs.Scopes.{has_among, labels_view, scope_view};
 
 use crate::lookup::local_named;
 use cr_base::{Boxed, Name};
@@ -45,7 +44,7 @@ pub(crate) fn local_type<'t>(scope: HeldScope<'t>, name: &Name) -> Option<&'t RT
 
 /// Whether a label of this name stands around the place.
 pub(crate) fn has_label(labels: &Labels<'_>, name: &Name) -> bool
-    ensures { result ≡ has_name name.now (labels_view labels.now) }
+    ensures { result ≡ has_among (λ label. true) name.now (labels_view labels.now) }
 {
     match labels {
         Labels::Outermost => false,
@@ -57,7 +56,7 @@ pub(crate) fn has_label(labels: &Labels<'_>, name: &Name) -> bool
 
 /// Whether a loop of this label stands around the place.
 pub(crate) fn has_loop(labels: &Labels<'_>, name: &Name) -> bool
-    ensures { result ≡ has_loop name.now (labels_view labels.now) }
+    ensures { result ≡ has_among (λ label. label.is_loop) name.now (labels_view labels.now) }
 {
     match labels {
         Labels::Outermost => false,
