@@ -11,6 +11,7 @@ use cr_base::{Boxed, Name};
 use rs_tree::{Local, Module, RTy};
 
 /// The labels around a place, the innermost first.
+#[derive(Clone, Copy)]
 pub(crate) enum Labels<'t> {
     Outermost,
     Within {
