@@ -235,7 +235,7 @@ no_place : (layout : Ty → Option Laid) (f : List ℕ) (fields : List FieldTree
 no_place layout f [] = refl
 no_place layout f (field ∷ fields) =
     ap (λ front. type_in (if bytes_eq field.name f then option_and_then (λ taken. placed (layout field.ty) taken field) None else field_behind layout f front fields))
-        (behind_none (layout field.ty))
+    (behind_none (layout field.ty))
     ∙ place_by layout f field fields (bytes_eq field.name f) (no_place layout f fields)
 
 type_by : (layout : Ty → Option Laid) (f : List ℕ) (front : Front) (field : FieldTree) (fields : List FieldTree) (one : Option Laid) (b : Bool) →

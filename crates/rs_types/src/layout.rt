@@ -351,7 +351,11 @@ fn home_of(front: Front, one: Laid, field: &Field) -> FieldHome<'_>
 }
 
 /// The type and the place of the field of a name in the record that a path names, which isn't too large.
-pub(crate) fn field_home<'t>(modules: &'t [Module], path: &RPath, name: &Name) -> Option<FieldHome<'t>>
+pub(crate) fn field_home<'t>(
+    modules: &'t [Module],
+    path: &RPath,
+    name: &Name,
+) -> Option<FieldHome<'t>>
     requires aligned { ModulesAreAligned (map module_view modules.now) }
     requires laid { IfSome (record_at (map module_view modules.now) path.now.home path.now.name) (λ one. IsSome (record_laid (laid_of (map module_view modules.now)) one)) }
     ensures { option_map home_view result ≡ field_at (map module_view modules.now) path.now.home path.now.name name.now }
