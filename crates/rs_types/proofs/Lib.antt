@@ -2,3 +2,4 @@ pub mod Common
 pub mod Layouts
 pub mod Found
 pub mod LayoutsAligned
+pub mod LayoutsTyped
