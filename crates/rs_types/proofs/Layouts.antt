@@ -141,7 +141,7 @@ none_behind : (layout : Ty → Option Laid) (one : Option Laid) (fields : List F
 none_behind layout None fields none = none
 none_behind layout (Some one) fields none = none
 
-none_after : (layout : Ty → Option Laid) (fields : List FieldTree) → front_after layout None fields ≡ None
+pub none_after : (layout : Ty → Option Laid) (fields : List FieldTree) → front_after layout None fields ≡ None
 none_after layout [] = refl
 none_after layout (field ∷ fields) = none_behind layout (layout field.ty) fields (none_after layout fields)
 
@@ -293,3 +293,8 @@ pub place_is : (layout : Ty → Option Laid) (f : List ℕ) (one : RecordTree) �
 place_is layout f one some =
     fits_among layout f one.fields (no_front one.is_union)
     (closed_some one.align (fronts layout (no_front one.is_union) one.fields) (subst IsSome (laid_by_fronts layout one) some))
+
+-- the fields of a record that isn't too large don't take too much
+pub record_fits : (layout : Ty → Option Laid) (one : RecordTree) → IsSome (record_laid layout one) → IsSome (fronts layout (no_front one.is_union) one.fields)
+record_fits layout one some =
+    closed_some one.align (fronts layout (no_front one.is_union) one.fields) (subst IsSome (laid_by_fronts layout one) some)

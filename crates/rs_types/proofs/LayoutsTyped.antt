@@ -8,12 +8,12 @@ use Rattle.rs_tree.specs.Tree.{Ty, Integer, Boolean, Void, Pointer, Array, Code,
 use Rattle.rs_mean.specs.Lookups.{items_in, record_among, record_at}
 use Rattle.rs_mean.specs.Layout.{laid_with, laid_among, laid_at, laid_of, record_laid}
 use Rattle.rs_mean.specs.Typing.{by_earlier, names_differ, item_typed, record_typed, first_ill_item, ItemPlace, placed_in, first_ill_from, well_typed, type_stands}
-use Rattle.rs_types.specs.Layouts.{record_named, FoundRecord, first_found, found_among, by_front}
+use Rattle.rs_types.specs.Layouts.{record_named, FoundRecord, first_found, found_among, by_front, is_type_in}
 
 -- ---- items in front of others
 
 -- these items behind others, the last one first
-onto : List ItemTree → List ItemTree → List ItemTree
+unfoldable pub onto : List ItemTree → List ItemTree → List ItemTree
 onto [] earlier = earlier
 onto (item ∷ items) earlier = onto items (item ∷ earlier)
 
@@ -28,7 +28,7 @@ append_none : (items : List ItemTree) → items ++ [] ≡ items
 append_none [] = refl
 append_none (item ∷ items) = ap (λ others. item ∷ others) (append_none items)
 
-onto_reverse : (items : List ItemTree) → onto items [] ≡ reverse items
+pub onto_reverse : (items : List ItemTree) → onto items [] ≡ reverse items
 onto_reverse items = onto_is items [] ∙ append_none (reverse items)
 
 -- ---- records that are laid out
@@ -41,15 +41,18 @@ AreLaid home (StaticItem object ∷ earlier) = AreLaid home earlier
 AreLaid home (ExternItem outers ∷ earlier) = AreLaid home earlier
 AreLaid home (FunctionItem fun ∷ earlier) = AreLaid home earlier
 
-ill_by : (b : Bool) (rest : Option ℕ) (number : ℕ) → (if b then rest else Some number) ≡ None → (b ≡ true) × (rest ≡ None)
+pub ill_by : (b : Bool) (rest : Option ℕ) (number : ℕ) → (if b then rest else Some number) ≡ None → (b ≡ true) × (rest ≡ None)
 ill_by true rest number none = (refl, none)
 ill_by false rest number none = absurd cc
+
+pub record_stands : (modules : List ModuleTree) (unit : ModuleTree) (earlier : List ItemTree) (one : RecordTree) →
+    item_typed modules unit earlier (RecordItem one) ≡ true → IsSome (record_laid (by_front unit.name earlier) one)
+record_stands modules unit earlier one typed = (and_parts _ (is_some (record_laid (by_earlier unit earlier) one)) typed).1
 
 item_laid : (modules : List ModuleTree) (unit : ModuleTree) (earlier : List ItemTree) (item : ItemTree) → item_typed modules unit earlier item ≡ true →
     AreLaid unit.name earlier → AreLaid unit.name (item ∷ earlier)
 item_laid modules unit earlier (RecordItem one) typed are =
-    let parts = and_parts _ (is_some (record_laid (by_earlier unit earlier) one)) typed in
-    (parts.1, are)
+    (record_stands modules unit earlier one typed, are)
 item_laid modules unit earlier (StaticItem object) typed are = are
 item_laid modules unit earlier (ExternItem outers) typed are = are
 item_laid modules unit earlier (FunctionItem fun) typed are = are
@@ -63,7 +66,7 @@ items_laid modules unit (item ∷ items) earlier number none are =
     let typed = and_parts (names_differ earlier item) (item_typed modules unit earlier item) parts.0 in
     items_laid modules unit items (item ∷ earlier) (number + 1) parts.1 (item_laid modules unit earlier item typed.1 are)
 
-placed_none : (number : ℕ) (item : Option ℕ) (rest : Option ItemPlace) → is_none (placed_in number item rest) ≡ true → (item ≡ None) × (is_none rest ≡ true)
+pub placed_none : (number : ℕ) (item : Option ℕ) (rest : Option ItemPlace) → is_none (placed_in number item rest) ≡ true → (item ≡ None) × (is_none rest ≡ true)
 placed_none number None rest none = (refl, none)
 placed_none number (Some item) rest none = absurd cc
 
@@ -143,3 +146,12 @@ stands_laid whole typed (Pointer target) stands = refl
 stands_laid whole typed (Array element size) stands = (and_parts _ (is_some (laid_of whole.modules (Array element size))) stands).1
 stands_laid whole typed (Code params result) stands = refl
 stands_laid whole typed (Record m x) stands = path_laid whole typed m x stands
+
+both_ways : {A : Type 0} (found : Option A) → IsSome found → is_some found ≡ false → ⊥
+both_ways None some none = cc
+both_ways (Some one) some none = cc
+
+-- a type that has no layout is `c_void`
+pub type_in_none : (whole : CrateTree) → well_typed whole ≡ true → (ty : Ty) → is_type_in whole.modules ty ≡ true → is_some (laid_of whole.modules ty) ≡ false → ty ≡ Void
+type_in_none whole typed Void stands none = refl
+type_in_none whole typed ty stands none = absurd (both_ways (laid_of whole.modules ty) (stands_laid whole typed ty stands) none)

@@ -3,3 +3,4 @@ pub mod Layouts
 pub mod Found
 pub mod LayoutsAligned
 pub mod LayoutsTyped
+pub mod LayoutsFields

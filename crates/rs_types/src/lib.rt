@@ -7,3 +7,5 @@ mod layout;
 mod lookup;
 mod operands;
 mod same;
+
+pub use layout::{field_at, repr_c};
