@@ -1,6 +1,8 @@
 pub mod Common
-pub mod Layouts
 pub mod Found
+pub mod Layouts
 pub mod LayoutsAligned
-pub mod LayoutsTyped
 pub mod LayoutsFields
+pub mod LayoutsTyped
+pub mod Locals
+pub mod Types

@@ -2,10 +2,15 @@
 //! "Type system" and "Type layout").
 #![tactic(auto)]
 
+mod exprs;
+mod forms;
 mod kind;
 mod layout;
 mod lookup;
 mod operands;
 mod same;
+mod scope;
+mod signature;
+mod stands;
 
 pub use layout::{field_at, repr_c};

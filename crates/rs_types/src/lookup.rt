@@ -66,7 +66,7 @@ pub(crate) fn record_at<'t>(modules: &'t [Module], path: &RPath) -> Option<&'t R
 
 // ---- locals
 
-fn local_named<'t>(locals: &'t [Local], name: &Name) -> Option<&'t RTy>
+pub(crate) fn local_named<'t>(locals: &'t [Local], name: &Name) -> Option<&'t RTy>
     ensures { option_map ty_view (option_copied result) ≡ named.local_type name.now (map local_view locals.now) }
 {
     for local in locals {

@@ -193,7 +193,7 @@ pub(crate) fn binary_kind<'t>(
 
 // ---- conversions and arguments
 
-fn casts(from: HeldKind<'_>, ty: &RTy) -> bool
+pub(crate) fn casts(from: HeldKind<'_>, ty: &RTy) -> bool
     ensures { result ≡ casts_from (kind_view from.entry) (ty_view ty.now) }
 {
     match ty {
