@@ -74,19 +74,19 @@ record_kept layout other one kept some =
 
 -- ---- names that differ
 
-not_both : (b : Bool) → b ≡ true → not b ≡ true → ⊥
+pub not_both : (b : Bool) → b ≡ true → not b ≡ true → ⊥
 not_both true is other = cc
 not_both false is other = cc
 
-or_first : (a b : Bool) → a ≡ true → (a || b) ≡ true
+pub or_first : (a b : Bool) → a ≡ true → (a || b) ≡ true
 or_first true b is = refl
 or_first false b is = absurd cc
 
-or_second : (a b : Bool) → b ≡ true → (a || b) ≡ true
+pub or_second : (a b : Bool) → b ≡ true → (a || b) ≡ true
 or_second true b is = refl
 or_second false b is = is
 
-or_false : (a : Bool) → a ≡ true → (a || false) ≡ true
+pub or_false : (a : Bool) → a ≡ true → (a || false) ≡ true
 or_false true is = refl
 or_false false is = is
 
@@ -98,7 +98,7 @@ named_by : (home x : List ℕ) (one : RecordTree) (earlier : List ItemTree) (lai
 named_by home x one earlier laid true others is = refl
 named_by home x one earlier laid false others is = others is
 
-any_append : (x : List ℕ) (names others : List (List ℕ)) → is_among others x ≡ true → is_among (names ++ others) x ≡ true
+pub any_append : (x : List ℕ) (names others : List (List ℕ)) → is_among others x ≡ true → is_among (names ++ others) x ≡ true
 any_append x [] others is = is
 any_append x (name ∷ names) others is = or_second (bytes_eq name x) (is_among (names ++ others) x) (any_append x names others is)
 
@@ -180,7 +180,7 @@ module _ (modules : List ModuleTree) (unit : ModuleTree) (own : items_in modules
 
 -- ---- the module of a number
 
-itself : (x : List ℕ) → bytes_eq x x ≡ true
+pub itself : (x : List ℕ) → bytes_eq x x ≡ true
 itself x = (bytes_decides x x).1 refl
 
 list_has : (x : List ℕ) (modules : List ModuleTree) (i : ℕ) (unit : ModuleTree) → slice_get modules i ≡ Some unit → bytes_eq unit.name x ≡ true →
@@ -205,7 +205,7 @@ differs first unit others i true same differ is =
     let back : bytes_eq unit.name first.name ≡ true = subst (λ x. bytes_eq unit.name x ≡ true) (sym name) (itself unit.name) in
     absurd (not_both (list_any (λ other. bytes_eq other first.name) (map (λ unit. unit.name) others)) (list_has first.name others i unit is back) differ)
 
-own_items : (modules : List ModuleTree) (i : ℕ) (unit : ModuleTree) → all_differ (map (λ unit. unit.name) modules) ≡ true → slice_get modules i ≡ Some unit →
+pub own_items : (modules : List ModuleTree) (i : ℕ) (unit : ModuleTree) → all_differ (map (λ unit. unit.name) modules) ≡ true → slice_get modules i ≡ Some unit →
     items_in modules unit.name ≡ unit.items
 own_items [] i unit differ is = absurd cc
 own_items (first ∷ others) zero unit differ is =
@@ -214,7 +214,7 @@ own_items (first ∷ others) (suc i) unit differ is =
     let parts = and_parts (not (list_any (λ other. bytes_eq other first.name) (map (λ (unit : ModuleTree). unit.name) others))) (all_differ (map (λ (unit : ModuleTree). unit.name) others)) differ in
     passed first unit others (differs first unit others i (bytes_eq first.name unit.name) refl parts.0 is) ∙ own_items others i unit parts.1 is
 
-none_at : (all modules : List ModuleTree) (number i : ℕ) (unit : ModuleTree) → is_none (first_ill_from all number modules) ≡ true →
+pub none_at : (all modules : List ModuleTree) (number i : ℕ) (unit : ModuleTree) → is_none (first_ill_from all number modules) ≡ true →
     slice_get modules i ≡ Some unit → first_ill_item all unit [] 0 unit.items ≡ None
 none_at all [] number i unit none is = absurd cc
 none_at all (first ∷ others) number zero unit none is =
@@ -224,7 +224,7 @@ none_at all (first ∷ others) number zero unit none is =
 none_at all (first ∷ others) number (suc i) unit none is =
     none_at all others (number + 1) i unit (placed_none number (first_ill_item all first [] 0 first.items) (first_ill_from all (number + 1) others) none).1 is
 
-names_of : (whole : CrateTree) → valid_crate whole ≡ true → all_differ (map (λ unit. unit.name) whole.modules) ≡ true
+pub names_of : (whole : CrateTree) → valid_crate whole ≡ true → all_differ (map (λ unit. unit.name) whole.modules) ≡ true
 names_of whole valid =
     let first = and_parts _ _ valid in
     let names = and_parts (valid_names (map (λ (unit : ModuleTree). unit.name) whole.modules)) _ first.0 in

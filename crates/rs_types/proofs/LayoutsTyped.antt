@@ -1,13 +1,14 @@
 -- In a crate that is well typed each record is laid out.
-use Rattle.std.proofs.Common.{◌≡◌, refl, sym, ap, ◌∙◌, subst, ℕ, ◌+◌, Bool, true, false, ◌&&◌, not, List, [], ◌∷◌, ◌++◌, append_assoc, reverse, Option, Some, None, is_none, is_some, IsSome, bytes_eq, if◌then◌else◌}
+use Rattle.std.proofs.Common.{◌≡◌, refl, sym, ap, ◌∙◌, subst, ℕ, ◌+◌, Bool, true, false, ◌&&◌, not, List, [], ◌∷◌, ◌++◌, append_assoc, map, reverse, Option, Some, None, is_none, is_some, IsSome, bytes_eq, if◌then◌else◌}
 use Rattle.std.specs.Cmp.Lexicographic.{same_text}
 use Rattle.std.proofs.lemmas.Bool.{and_parts}
 use Rattle.std.proofs.lemmas.List.{reverse-append}
 use Rattle.cr_base.specs.declared.layout.Laid.{Laid}
 use Rattle.rs_tree.specs.Tree.{Ty, Integer, Boolean, Void, Pointer, Array, Code, Record, RecordTree, ItemTree, RecordItem, StaticItem, ExternItem, FunctionItem, ModuleTree, CrateTree}
+use Rattle.rs_tree.specs.Valid.{all_differ}
 use Rattle.rs_mean.specs.Lookups.{items_in, record_among, record_at}
 use Rattle.rs_mean.specs.Layout.{laid_with, laid_among, laid_at, laid_of, record_laid}
-use Rattle.rs_mean.specs.Typing.{by_earlier, names_differ, item_typed, record_typed, first_ill_item, ItemPlace, placed_in, first_ill_from, well_typed, type_stands}
+use Rattle.rs_mean.specs.Typing.{by_earlier, has_fields, names_differ, item_typed, record_typed, first_ill_item, ItemPlace, placed_in, first_ill_from, well_typed, type_stands}
 use Rattle.rs_types.specs.Layouts.{record_named, FoundRecord, first_found, found_among, by_front, is_type_in}
 
 -- ---- items in front of others
@@ -48,6 +49,13 @@ ill_by false rest number none = absurd cc
 pub record_stands : (modules : List ModuleTree) (unit : ModuleTree) (earlier : List ItemTree) (one : RecordTree) →
     item_typed modules unit earlier (RecordItem one) ≡ true → IsSome (record_laid (by_front unit.name earlier) one)
 record_stands modules unit earlier one typed = (and_parts _ (is_some (record_laid (by_earlier unit earlier) one)) typed).1
+
+pub fields_differ : (modules : List ModuleTree) (unit : ModuleTree) (earlier : List ItemTree) (one : RecordTree) →
+    item_typed modules unit earlier (RecordItem one) ≡ true → all_differ (map (λ field. field.name) one.fields) ≡ true
+fields_differ modules unit earlier one typed =
+    let first = and_parts _ (is_some (record_laid (by_earlier unit earlier) one)) typed in
+    let second = and_parts _ _ first.0 in
+    (and_parts (has_fields one.fields) (all_differ (map (λ field. field.name) one.fields)) second.0).1
 
 item_laid : (modules : List ModuleTree) (unit : ModuleTree) (earlier : List ItemTree) (item : ItemTree) → item_typed modules unit earlier item ≡ true →
     AreLaid unit.name earlier → AreLaid unit.name (item ∷ earlier)

@@ -3,6 +3,7 @@ pub mod Found
 pub mod Layouts
 pub mod LayoutsAligned
 pub mod LayoutsFields
+pub mod LayoutsNames
 pub mod LayoutsTyped
 pub mod Locals
 pub mod Types

@@ -12,7 +12,7 @@ use Rattle.rs_tree.specs.Views.{item_view, record_view, ty_view}
 use Rattle.rs_types.specs.declared.layout.FieldHome.{FieldHome}
 use Rattle.rs_types.specs.declared.layout.Found.{Found}
 use Rattle.rs_mean.specs.Lookups.{items_in}
-use Rattle.rs_mean.specs.Layout.{FieldPlace, laid_with, laid_among, laid_of, front_after, repeated, within_most, piece_of, raised_by}
+use Rattle.rs_mean.specs.Layout.{FieldPlace, laid_with, laid_among, laid_of, field_at, front_after, repeated, within_most, piece_of, raised_by}
 
 -- ---- types
 
@@ -139,6 +139,14 @@ byte_in layout f one =
 -- where the field with a number of the record that is an item of a crate begins, in bytes
 abbrev pub field_byte : List ModuleTree → ℕ → ℕ → ℕ → Option ℕ
 field_byte modules m i f = option_and_then (byte_in (laid_of modules) f) (record_numbered modules m i)
+
+abbrev pub named_in : List ModuleTree → List ℕ → ℕ → RecordTree → Option ℕ
+named_in modules home f one =
+    option_and_then (λ field. option_map (λ place. place.byte) (field_at modules home one.name field.name)) (slice_get one.fields f)
+
+-- where a run finds that field by its name and those of the record and the module
+abbrev pub named_byte : List ModuleTree → ℕ → ℕ → ℕ → Option ℕ
+named_byte modules m i f = option_and_then (λ unit. option_and_then (named_in modules unit.name f) (record_item (slice_get unit.items i))) (slice_get modules m)
 
 -- the same among fields that aren't too large
 abbrev pub byte_numbered : (Ty → Option Laid) → Front → List FieldTree → ℕ → Option ℕ

@@ -10,7 +10,7 @@ ghost use Rattle.rs_mean.specs.Typing.{well_typed};
 ghost use Rattle.rs_tree.specs.Tree as tree;
 ghost use Rattle.rs_tree.specs.Valid.{valid_crate};
 ghost use Rattle.rs_tree.specs.Views.{crate_view, field_view, item_view, module_view, record_view, ty_view};
-ghost use Rattle.rs_types.specs.Layouts.{record_of, array_laid, plain_laid, record_named, found_view, found_among, by_front, front_behind, fronts, finished, IsFine, IsFineFront, IsAligned, AreAligned, ModulesAreAligned, field_type_among, home_of, home_view, place_among, record_numbered, field_numbered, field_byte, byte_numbered, is_type_in};
+ghost use Rattle.rs_types.specs.Layouts.{record_of, array_laid, plain_laid, record_named, found_view, found_among, by_front, front_behind, fronts, finished, IsFine, IsFineFront, IsAligned, AreAligned, ModulesAreAligned, field_type_among, home_of, home_view, place_among, record_numbered, field_numbered, field_byte, named_byte, byte_numbered, is_type_in};
 
 use crate::lookup::{items_in, record_at};
 use cr_base::{Front, Laid, MOST_BYTES, Name, Piece};
@@ -426,6 +426,7 @@ pub fn field_at(whole: &Crate, unit: u32, item: u32, field: u32) -> Option<u64>
     requires valid { valid_crate (crate_view whole.now) ≡ true }
     requires typed { well_typed (crate_view whole.now) ≡ true }
     ensures byte { result ≡ field_byte (crate_view whole.now).modules unit item field }
+    ensures named { result ≡ named_byte (crate_view whole.now).modules unit item field }
     ensures none { IsNone result ↔ IsNone (field_numbered (crate_view whole.now).modules unit item field) }
 {
     let modules = whole.modules.as_slice();

@@ -8,6 +8,7 @@ use Rattle.rs_tree.specs.Views.{crate_view, field_view, module_view, record_view
 use Rattle.rs_types.specs.Layouts.{ModulesAreAligned, byte_numbered, record_numbered}
 use Rattle.rs_types.proofs.LayoutsAligned.{crate_aligned}
 use Rattle.rs_types.proofs.LayoutsFields.{byte_is, byte_none}
+use Rattle.rs_types.proofs.LayoutsNames.{byte_named}
 use Rattle.rs_types.proofs.layout.field_at.Goals as goal
 
 pub byte_numbered-requires : goal.byte_numbered-requires
@@ -41,3 +42,7 @@ returns-in-Some-clause-none c =
       λ none. sym same ∙ none,
       λ none. same ∙ none,
     )
+
+pub returns-in-Some-clause-named : goal.returns-in-Some-clause-named
+returns-in-Some-clause-named c =
+    returns-in-Some-clause-byte c ∙ byte_named (crate_view c.args.whole.now) c.args.unit c.args.item c.args.field c.requires.valid c.requires.typed
