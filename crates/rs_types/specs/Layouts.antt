@@ -8,11 +8,10 @@ use Rattle.rs_tree.specs.declared.ty.RPath.{RPath}
 use Rattle.rs_tree.specs.Tree.{Ty, Integer, Boolean, Void, Pointer, Array, Code, Record, FieldTree, RecordTree, ItemTree, RecordItem, StaticItem, ExternItem, FunctionItem, ModuleTree}
 use Rattle.rs_tree.specs.Valid.{is_void}
 use Rattle.rs_mean.specs.Typing.{type_stands}
-use Rattle.rs_tree.specs.Views.{item_view, record_view, ty_view}
-use Rattle.rs_types.specs.declared.layout.FieldHome.{FieldHome}
+use Rattle.rs_tree.specs.Views.{item_view, record_view}
 use Rattle.rs_types.specs.declared.layout.Found.{Found}
 use Rattle.rs_mean.specs.Lookups.{items_in}
-use Rattle.rs_mean.specs.Layout.{FieldPlace, laid_with, laid_among, laid_of, field_at, front_after, repeated, within_most, piece_of, raised_by}
+use Rattle.rs_mean.specs.Layout.{laid_with, laid_among, laid_of, field_at, front_after, repeated, within_most, piece_of, raised_by}
 
 -- ---- types
 
@@ -95,20 +94,6 @@ abbrev pub field_type_among : (Ty → Option Laid) → List ℕ → List FieldTr
 field_type_among layout f [] = None
 field_type_among layout f (field ∷ fields) =
     option_and_then (λ one. if bytes_eq field.name f then Some field.ty else field_type_among layout f fields) (layout field.ty)
-
-abbrev pub home_view : FieldHome → FieldPlace
-home_view home = record { ty = ty_view home.ty.now; byte = home.byte }
-
-abbrev pub home_of : Front → Laid → FieldTree → FieldPlace
-home_of front one field = record { ty = field.ty; byte = (spot front (piece_of one)).byte }
-
--- the place of the field of a name among fields that aren't too large
-abbrev pub place_among : (Ty → Option Laid) → List ℕ → Front → List FieldTree → Option FieldPlace
-place_among layout f front [] = None
-place_among layout f front (field ∷ fields) =
-    option_and_then
-    (λ one. if bytes_eq field.name f then Some (home_of front one field) else option_and_then (λ next. place_among layout f next fields) (front_behind front one))
-    (layout field.ty)
 
 -- ---- fields by their numbers
 

@@ -1,16 +1,15 @@
 //! Sizes, alignments and places of fields (the Rust Reference, "Type layout" and "The C representation").
 
-ghost use Rattle.std.specs.Prelude.{◌≡◌, ◌<◌, ◌/◌, true, Some, map, reverse, length, IfSome, IsNone, IsSome, ◌↔◌, option_map};
+ghost use Rattle.std.specs.Prelude.{◌≡◌, ◌<◌, ◌/◌, true, Some, map, reverse, length, IfSome, IsNone, ◌↔◌, option_map};
 ghost use Rattle.std.specs.Option.{option_copied};
-ghost use Rattle.cr_base.specs.Layout.{no_front};
-ghost use Rattle.rs_mean.specs.Layout.{even, within_most, repeated, laid_among, laid_at, laid_of, record_laid, raised_by, field_at};
-ghost use Rattle.rs_mean.specs.Lookups.{record_at};
+ghost use Rattle.cr_base.specs.Layout.{no_front, spot};
+ghost use Rattle.rs_mean.specs.Layout.{even, within_most, repeated, laid_among, laid_at, laid_of, record_laid, raised_by, field_at, piece_of};
 ghost use Rattle.rs_mean.specs.Scalars.{width_of};
 ghost use Rattle.rs_mean.specs.Typing.{well_typed};
 ghost use Rattle.rs_tree.specs.Tree as tree;
 ghost use Rattle.rs_tree.specs.Valid.{valid_crate};
 ghost use Rattle.rs_tree.specs.Views.{crate_view, field_view, item_view, module_view, record_view, ty_view};
-ghost use Rattle.rs_types.specs.Layouts.{record_of, array_laid, plain_laid, record_named, found_view, found_among, by_front, front_behind, fronts, finished, IsFine, IsFineFront, IsAligned, AreAligned, ModulesAreAligned, field_type_among, home_of, home_view, place_among, record_numbered, field_numbered, field_byte, named_byte, byte_numbered, is_type_in};
+ghost use Rattle.rs_types.specs.Layouts.{record_of, array_laid, plain_laid, record_named, found_view, found_among, by_front, front_behind, fronts, finished, IsFine, IsFineFront, IsAligned, AreAligned, ModulesAreAligned, field_type_among, record_numbered, field_numbered, field_byte, named_byte, byte_numbered, is_type_in};
 
 use crate::lookup::{items_in, record_at};
 use cr_base::{Front, Laid, MOST_BYTES, Name, Piece};
@@ -306,67 +305,16 @@ pub(crate) fn field_type_at<'t>(modules: &'t [Module], path: &RPath, name: &Name
 
 // ---- places of fields
 
-/// The type of a field, and the byte at which it begins in its record.
-#[derive(Clone, Copy)]
-pub(crate) struct FieldHome<'t> {
-    pub(crate) ty: &'t RTy,
-    pub(crate) byte: u64,
-}
-
-// The place of the field of a name among fields that aren't too large.
-fn place_among<'t>(
-    modules: &[Module],
-    is_union: bool,
-    fields: &'t [Field],
-    name: &Name,
-) -> Option<FieldHome<'t>>
-    requires { ModulesAreAligned (map module_view modules.now) }
-    ensures { option_map home_view result ≡ place_among (laid_of (map module_view modules.now)) name.now (no_front is_union) (map field_view fields.now) }
-{
-    let mut front = Front::new(is_union);
-    for field in fields {
-        let Some(one) = laid_of(modules, field.ty.get()) else {
-            return None;
-        };
-        if field.name.bytes() == name.bytes() {
-            return Some(home_of(front, one, field));
-        }
-        let Some(next) = front_behind(front, one) else {
-            return None;
-        };
-        front = next;
-    }
-    None
-}
-
-fn home_of(front: Front, one: Laid, field: &Field) -> FieldHome<'_>
+// Where a plain field of this layout begins behind those in front, in bytes.
+fn byte_behind(front: Front, one: Laid) -> u64
     requires { IsFineFront front × IsFine one }
-    ensures { home_view result ≡ home_of front one (field_view field.now) }
+    ensures { result ≡ (spot front (piece_of one)).byte }
 {
     let spot = front.spot(Piece::Plain {
         size: one.size,
         align: one.align,
     });
-    FieldHome {
-        ty: field.ty.get(),
-        byte: spot.byte,
-    }
-}
-
-/// The type and the place of the field of a name in the record that a path names, which isn't too large.
-pub(crate) fn field_home<'t>(
-    modules: &'t [Module],
-    path: &RPath,
-    name: &Name,
-) -> Option<FieldHome<'t>>
-    requires aligned { ModulesAreAligned (map module_view modules.now) }
-    requires laid { IfSome (record_at (map module_view modules.now) path.now.home path.now.name) (λ one. IsSome (record_laid (laid_of (map module_view modules.now)) one)) }
-    ensures { option_map home_view result ≡ field_at (map module_view modules.now) path.now.home path.now.name name.now }
-{
-    match record_at(modules, path) {
-        Some(one) => place_among(modules, one.is_union, one.fields.as_slice(), name),
-        None => None,
-    }
+    spot.byte
 }
 
 // ---- a checked crate
@@ -408,7 +356,7 @@ fn byte_numbered(modules: &[Module], is_union: bool, fields: &[Field], number: u
             return None;
         };
         if left == 0 {
-            return Some(home_of(front, one, field).byte);
+            return Some(byte_behind(front, one));
         }
         let Some(next) = front_behind(front, one) else {
             return None;
