@@ -61,7 +61,7 @@ named_place layout (first ∷ others) zero field front differ is =
 named_place layout (first ∷ others) (suc i) field front differ is =
     let parts = and_parts (not (list_any (λ other. bytes_eq other first.name) (map (λ (field : FieldTree). field.name) others))) (all_differ (map (λ (field : FieldTree). field.name) others)) differ in
     ap (λ found. option_map (λ (place : FieldPlace). place.byte) found)
-        (passed_named layout field.name front first others (differs first field others i (bytes_eq first.name field.name) refl parts.0 is))
+    (passed_named layout field.name front first others (differs first field others i (bytes_eq first.name field.name) refl parts.0 is))
     ∙ named_place layout others i field (behind (layout first.ty) front) parts.1 is
 
 -- ---- records
@@ -110,7 +110,7 @@ named_record modules unit zero (FunctionItem fun ∷ items) earlier number one n
 named_record modules unit (suc i) (RecordItem other ∷ items) earlier number one none is =
     let parts = ill_by (names_differ earlier (RecordItem other) && item_typed modules unit earlier (RecordItem other)) (first_ill_item modules unit (RecordItem other ∷ earlier) (number + 1) items) number none in
     passed_record one.name other items
-        (passed_by modules unit i (RecordItem other) items earlier (number + 1) one (bytes_eq other.name one.name) other refl refl parts.1 is)
+    (passed_by modules unit i (RecordItem other) items earlier (number + 1) one (bytes_eq other.name one.name) other refl refl parts.1 is)
     ∙ named_record modules unit i items (RecordItem other ∷ earlier) (number + 1) one parts.1 is
 named_record modules unit (suc i) (StaticItem object ∷ items) earlier number one none is =
     let parts = ill_by (names_differ earlier (StaticItem object) && item_typed modules unit earlier (StaticItem object)) (first_ill_item modules unit (StaticItem object ∷ earlier) (number + 1) items) number none in

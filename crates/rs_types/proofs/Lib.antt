@@ -2,6 +2,7 @@ pub mod Common
 pub mod Found
 pub mod Layouts
 pub mod LayoutsAligned
+pub mod LayoutsExamples
 pub mod LayoutsFields
 pub mod LayoutsNames
 pub mod LayoutsTyped

@@ -1,4 +1,4 @@
-use Rattle.std.proofs.Common.{◌≡◌, List, map, reverse, ap, sym, subst, ◌∙◌, is_some, true, refl}
+use Rattle.std.proofs.Common.{◌≡◌, List, map, ap, sym, subst, ◌∙◌, is_some}
 use Rattle.rs_mean.specs.Layout.{laid_of}
 use Rattle.rs_tree.specs.declared.item.Module.{Module}
 use Rattle.rs_tree.specs.Views.{crate_view, module_view, ty_view}
