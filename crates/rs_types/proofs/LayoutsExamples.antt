@@ -5,7 +5,8 @@ use Rattle.cr_base.specs.declared.layout.Laid.{Laid}
 use Rattle.rs_tree.specs.declared.ty.IntegerTy.TheVariants.{I8, I32}
 use Rattle.rs_tree.specs.Tree.{Integer, Pointer, Array, Record, RecordTree, RecordItem, ModuleTree}
 use Rattle.rs_mean.specs.Layout.{laid_of, record_laid}
-use Rattle.rs_types.specs.Layouts.{by_front, field_byte, named_byte}
+use Rattle.rs_types.specs.Layouts.{by_front}
+use Rattle.rs_types.specs.LayoutsNumbered.{field_byte, named_byte}
 
 abbrev first : RecordTree
 first = record {

@@ -15,7 +15,8 @@ use Rattle.rs_tree.specs.Tree.{Ty, Integer, Boolean, Void, Pointer, Array, Code,
 use Rattle.rs_mean.specs.Lookups.{items_in}
 use Rattle.rs_mean.specs.Layout.{laid_with, laid_among, laid_at, laid_of, record_laid, repeated, piece_of, behind, front_after}
 use Rattle.rs_mean.specs.Typing.{item_names, names_differ, item_typed, first_ill_item, first_ill_from, well_typed}
-use Rattle.rs_types.specs.Layouts.{by_front, front_behind, fronts, record_item, record_numbered, field_numbered, byte_behind, byte_in, byte_numbered, field_byte}
+use Rattle.rs_types.specs.Layouts.{by_front, front_behind, fronts, byte_numbered}
+use Rattle.rs_types.specs.LayoutsNumbered.{record_item, record_numbered, field_numbered, byte_behind, byte_in, field_byte}
 use Rattle.rs_types.proofs.Layouts.{none_after, record_fits}
 use Rattle.rs_types.proofs.LayoutsTyped.{onto, onto_reverse, ill_by, placed_none, record_stands}
 

@@ -9,7 +9,8 @@ use Rattle.rs_tree.specs.Valid.{all_differ}
 use Rattle.rs_mean.specs.Lookups.{items_in, record_among, record_at}
 use Rattle.rs_mean.specs.Layout.{laid_with, laid_among, laid_at, laid_of, record_laid}
 use Rattle.rs_mean.specs.Typing.{by_earlier, has_fields, names_differ, item_typed, record_typed, first_ill_item, ItemPlace, placed_in, first_ill_from, well_typed, type_stands}
-use Rattle.rs_types.specs.Layouts.{record_named, FoundRecord, first_found, found_among, by_front, is_type_in}
+use Rattle.rs_types.specs.Layouts.{record_named, FoundRecord, first_found, found_among, by_front}
+use Rattle.rs_types.specs.LayoutsNumbered.{is_type_in}
 
 -- ---- items in front of others
 

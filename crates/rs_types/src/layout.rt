@@ -9,7 +9,8 @@ ghost use Rattle.rs_mean.specs.Typing.{well_typed};
 ghost use Rattle.rs_tree.specs.Tree as tree;
 ghost use Rattle.rs_tree.specs.Valid.{valid_crate};
 ghost use Rattle.rs_tree.specs.Views.{crate_view, field_view, item_view, module_view, record_view, ty_view};
-ghost use Rattle.rs_types.specs.Layouts.{record_of, array_laid, plain_laid, record_named, found_view, found_among, by_front, front_behind, fronts, finished, IsFine, IsFineFront, IsAligned, AreAligned, ModulesAreAligned, field_type_among, record_numbered, field_numbered, field_byte, named_byte, byte_numbered, is_type_in};
+ghost use Rattle.rs_types.specs.Layouts.{record_of, array_laid, plain_laid, record_named, found_view, found_among, by_front, front_behind, fronts, finished, IsFine, IsFineFront, IsAligned, AreAligned, ModulesAreAligned, field_type_among, byte_numbered};
+ghost use Rattle.rs_types.specs.LayoutsNumbered.{record_numbered, field_numbered, field_byte, named_byte, is_type_in};
 
 use crate::lookup::{items_in, record_at};
 use cr_base::{Front, Laid, MOST_BYTES, Name, Piece};

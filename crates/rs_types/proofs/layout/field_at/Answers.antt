@@ -5,7 +5,8 @@ use Rattle.rs_tree.specs.declared.item.Field.{Field}
 use Rattle.rs_tree.specs.declared.item.Module.{Module}
 use Rattle.rs_tree.specs.Tree.{RecordTree}
 use Rattle.rs_tree.specs.Views.{crate_view, field_view, module_view, record_view}
-use Rattle.rs_types.specs.Layouts.{ModulesAreAligned, byte_numbered, record_numbered}
+use Rattle.rs_types.specs.Layouts.{ModulesAreAligned, byte_numbered}
+use Rattle.rs_types.specs.LayoutsNumbered.{record_numbered}
 use Rattle.rs_types.proofs.LayoutsAligned.{crate_aligned}
 use Rattle.rs_types.proofs.LayoutsFields.{byte_is, byte_none}
 use Rattle.rs_types.proofs.LayoutsNames.{byte_named}
