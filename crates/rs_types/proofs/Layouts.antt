@@ -10,7 +10,7 @@ use Rattle.cr_base.proofs.Layouts.{stays_too_large}
 use Rattle.rs_tree.specs.declared.ty.RPath.{RPath}
 use Rattle.rs_tree.specs.Tree.{Ty, Integer, Boolean, Void, Pointer, Array, Code, Record, FieldTree, RecordTree, ItemTree, RecordItem, StaticItem, ExternItem, FunctionItem}
 use Rattle.rs_mean.specs.Layout.{laid_with, laid_among, record_laid, repeated, within_most, piece_of, behind, front_after, raised_by, FieldPlace, placed, field_behind, field_of}
-use Rattle.rs_types.specs.Layouts.{record_of, array_laid, plain_laid, record_named, FoundRecord, first_found, found_among, by_front, within_front, front_behind, fronts, finished, field_type_among, home_of, place_among, IsAligned, AreAligned}
+use Rattle.rs_types.specs.Layouts.{record_of, array_laid, plain_laid, record_named, FoundRecord, first_found, found_among, by_front, within_front, front_behind, fronts, finished, field_type_among, IsAligned, AreAligned}
 
 -- ---- types
 
@@ -141,7 +141,7 @@ none_behind : (layout : Ty → Option Laid) (one : Option Laid) (fields : List F
 none_behind layout None fields none = none
 none_behind layout (Some one) fields none = none
 
-none_after : (layout : Ty → Option Laid) (fields : List FieldTree) → front_after layout None fields ≡ None
+pub none_after : (layout : Ty → Option Laid) (fields : List FieldTree) → front_after layout None fields ≡ None
 none_after layout [] = refl
 none_after layout (field ∷ fields) = none_behind layout (layout field.ty) fields (none_after layout fields)
 
@@ -235,7 +235,7 @@ no_place : (layout : Ty → Option Laid) (f : List ℕ) (fields : List FieldTree
 no_place layout f [] = refl
 no_place layout f (field ∷ fields) =
     ap (λ front. type_in (if bytes_eq field.name f then option_and_then (λ taken. placed (layout field.ty) taken field) None else field_behind layout f front fields))
-        (behind_none (layout field.ty))
+    (behind_none (layout field.ty))
     ∙ place_by layout f field fields (bytes_eq field.name f) (no_place layout f fields)
 
 type_by : (layout : Ty → Option Laid) (f : List ℕ) (front : Front) (field : FieldTree) (fields : List FieldTree) (one : Option Laid) (b : Bool) →
@@ -257,39 +257,11 @@ pub field_type_is : (layout : Ty → Option Laid) (f : List ℕ) (one : RecordTr
     field_type_among layout f one.fields ≡ type_in (field_behind layout f (Some (no_front one.is_union)) one.fields)
 field_type_is layout f one = sym (type_among layout f one.fields (no_front one.is_union))
 
--- ---- the place of a field
-
-fits_within : (layout : Ty → Option Laid) (f : List ℕ) (fields : List FieldTree) (next : Front) (b : Bool) →
-    (IsSome (fronts layout next fields) → place_among layout f next fields ≡ field_behind layout f (Some next) fields) →
-    IsSome (option_and_then (λ next. fronts layout next fields) (if b then Some next else None)) →
-    option_and_then (λ next. place_among layout f next fields) (if b then Some next else None) ≡ field_behind layout f (Some next) fields
-fits_within layout f fields next true others some = others some
-fits_within layout f fields next false others some = absurd cc
-
-fits_by : (layout : Ty → Option Laid) (f : List ℕ) (front : Front) (field : FieldTree) (fields : List FieldTree) (one : Option Laid) (b : Bool) →
-    ((next : Front) → IsSome (fronts layout next fields) → place_among layout f next fields ≡ field_behind layout f (Some next) fields) →
-    IsSome (option_and_then (λ one. option_and_then (λ next. fronts layout next fields) (front_behind front one)) one) →
-    option_and_then (λ one. if b then Some (home_of front one field) else option_and_then (λ next. place_among layout f next fields) (front_behind front one)) one
-    ≡ (if b then placed one front field else field_behind layout f (behind one (Some front)) fields)
-fits_by layout f front field fields None b others some = absurd cc
-fits_by layout f front field fields (Some one) true others some = refl
-fits_by layout f front field fields (Some one) false others some =
-    fits_within layout f fields (after front (piece_of one)) (nat_le (after front (piece_of one)).bits (8 * most_bytes))
-    (others (after front (piece_of one))) some
-
-fits_among : (layout : Ty → Option Laid) (f : List ℕ) (fields : List FieldTree) (front : Front) → IsSome (fronts layout front fields) →
-    place_among layout f front fields ≡ field_behind layout f (Some front) fields
-fits_among layout f [] front some = refl
-fits_among layout f (field ∷ fields) front some =
-    fits_by layout f front field fields (layout field.ty) (bytes_eq field.name f) (fits_among layout f fields) some
-
 closed_some : (align : Option ℕ) (front : Option Front) → IsSome (closed align front) → IsSome front
 closed_some align None some = absurd cc
 closed_some align (Some front) some = refl
 
--- the fields of a record that isn't too large have the places that the code finds
-pub place_is : (layout : Ty → Option Laid) (f : List ℕ) (one : RecordTree) → IsSome (record_laid layout one) →
-    place_among layout f (no_front one.is_union) one.fields ≡ field_behind layout f (Some (no_front one.is_union)) one.fields
-place_is layout f one some =
-    fits_among layout f one.fields (no_front one.is_union)
-    (closed_some one.align (fronts layout (no_front one.is_union) one.fields) (subst IsSome (laid_by_fronts layout one) some))
+-- the fields of a record that isn't too large don't take too much
+pub record_fits : (layout : Ty → Option Laid) (one : RecordTree) → IsSome (record_laid layout one) → IsSome (fronts layout (no_front one.is_union) one.fields)
+record_fits layout one some =
+    closed_some one.align (fronts layout (no_front one.is_union) one.fields) (subst IsSome (laid_by_fronts layout one) some)

@@ -1,10 +1,11 @@
 -- No record of a valid crate is aligned to more than 16 bytes.
-use Rattle.std.proofs.Common.{◌≡◌, refl, sym, ap, ◌∙◌, subst, arith, ℕ, ◌≤◌, nat_eq, Bool, true, false, ◌&&◌, ◌||◌, List, [], ◌∷◌, ◌++◌, reverse, reverse-append, Option, Some, None, find, bytes_eq, cond}
+use Rattle.std.proofs.Common.{◌≡◌, refl, sym, ap, ◌∙◌, subst, arith, ℕ, ◌≤◌, nat_eq, Bool, true, false, ◌&&◌, ◌||◌, List, [], ◌∷◌, ◌++◌, reverse, Option, Some, None, find, bytes_eq, cond}
 use Rattle.std.specs.List.{list_all}
+use Rattle.std.proofs.lemmas.List.{reverse-append}
 use Rattle.std.proofs.lemmas.Bool.Decides.{nat_tests}
 use Rattle.rs_tree.specs.Tree.{RecordTree, ItemTree, RecordItem, StaticItem, ExternItem, FunctionItem, ModuleTree, CrateTree}
 use Rattle.rs_tree.specs.Valid.{valid_align, valid_record, valid_item, valid_items, valid_crate}
-use Rattle.rs_mean.specs.Lookups.{items_in, module_named, items_of}
+use Rattle.rs_mean.specs.Lookups.{items_in}
 use Rattle.rs_types.specs.Layouts.{IsAligned, AreAligned, ModulesAreAligned}
 
 both : (a b : Bool) → (a && b) ≡ true → (a ≡ true) × (b ≡ true)
@@ -32,8 +33,9 @@ items_aligned : (items : List ItemTree) → list_all valid_item items ≡ true �
 items_aligned [] all = tt
 items_aligned (RecordItem one ∷ items) all =
     let parts = both (valid_item (RecordItem one)) (list_all valid_item items) all in
-    let first = both (valid_align one.align) _ parts.0 in
-    (align_small one.align first.0, items_aligned items parts.1)
+    let first = both _ _ parts.0 in
+    let align = both (valid_align one.align) _ first.0 in
+    (align_small one.align align.0, items_aligned items parts.1)
 items_aligned (StaticItem object ∷ items) all = items_aligned items (both (valid_item (StaticItem object)) (list_all valid_item items) all).1
 items_aligned (ExternItem outers ∷ items) all = items_aligned items (both (valid_item (ExternItem outers)) (list_all valid_item items) all).1
 items_aligned (FunctionItem fun ∷ items) all = items_aligned items (both (valid_item (FunctionItem fun)) (list_all valid_item items) all).1
@@ -59,20 +61,21 @@ reversed_aligned (FunctionItem fun ∷ items) are = behind_aligned (FunctionItem
 pub earlier_aligned : (items : List ItemTree) → list_all valid_item items ≡ true → AreAligned (reverse items)
 earlier_aligned items all = reversed_aligned items (items_aligned items all)
 
-named_by : (m : List ℕ) (unit : ModuleTree) (b : Bool) (others : Option ModuleTree) → AreAligned (reverse unit.items) →
-    AreAligned (reverse (items_of others)) → AreAligned (reverse (items_of (cond b (Some unit) others)))
-named_by m unit true others is are = is
-named_by m unit false others is are = are
+named_by : (m : List ℕ) (unit : ModuleTree) (modules : List ModuleTree) (b : Bool) → bytes_eq unit.name m ≡ b → AreAligned (reverse unit.items) →
+    AreAligned (reverse (items_in modules m)) → AreAligned (reverse (items_in (unit ∷ modules) m))
+named_by m unit modules true same is are = rw same is
+named_by m unit modules false same is are = rw same are
 
 pub modules_aligned : (modules : List ModuleTree) → list_all (λ unit. valid_items unit.items) modules ≡ true → ModulesAreAligned modules
 modules_aligned [] all m = tt
 modules_aligned (unit ∷ modules) all m =
     let parts = both (valid_items unit.items) (list_all (λ unit. valid_items unit.items) modules) all in
-    let items = both (list_all valid_item unit.items) _ parts.0 in
-    named_by m unit (bytes_eq unit.name m) (module_named m modules) (earlier_aligned unit.items items.0) (modules_aligned modules parts.1 m)
+    let first = both _ _ parts.0 in
+    let items = both (list_all valid_item unit.items) _ first.0 in
+    named_by m unit modules (bytes_eq unit.name m) refl (earlier_aligned unit.items items.0) (modules_aligned modules parts.1 m)
 
 pub crate_aligned : (whole : CrateTree) → valid_crate whole ≡ true → ModulesAreAligned whole.modules
 crate_aligned whole is =
-    let parts = both _ _ is in
-    let modules = both (list_all (λ (unit : ModuleTree). valid_items unit.items) whole.modules) _ parts.1 in
-    modules_aligned whole.modules modules.0
+    let first = both _ _ is in
+    let modules = both _ (list_all (λ (unit : ModuleTree). valid_items unit.items) whole.modules) first.0 in
+    modules_aligned whole.modules modules.1

@@ -3,5 +3,9 @@ pub mod Common
 pub mod Found
 pub mod Layouts
 pub mod LayoutsAligned
+pub mod LayoutsExamples
+pub mod LayoutsFields
+pub mod LayoutsNames
+pub mod LayoutsTyped
 pub mod Locals
 pub mod Types

@@ -1,16 +1,15 @@
 -- Layouts as the code finds them: the record of which the innermost elements of an array are, the record of a name with the items
 -- in front of it, and fields that are laid out as long as they aren't too large.
-use Rattle.std.specs.Prelude.{◌≡◌, ℕ, ◌*◌, ◌≤◌, ◌<◌, nat_le, Bool, true, false, List, [], ◌∷◌, map, reverse, Option, Some, None, IfSome, bytes_eq, if◌then◌else◌, option_and_then, option_map}
-use Rattle.cr_base.specs.Layout.{most_bytes, after, no_front, laid, spot}
+use Rattle.std.specs.Prelude.{ℕ, ◌-◌, ◌*◌, ◌≤◌, ◌<◌, nat_eq, nat_le, List, [], ◌∷◌, map, reverse, Option, Some, None, IfSome, bytes_eq, if◌then◌else◌, option_and_then}
+use Rattle.cr_base.specs.Layout.{most_bytes, after, laid, spot}
 use Rattle.cr_base.specs.declared.layout.Front.{Front}
 use Rattle.cr_base.specs.declared.layout.Laid.{Laid}
 use Rattle.rs_tree.specs.declared.ty.RPath.{RPath}
 use Rattle.rs_tree.specs.Tree.{Ty, Integer, Boolean, Void, Pointer, Array, Code, Record, FieldTree, RecordTree, ItemTree, RecordItem, StaticItem, ExternItem, FunctionItem, ModuleTree}
-use Rattle.rs_tree.specs.Views.{item_view, record_view, ty_view}
-use Rattle.rs_types.specs.declared.layout.FieldHome.{FieldHome}
+use Rattle.rs_tree.specs.Views.{item_view, record_view}
 use Rattle.rs_types.specs.declared.layout.Found.{Found}
 use Rattle.rs_mean.specs.Lookups.{items_in}
-use Rattle.rs_mean.specs.Layout.{FieldPlace, laid_with, laid_among, repeated, within_most, piece_of, raised_by}
+use Rattle.rs_mean.specs.Layout.{laid_with, laid_among, repeated, within_most, piece_of, raised_by}
 
 -- ---- types
 
@@ -94,18 +93,13 @@ field_type_among layout f [] = None
 field_type_among layout f (field ∷ fields) =
     option_and_then (λ one. if bytes_eq field.name f then Some field.ty else field_type_among layout f fields) (layout field.ty)
 
-abbrev pub home_view : FieldHome → FieldPlace
-home_view home = record { ty = ty_view home.ty.now; byte = home.byte }
-
-abbrev pub home_of : Front → Laid → FieldTree → FieldPlace
-home_of front one field = record { ty = field.ty; byte = (spot front (piece_of one)).byte }
-
--- the place of the field of a name among fields that aren't too large
-abbrev pub place_among : (Ty → Option Laid) → List ℕ → Front → List FieldTree → Option FieldPlace
-place_among layout f front [] = None
-place_among layout f front (field ∷ fields) =
+-- where the field with a number begins among fields that aren't too large, in bytes
+abbrev pub byte_numbered : (Ty → Option Laid) → Front → List FieldTree → ℕ → Option ℕ
+byte_numbered layout front [] f = None
+byte_numbered layout front (field ∷ fields) f =
     option_and_then
-    (λ one. if bytes_eq field.name f then Some (home_of front one field) else option_and_then (λ next. place_among layout f next fields) (front_behind front one))
+    (λ one. if nat_eq f 0 then Some (spot front (piece_of one)).byte
+    else option_and_then (λ next. byte_numbered layout next fields (f - 1)) (front_behind front one))
     (layout field.ty)
 
 -- ---- what holds of them

@@ -1,17 +1,20 @@
 //! Sizes, alignments and places of fields (the Rust Reference, "Type layout" and "The C representation").
 
-ghost use Rattle.std.specs.Prelude.{◌≡◌, ◌<◌, ◌/◌, Some, map, reverse, length, IfSome, IsSome, option_map};
+ghost use Rattle.std.specs.Prelude.{◌≡◌, ◌<◌, ◌/◌, true, Some, map, reverse, length, IfSome, IsNone, ◌↔◌, option_map};
 ghost use Rattle.std.specs.Option.{option_copied};
-ghost use Rattle.cr_base.specs.Layout.{no_front};
-ghost use Rattle.rs_mean.specs.Layout.{even, within_most, repeated, laid_among, laid_at, laid_of, record_laid, raised_by, field_at};
-ghost use Rattle.rs_mean.specs.Lookups.{record_at};
+ghost use Rattle.cr_base.specs.Layout.{no_front, spot};
+ghost use Rattle.rs_mean.specs.Layout.{even, within_most, repeated, laid_among, laid_at, laid_of, record_laid, raised_by, field_at, piece_of};
 ghost use Rattle.rs_mean.specs.Scalars.{width_of};
-ghost use Rattle.rs_tree.specs.Views.{field_view, item_view, module_view, record_view, ty_view};
-ghost use Rattle.rs_types.specs.Layouts.{record_of, array_laid, plain_laid, record_named, found_view, found_among, by_front, front_behind, fronts, finished, IsFine, IsFineFront, IsAligned, AreAligned, ModulesAreAligned, field_type_among, home_of, home_view, place_among};
+ghost use Rattle.rs_mean.specs.Typing.{well_typed};
+ghost use Rattle.rs_tree.specs.Tree as tree;
+ghost use Rattle.rs_tree.specs.Valid.{valid_crate};
+ghost use Rattle.rs_tree.specs.Views.{crate_view, field_view, item_view, module_view, record_view, ty_view};
+ghost use Rattle.rs_types.specs.Layouts.{record_of, array_laid, plain_laid, record_named, found_view, found_among, by_front, front_behind, fronts, finished, IsFine, IsFineFront, IsAligned, AreAligned, ModulesAreAligned, field_type_among, byte_numbered};
+ghost use Rattle.rs_types.specs.LayoutsNumbered.{record_numbered, field_numbered, field_byte, named_byte, is_type_in};
 
 use crate::lookup::{items_in, record_at};
 use cr_base::{Front, Laid, MOST_BYTES, Name, Piece};
-use rs_tree::{Field, IntegerTy, Item, Module, RPath, RTy, Record};
+use rs_tree::{Crate, Field, IntegerTy, Item, Module, RPath, RTy, Record};
 
 // A record and the items in front of it.
 #[derive(Clone, Copy)]
@@ -303,61 +306,81 @@ pub(crate) fn field_type_at<'t>(modules: &'t [Module], path: &RPath, name: &Name
 
 // ---- places of fields
 
-/// The type of a field, and the byte at which it begins in its record.
-#[derive(Clone, Copy)]
-pub(crate) struct FieldHome<'t> {
-    pub(crate) ty: &'t RTy,
-    pub(crate) byte: u64,
-}
-
-// The place of the field of a name among fields that aren't too large.
-fn place_among<'t>(
-    modules: &[Module],
-    is_union: bool,
-    fields: &'t [Field],
-    name: &Name,
-) -> Option<FieldHome<'t>>
-    requires { ModulesAreAligned (map module_view modules.now) }
-    ensures { option_map home_view result ≡ place_among (laid_of (map module_view modules.now)) name.now (no_front is_union) (map field_view fields.now) }
-{
-    let mut front = Front::new(is_union);
-    for field in fields {
-        let Some(one) = laid_of(modules, field.ty.get()) else {
-            return None;
-        };
-        if field.name.bytes() == name.bytes() {
-            return Some(home_of(front, one, field));
-        }
-        let Some(next) = front_behind(front, one) else {
-            return None;
-        };
-        front = next;
-    }
-    None
-}
-
-fn home_of(front: Front, one: Laid, field: &Field) -> FieldHome<'_>
+// Where a plain field of this layout begins behind those in front, in bytes.
+fn byte_behind(front: Front, one: Laid) -> u64
     requires { IsFineFront front × IsFine one }
-    ensures { home_view result ≡ home_of front one (field_view field.now) }
+    ensures { result ≡ (spot front (piece_of one)).byte }
 {
     let spot = front.spot(Piece::Plain {
         size: one.size,
         align: one.align,
     });
-    FieldHome {
-        ty: field.ty.get(),
-        byte: spot.byte,
+    spot.byte
+}
+
+// ---- a checked crate
+
+/// The size and the alignment of a type in a crate that is valid and well typed: None exactly for
+/// `core::ffi::c_void`.
+pub fn repr_c(whole: &Crate, ty: &RTy) -> Option<Laid>
+    requires valid { valid_crate (crate_view whole.now) ≡ true }
+    requires typed { well_typed (crate_view whole.now) ≡ true }
+    requires ty { is_type_in (crate_view whole.now).modules (ty_view ty.now) ≡ true }
+    ensures laid { result ≡ laid_of (crate_view whole.now).modules (ty_view ty.now) }
+    ensures none { IsNone result ↔ (ty_view ty.now ≡ tree.Void) }
+{
+    laid_of(whole.modules.as_slice(), ty)
+}
+
+// The record that is the item with a number of the module with a number, from 0.
+fn record_numbered(modules: &[Module], unit: u32, item: u32) -> Option<&Record>
+    ensures { option_map record_view (option_copied result) ≡ record_numbered (map module_view modules.now) unit item }
+{
+    let Some(home) = modules.get(unit as usize) else {
+        return None;
+    };
+    match home.items.get(item as usize) {
+        Some(Item::Record(one)) => Some(one),
+        _ => None,
     }
 }
 
-/// The type and the place of the field of a name in the record that a path names, which isn't too large.
-pub(crate) fn field_home<'t>(modules: &'t [Module], path: &RPath, name: &Name) -> Option<FieldHome<'t>>
-    requires aligned { ModulesAreAligned (map module_view modules.now) }
-    requires laid { IfSome (record_at (map module_view modules.now) path.now.home path.now.name) (λ one. IsSome (record_laid (laid_of (map module_view modules.now)) one)) }
-    ensures { option_map home_view result ≡ field_at (map module_view modules.now) path.now.home path.now.name name.now }
+// Where the field with a number begins among fields that aren't too large.
+fn byte_numbered(modules: &[Module], is_union: bool, fields: &[Field], number: u32) -> Option<u64>
+    requires { ModulesAreAligned (map module_view modules.now) }
+    ensures { result ≡ byte_numbered (laid_of (map module_view modules.now)) (no_front is_union) (map field_view fields.now) number }
 {
-    match record_at(modules, path) {
-        Some(one) => place_among(modules, one.is_union, one.fields.as_slice(), name),
+    let mut front = Front::new(is_union);
+    let mut left = number;
+    for field in fields {
+        let Some(one) = laid_of(modules, field.ty.get()) else {
+            return None;
+        };
+        if left == 0 {
+            return Some(byte_behind(front, one));
+        }
+        let Some(next) = front_behind(front, one) else {
+            return None;
+        };
+        front = next;
+        left -= 1;
+    }
+    None
+}
+
+/// Where the field with a number begins in the record that is the item with a number of the module with
+/// a number, each from 0, in bytes. The crate is valid and well typed; None exactly where there is no
+/// such field.
+pub fn field_at(whole: &Crate, unit: u32, item: u32, field: u32) -> Option<u64>
+    requires valid { valid_crate (crate_view whole.now) ≡ true }
+    requires typed { well_typed (crate_view whole.now) ≡ true }
+    ensures byte { result ≡ field_byte (crate_view whole.now).modules unit item field }
+    ensures named { result ≡ named_byte (crate_view whole.now).modules unit item field }
+    ensures none { IsNone result ↔ IsNone (field_numbered (crate_view whole.now).modules unit item field) }
+{
+    let modules = whole.modules.as_slice();
+    match record_numbered(modules, unit, item) {
+        Some(one) => byte_numbered(modules, one.is_union, one.fields.as_slice(), field),
         None => None,
     }
 }

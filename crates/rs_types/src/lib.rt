@@ -13,3 +13,5 @@ mod scope;
 mod signature;
 mod stands;
 mod stmts;
+
+pub use layout::{field_at, repr_c};

@@ -1,4 +1,4 @@
-use Rattle.std.proofs.Common.{rules, arith, ◌≡◌, refl, sym, ap, ◌∙◌, ◌<◌, Some, List, map, reverse}
+use Rattle.std.proofs.Common.{rules, arith, ap, ◌∙◌, List, map, reverse}
 use Rattle.std.proofs.lemmas.Grind.{common_steps}
 use Rattle.cr_base.specs.Layout.{no_front}
 use Rattle.rs_tree.specs.declared.item.Field.{Field}
