@@ -116,6 +116,7 @@ number_in all front (one ∷ others) m x is = number_by all (is_own m x one) (le
     length_behind : (front : List OwnFunction) (one : OwnFunction) → length front + 1 ≡ length (front ++ one ∷ [])
     length_behind [] one = refl
     length_behind (first ∷ front) one = let rest = length_behind front one in omega (arith, rest)
+
     behind : (front : List OwnFunction) (one : OwnFunction) (rest : List OwnFunction) → (front ++ one ∷ []) ++ rest ≡ front ++ one ∷ rest
     behind [] one rest = refl
     behind (first ∷ front) one rest = ap (λ list. first ∷ list) (behind front one rest)

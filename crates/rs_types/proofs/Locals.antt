@@ -9,7 +9,6 @@ found_by : (test : Bool) (ty : LocalTree) (found : Option LocalTree) (other : Op
 found_by true ty found other rest is = refl
 found_by false ty found other rest is = is
 
-
 pub local_of_two : (x : List ℕ) (params locals : List LocalTree) → local_type x (params ++ locals) ≡ or_else Ty (local_type x params) (local_type x locals)
 local_of_two x [] locals = refl
 local_of_two x (param ∷ params) locals =

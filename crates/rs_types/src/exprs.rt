@@ -18,8 +18,8 @@ use crate::forms::{
 use crate::kind::{HeldKind, kept};
 use crate::lookup::static_type;
 use crate::operands::{
-    binary_kind, both_integers, is_of_type, is_trailing, is_truth, none_kind, null_kind,
-    target_of, truth_where, where_bits, where_integer, where_signed,
+    binary_kind, both_integers, is_of_type, is_trailing, is_truth, none_kind, null_kind, target_of,
+    truth_where, where_bits, where_integer, where_signed,
 };
 use crate::scope::{HeldScope, local_type};
 use crate::signature::{HeldSignature, first_param, given_kind, pointed_types, signature_at};

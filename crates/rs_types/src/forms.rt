@@ -106,7 +106,10 @@ pub(crate) fn cast_kind<'t>(
     ensures { option_map kind_view result ≡ typing.cast_kind (map module_view modules.now) (ty_view ty.now) (own_type (option_map kind_view from.entry)) }
 {
     match from {
-        Some(from) => kept(casts(from, ty) && type_stands(modules, ty), kind_of_type(ty)),
+        Some(from) => kept(
+            casts(from, ty) && type_stands(modules, ty),
+            kind_of_type(ty),
+        ),
         None => None,
     }
 }
@@ -137,7 +140,12 @@ pub(crate) fn transmute_kind<'t>(
     )
 }
 
-fn is_function_of(modules: &[Module], path: &RPath, params: &Items<RTy>, given: &Option<Boxed<RTy>>) -> bool
+fn is_function_of(
+    modules: &[Module],
+    path: &RPath,
+    params: &Items<RTy>,
+    given: &Option<Boxed<RTy>>,
+) -> bool
     ensures { result ≡ typing.is_function_of (tys (map ty_view params.now)) (option_ty (option_map ty_view given.now)) (typing.own_function_at (map module_view modules.now) path.now.home path.now.name) }
 {
     match own_function_at(modules, path) {

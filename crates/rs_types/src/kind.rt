@@ -9,7 +9,9 @@ ghost use Rattle.rs_tree.specs.Tree.{tys, option_ty};
 ghost use Rattle.rs_tree.specs.Views.{ty_view};
 ghost use Rattle.rs_types.specs.Kinds.{kind_view, has_type, is_none_kind, is_of_kind, is_ordered, kept, takes_none};
 
-use crate::same::{is_signed_integer, same_integer, same_path, same_results, same_type, same_types};
+use crate::same::{
+    is_signed_integer, same_integer, same_path, same_results, same_type, same_types,
+};
 use cr_base::{Boxed, Items};
 use rs_tree::{IntegerTy, RPath, RTy};
 

@@ -3,7 +3,6 @@
 ghost use Rattle.std.specs.Prelude.{◌≡◌, map, option_map};
 ghost use Rattle.std.specs.Option.{option_copied};
 ghost use Rattle.rs_mean.specs.Lookups as named;
-
 ghost use Rattle.rs_mean.specs.Typing.{home_type, own_function_at};
 ghost use Rattle.rs_tree.specs.Views.{ty_view, item_view, local_view, module_view, outer_view, function_view, record_view, static_view};
 ghost use Rattle.rs_types.specs.Found.{callee_in, callee_in_items, callee_view, function_among, function_at, function_with_name, outer_named, record_with, static_among, static_at, static_with};
@@ -84,8 +83,7 @@ fn static_with<'t>(home: &Name, item: &'t Item, path: &RPath) -> Option<&'t Stat
 {
     match item {
         Item::Static(object)
-            if home.bytes() == path.home.bytes() && object.name.bytes() == path.name.bytes() =>
-        {
+            if home.bytes() == path.home.bytes() && object.name.bytes() == path.name.bytes() => {
             Some(object)
         }
         _ => None,
@@ -132,8 +130,7 @@ fn function_with_name<'t>(home: &Name, item: &'t Item, path: &RPath) -> Option<&
 {
     match item {
         Item::Function(fun)
-            if home.bytes() == path.home.bytes() && fun.name.bytes() == path.name.bytes() =>
-        {
+            if home.bytes() == path.home.bytes() && fun.name.bytes() == path.name.bytes() => {
             Some(fun)
         }
         _ => None,

@@ -10,7 +10,10 @@ ghost use Rattle.rs_tree.specs.Tree as tree;
 ghost use Rattle.rs_tree.specs.Views.{ty_view};
 ghost use Rattle.rs_types.specs.Kinds.{casts_from, kind_view};
 
-use crate::kind::{HeldKind, common, is_bits, is_integer, is_of, is_of_boolean, is_of_integer, is_ordered, is_scalar, is_signed, kept};
+use crate::kind::{
+    HeldKind, common, is_bits, is_integer, is_of, is_of_boolean, is_of_integer, is_ordered,
+    is_scalar, is_signed, kept,
+};
 use rs_tree::{IntegerTy, Operator, RTy};
 
 /// Whether a value, where there is one, is of a type.
@@ -127,10 +130,7 @@ pub(crate) fn both_integers<'t>(
     }
 }
 
-fn both_bits<'t>(
-    left: Option<HeldKind<'t>>,
-    right: Option<HeldKind<'t>>,
-) -> Option<HeldKind<'t>>
+fn both_bits<'t>(left: Option<HeldKind<'t>>, right: Option<HeldKind<'t>>) -> Option<HeldKind<'t>>
     ensures { option_map kind_view result ≡ of_type (both_are is_bits (option_map kind_view left.entry) (option_map kind_view right.entry)) }
 {
     match common(left, right) {
@@ -144,15 +144,15 @@ fn shifted<'t>(left: Option<HeldKind<'t>>, right: Option<HeldKind<'t>>) -> Optio
     ensures { option_map kind_view result ≡ shift_kind (own_type (option_map kind_view left.entry)) (option_map kind_view right.entry) }
 {
     match left {
-        Some(kind) => kept(is_integer(kind) && is_integer_of(IntegerTy::U32, right), kind),
+        Some(kind) => kept(
+            is_integer(kind) && is_integer_of(IntegerTy::U32, right),
+            kind,
+        ),
         None => None,
     }
 }
 
-fn equality<'t>(
-    left: Option<HeldKind<'t>>,
-    right: Option<HeldKind<'t>>,
-) -> Option<HeldKind<'t>>
+fn equality<'t>(left: Option<HeldKind<'t>>, right: Option<HeldKind<'t>>) -> Option<HeldKind<'t>>
     ensures { option_map kind_view result ≡ binary_kind Equal (option_map kind_view left.entry) (option_map kind_view right.entry) }
 {
     match common(left, right) {

@@ -50,7 +50,9 @@ pub(crate) fn has_label(labels: &Labels<'_>, name: &Name) -> bool
     match labels {
         Labels::Outermost => false,
         Labels::Within {
-            name: one, outer, ..
+            name: one,
+            outer,
+            ..
         } => one.bytes() == name.bytes() || has_label(outer, name),
     }
 }

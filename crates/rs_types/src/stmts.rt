@@ -199,7 +199,10 @@ fn arms_typed(scope: HeldScope<'_>, kind: Option<HeldKind<'_>>, cases: &Items<Ar
             Some((_, others)) => others,
             None => &[],
         };
-        if !(matches_kind(kind, arm) && differs_from(arm.value, left) && stmts_typed(scope, &arm.body)) {
+        if !(matches_kind(kind, arm)
+            && differs_from(arm.value, left)
+            && stmts_typed(scope, &arm.body))
+        {
             return false;
         }
     }
