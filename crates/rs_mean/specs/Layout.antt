@@ -10,7 +10,7 @@ use Rattle.rs_mean.specs.Lookups.{items_in, record_at}
 use Rattle.rs_mean.specs.Scalars.{width_of}
 
 -- a size that is its alignment, too
-abbrev even : ℕ → Laid
+abbrev pub even : ℕ → Laid
 even bytes = record { size = bytes; align = bytes }
 
 -- what isn't larger than an object of the profile
@@ -18,7 +18,7 @@ abbrev pub within_most : Laid → Option Laid
 within_most one = if nat_le one.size most_bytes then Some one else None
 
 -- so many values side by side, at least one
-abbrev repeated : ℕ → Laid → Option Laid
+abbrev pub repeated : ℕ → Laid → Option Laid
 repeated count one =
     if nat_le 1 count then within_most (record { size = count * one.size; align = one.align }) else None
 
@@ -34,10 +34,10 @@ laid_with records (Record m x) = records m x
 
 -- ---- records
 
-abbrev piece_of : Laid → Piece
+abbrev pub piece_of : Laid → Piece
 piece_of one = Plain one.size one.align
 
-abbrev behind : Option Laid → Option Front → Option Front
+abbrev pub behind : Option Laid → Option Front → Option Front
 behind None front = None
 behind (Some one) front = option_map (λ taken. after taken (piece_of one)) front
 
@@ -46,7 +46,7 @@ abbrev pub front_after : (Ty → Option Laid) → Option Front → List FieldTre
 front_after layout front [] = front
 front_after layout front (field ∷ fields) = front_after layout (behind (layout field.ty) front) fields
 
-abbrev raised_by : Option ℕ → Front → Front
+abbrev pub raised_by : Option ℕ → Front → Front
 raised_by None front = front
 raised_by (Some align) front = raised align front
 
@@ -83,7 +83,7 @@ pub record FieldPlace : Type 0 where
   pub ty : Ty
   pub byte : ℕ
 
-abbrev placed : Option Laid → Front → FieldTree → Option FieldPlace
+abbrev pub placed : Option Laid → Front → FieldTree → Option FieldPlace
 placed None front field = None
 placed (Some one) front field = Some (record { ty = field.ty; byte = (spot front (piece_of one)).byte })
 
@@ -95,7 +95,7 @@ field_behind layout f front (field ∷ fields) =
     then option_and_then (λ taken. placed (layout field.ty) taken field) front
     else field_behind layout f (behind (layout field.ty) front) fields
 
-abbrev field_of : List ModuleTree → List ℕ → Option RecordTree → Option FieldPlace
+abbrev pub field_of : List ModuleTree → List ℕ → Option RecordTree → Option FieldPlace
 field_of modules f None = None
 field_of modules f (Some one) = field_behind (laid_of modules) f (Some (no_front one.is_union)) one.fields
 

@@ -69,7 +69,7 @@ pub record OwnFunction : Type 0 where
   pub home : List ℕ
   pub fun : FunctionTree
 
-abbrev own_functions_in : List ℕ → ItemTree → List OwnFunction
+abbrev pub own_functions_in : List ℕ → ItemTree → List OwnFunction
 own_functions_in m (RecordItem one) = []
 own_functions_in m (StaticItem object) = []
 own_functions_in m (ExternItem outers) = []
@@ -79,7 +79,7 @@ own_functions_in m (FunctionItem fun) = record { home = m; fun = fun } ∷ []
 abbrev pub functions_of : List ModuleTree → List OwnFunction
 functions_of modules = flat_map (λ unit. flat_map (own_functions_in unit.name) unit.items) modules
 
-abbrev is_own : List ℕ → List ℕ → OwnFunction → Bool
+abbrev pub is_own : List ℕ → List ℕ → OwnFunction → Bool
 is_own m x one = bytes_eq one.home m && bytes_eq one.fun.name x
 
 -- the number of the first function that a path names, counted from a number on
@@ -123,7 +123,7 @@ pub record OwnStatic : Type 0 where
   pub home : List ℕ
   pub object : StaticTree
 
-abbrev statics_in : List ℕ → ItemTree → List OwnStatic
+abbrev pub statics_in : List ℕ → ItemTree → List OwnStatic
 statics_in m (RecordItem one) = []
 statics_in m (StaticItem object) = record { home = m; object = object } ∷ []
 statics_in m (ExternItem outers) = []

@@ -18,10 +18,10 @@ use Rattle.rs_mean.specs.Scalars.{is_scalar, is_integer, is_boolean, is_signed_i
 
 -- ---- types
 
-abbrev usize_type : Ty
+abbrev pub usize_type : Ty
 usize_type = Integer Usize
 
-abbrev isize_type : Ty
+abbrev pub isize_type : Ty
 isize_type = Integer Isize
 
 -- the length of an array
@@ -79,7 +79,7 @@ pub data Kind : Type 0 where
   of : Ty → Kind
   of_none : Kind
 
-abbrev is_code : Ty → Bool
+abbrev pub is_code : Ty → Bool
 is_code (Code params result) = true
 is_code _ = false
 
@@ -98,7 +98,7 @@ own_type None = None
 own_type (Some of_none) = None
 own_type (Some (of ty)) = Some ty
 
-abbrev only_if : Bool → Ty → Option Kind
+abbrev pub only_if : Bool → Ty → Option Kind
 only_if true ty = Some (of ty)
 only_if false ty = None
 
@@ -113,30 +113,30 @@ common (Some kind) None = None
 
 -- ---- operators
 
-abbrev is_signed : Ty → Bool
+abbrev pub is_signed : Ty → Bool
 is_signed (Integer ty) = is_signed_integer ty
 is_signed _ = false
 
-abbrev is_bits : Ty → Bool
+abbrev pub is_bits : Ty → Bool
 is_bits ty = is_integer ty || is_boolean ty
 
-abbrev is_pointer : Ty → Bool
+abbrev pub is_pointer : Ty → Bool
 is_pointer (Pointer target) = true
 is_pointer _ = false
 
 -- one type of both operands, which meets a test
-abbrev both_are : (Ty → Bool) → Option Kind → Option Kind → Option Ty
+abbrev pub both_are : (Ty → Bool) → Option Kind → Option Kind → Option Ty
 both_are test left right = option_and_then (λ ty. if test ty then Some ty else None) (own_type (common left right))
 
-abbrev of_type : Option Ty → Option Kind
+abbrev pub of_type : Option Ty → Option Kind
 of_type None = None
 of_type (Some ty) = Some (of ty)
 
-abbrev as_truth : Bool → Option Kind
+abbrev pub as_truth : Bool → Option Kind
 as_truth test = only_if test Boolean
 
 -- a shift: an integer by a `u32`
-abbrev shift_kind : Option Ty → Option Kind → Option Kind
+abbrev pub shift_kind : Option Ty → Option Kind → Option Kind
 shift_kind None right = None
 shift_kind (Some ty) right = only_if (is_integer ty && is_of_type (Integer U32) right) ty
 
@@ -160,51 +160,51 @@ binary_kind Greater left right = as_truth (is_some (both_are (λ ty. is_integer 
 binary_kind GreaterEqual left right = as_truth (is_some (both_are (λ ty. is_integer ty || is_pointer ty) left right))
 
 -- an operand of one type that meets a test
-abbrev where_is : (Ty → Bool) → Option Ty → Option Kind
+abbrev pub where_is : (Ty → Bool) → Option Ty → Option Kind
 where_is test None = None
 where_is test (Some ty) = only_if (test ty) ty
 
 -- `as` goes from an integer or `bool` to an integer, and from one raw pointer to another
-abbrev casts : Ty → Ty → Bool
+abbrev pub casts : Ty → Ty → Bool
 casts (Integer from) (Integer ty) = true
 casts Boolean (Integer ty) = true
 casts (Pointer from) (Pointer target) = true
 casts from ty = false
 
-abbrev cast_kind : List ModuleTree → Ty → Option Ty → Option Kind
+abbrev pub cast_kind : List ModuleTree → Ty → Option Ty → Option Kind
 cast_kind modules ty None = None
 cast_kind modules ty (Some from) = only_if (casts from ty && type_stands modules ty) ty
 
 -- `offset` takes an `isize`
-abbrev offset_kind : List ModuleTree → Option Ty → Option Kind → Option Kind
+abbrev pub offset_kind : List ModuleTree → Option Ty → Option Kind → Option Kind
 offset_kind modules (Some (Pointer target)) count = only_if (is_target modules target && is_of_type isize_type count) (Pointer target)
 offset_kind modules _ count = None
 
 -- `offset_from` takes the same pointer type, and gives an `isize`
-abbrev apart_kind : List ModuleTree → Option Ty → Option Kind → Option Kind
+abbrev pub apart_kind : List ModuleTree → Option Ty → Option Kind → Option Kind
 apart_kind modules (Some (Pointer target)) other = only_if (is_target modules target && is_of_type (Pointer target) other) isize_type
 apart_kind modules _ other = None
 
-abbrev null_kind : Option Ty → Option Kind
+abbrev pub null_kind : Option Ty → Option Kind
 null_kind (Some (Pointer target)) = Some (of Boolean)
 null_kind _ = None
 
-abbrev none_kind : Option Ty → Option Kind
+abbrev pub none_kind : Option Ty → Option Kind
 none_kind (Some (Code params result)) = Some (of Boolean)
 none_kind _ = None
 
 -- ---- places
 
 -- the type of the field of a record
-abbrev field_type : List ModuleTree → List ℕ → Option Ty → Option Ty
+abbrev pub field_type : List ModuleTree → List ℕ → Option Ty → Option Ty
 field_type modules f (Some (Record m x)) = option_map (λ field. field.ty) (field_at modules m x f)
 field_type modules f _ = None
 
-abbrev home_type : Option Home → Option Ty
+abbrev pub home_type : Option Home → Option Ty
 home_type None = None
 home_type (Some home) = Some home.ty
 
-abbrev target_type : Option Ty → Option Ty
+abbrev pub target_type : Option Ty → Option Ty
 target_type (Some (Pointer target)) = Some target
 target_type _ = None
 
@@ -219,33 +219,33 @@ is_trailing (Some ty) = list_any (same_type ty)
 abbrev pub signature_at : List ModuleTree → List ℕ → List ℕ → Option Signature
 signature_at modules m x = option_map signature_of (callee_at modules m x)
 
-abbrev listed : Tys → List Ty
+abbrev pub listed : Tys → List Ty
 listed no_tys = []
 listed (more_tys ty others) = ty ∷ listed others
 
 -- the function with a body that a path names has just these types
-abbrev is_function_of : Tys → OptionTy → Option FunctionTree → Bool
+abbrev pub is_function_of : Tys → OptionTy → Option FunctionTree → Bool
 is_function_of params result None = false
 is_function_of params result (Some fun) =
     same_types params (tys (own_signature fun).params) && same_results result (option_ty (own_signature fun).result)
 
-abbrev own_function_at : List ModuleTree → List ℕ → List ℕ → Option FunctionTree
+abbrev pub own_function_at : List ModuleTree → List ℕ → List ℕ → Option FunctionTree
 own_function_at modules m x = option_and_then (function_with modules) (function_number modules m x)
 
-abbrev pointed_result : OptionTy → Option Ty
+abbrev pub pointed_result : OptionTy → Option Ty
 pointed_result no_ty = None
 pointed_result (some_ty ty) = Some ty
 
 -- the types of a function that a pointer of a type is to
-abbrev pointed_types : Option Ty → Option Signature
+abbrev pub pointed_types : Option Ty → Option Signature
 pointed_types (Some (Code params result)) = Some (record { params = listed params; variadic = false; result = pointed_result result })
 pointed_types _ = None
 
-abbrev given_kind : OptionTy → Option Kind
+abbrev pub given_kind : OptionTy → Option Kind
 given_kind no_ty = None
 given_kind (some_ty ty) = Some (of ty)
 
-abbrev chosen_kind : Bool → Option Kind → Option Kind
+abbrev pub chosen_kind : Bool → Option Kind → Option Kind
 chosen_kind true kind = kind
 chosen_kind false kind = None
 
@@ -311,45 +311,45 @@ drops_call scope (CallBy e args) =
     (pointed_types (own_type (kind_of scope e))))
 drops_call scope _ = false
 
-abbrev is_scalar_of : Option Ty → Option Kind → Bool
+abbrev pub is_scalar_of : Option Ty → Option Kind → Bool
 is_scalar_of None value = false
 is_scalar_of (Some ty) value = is_scalar ty && is_of_type ty value
 
 -- what a `return` gives is of the function's result type
-abbrev gives_type : Scope → Option Ty → Option Expr → Bool
+abbrev pub gives_type : Scope → Option Ty → Option Expr → Bool
 gives_type scope None None = true
 gives_type scope (Some ty) (Some value) = is_of_type ty (kind_of scope value)
 gives_type scope None (Some value) = false
 gives_type scope (Some ty) None = false
 
-abbrev has_label : (LabelScope → Bool) → List ℕ → Scope → Bool
+abbrev pub has_label : (LabelScope → Bool) → List ℕ → Scope → Bool
 has_label test name scope = list_any (λ label. bytes_eq label.name name && test label) scope.labels
 
-abbrev with_label : List ℕ → Bool → Scope → Scope
+abbrev pub with_label : List ℕ → Bool → Scope → Scope
 with_label name is_loop scope = record scope { labels = record { name = name; is_loop = is_loop } ∷ scope.labels }
 
 -- nested labels differ
-abbrev is_new_label : Scope → List ℕ → Bool
+abbrev pub is_new_label : Scope → List ℕ → Bool
 is_new_label scope name = not (has_label (λ label. true) name scope)
 
-abbrev in_loop : Option (List ℕ) → Scope → Scope
+abbrev pub in_loop : Option (List ℕ) → Scope → Scope
 in_loop None scope = scope
 in_loop (Some name) scope = with_label name true scope
 
-abbrev is_new_loop : Scope → Option (List ℕ) → Bool
+abbrev pub is_new_loop : Scope → Option (List ℕ) → Bool
 is_new_loop scope None = true
 is_new_loop scope (Some name) = is_new_label scope name
 
 -- arms have different literals, each of the matched integer type
-abbrev arm_differs : ℤ → Arms → Bool
+abbrev pub arm_differs : ℤ → Arms → Bool
 arm_differs value no_arms = true
 arm_differs value (more_arms (LiteralArm other ty body) others) = not (int_eq value other) && arm_differs value others
 
-abbrev matches : Option Ty → ℤ → IntegerTy → Bool
+abbrev pub matches : Option Ty → ℤ → IntegerTy → Bool
 matches (Some (Integer matched)) value ty = same_integer matched ty && fits_integer ty value
 matches _ value ty = false
 
-abbrev is_matched : Option Ty → Bool
+abbrev pub is_matched : Option Ty → Bool
 is_matched None = false
 is_matched (Some ty) = is_integer ty
 
@@ -379,11 +379,11 @@ abbrev mutual
   arms_typed scope matched (more_arms (LiteralArm value ty body) others) =
       matches matched value ty && arm_differs value others && stmts_typed scope body && arms_typed scope matched others
 
-abbrev gives_value : Stmt → Bool
+abbrev pub gives_value : Stmt → Bool
 gives_value (Return (Some value)) = true
 gives_value _ = false
 
-abbrev ends_with_value : Stmts → Bool
+abbrev pub ends_with_value : Stmts → Bool
 ends_with_value no_stmts = false
 ends_with_value (more_stmts s no_stmts) = gives_value s
 ends_with_value (more_stmts s (more_stmts other others)) = ends_with_value (more_stmts other others)
@@ -396,40 +396,40 @@ body_ends (Some ty) body = ends_with_value body
 -- ---- external functions
 
 -- the types of a known function, where all raw pointers count as one
-abbrev is_known_type : KnownType → Ty → Bool
+abbrev pub is_known_type : KnownType → Ty → Bool
 is_known_type int_value ty = same_type ty (Integer I32)
 is_known_type size_value ty = same_type ty (Integer U64)
 is_known_type to_bytes ty = is_pointer ty
 is_known_type to_const_bytes ty = is_pointer ty
 is_known_type no_value ty = false
 
-abbrev is_known_result : KnownType → Option Ty → Bool
+abbrev pub is_known_result : KnownType → Option Ty → Bool
 is_known_result no_value None = true
 is_known_result no_value (Some ty) = false
 is_known_result type None = false
 is_known_result type (Some ty) = is_known_type type ty
 
-abbrev are_known_types : List KnownType → List Ty → Bool
+abbrev pub are_known_types : List KnownType → List Ty → Bool
 are_known_types [] [] = true
 are_known_types (type ∷ types) (ty ∷ others) = is_known_type type ty && are_known_types types others
 are_known_types [] (ty ∷ others) = false
 are_known_types (type ∷ types) [] = false
 
-abbrev known_typed : KnownFunction → OuterTree → Bool
+abbrev pub known_typed : KnownFunction → OuterTree → Bool
 known_typed one fun = not fun.variadic && are_known_types one.params fun.params && is_known_result one.result fun.result
 
 -- any other has parameters of integer type, `bool` or `*mut i8`, and a result of integer type or `bool`, or none
-abbrev is_opaque_param : Ty → Bool
+abbrev pub is_opaque_param : Ty → Bool
 is_opaque_param ty = is_bits ty || same_type ty (Pointer (Integer I8))
 
-abbrev is_opaque_result : Option Ty → Bool
+abbrev pub is_opaque_result : Option Ty → Bool
 is_opaque_result None = true
 is_opaque_result (Some ty) = is_bits ty
 
-abbrev opaque_typed : OuterTree → Bool
+abbrev pub opaque_typed : OuterTree → Bool
 opaque_typed fun = list_all is_opaque_param fun.params && is_opaque_result fun.result
 
-abbrev outer_by : Option KnownFunction → OuterTree → Bool
+abbrev pub outer_by : Option KnownFunction → OuterTree → Bool
 outer_by (Some one) fun = known_typed one fun
 outer_by None fun = opaque_typed fun
 
@@ -447,15 +447,15 @@ item_names (ExternItem outers) = map (λ fun. fun.name) outers
 item_names (FunctionItem fun) = fun.name ∷ []
 
 -- a field's record by value stands earlier in the same module
-abbrev field_stands : List ModuleTree → (Ty → Option Laid) → FieldTree → Bool
+abbrev pub field_stands : List ModuleTree → (Ty → Option Laid) → FieldTree → Bool
 field_stands modules layout field = type_stands modules field.ty && is_some (layout field.ty)
 
-abbrev has_fields : List FieldTree → Bool
+abbrev pub has_fields : List FieldTree → Bool
 has_fields [] = false
 has_fields (field ∷ fields) = true
 
 -- how types are laid out by the records of a module that stand earlier, the last one first
-abbrev by_earlier : ModuleTree → List ItemTree → Ty → Option Laid
+abbrev pub by_earlier : ModuleTree → List ItemTree → Ty → Option Laid
 by_earlier unit earlier = laid_with (λ m x. if bytes_eq m unit.name then laid_among unit.name earlier x else None)
 
 -- a record has at least one field, the names of its fields differ, and it isn't too large
@@ -464,36 +464,36 @@ record_typed modules unit earlier one =
     has_fields one.fields && all_differ (map (λ field. field.name) one.fields)
     && list_all (field_stands modules (by_earlier unit earlier)) one.fields && is_some (record_laid (by_earlier unit earlier) one)
 
-abbrev values_fit : Option (List ℤ) → Bool
+abbrev pub values_fit : Option (List ℤ) → Bool
 values_fit None = true
 values_fit (Some values) = list_all (fits_integer I8) values
 
 abbrev pub static_typed : List ModuleTree → StaticTree → Bool
 static_typed modules object = object_stands modules object.ty && values_fit object.values
 
-abbrev has_no_params : List LocalTree → Bool
+abbrev pub has_no_params : List LocalTree → Bool
 has_no_params [] = true
 has_no_params (param ∷ params) = false
 
 -- `main_0` has no parameters and gives an `i32`, and `run_static_initializers` has neither
-abbrev head_typed : FunctionTree → Bool
+abbrev pub head_typed : FunctionTree → Bool
 head_typed fun =
     if bytes_eq fun.name (codes "main_0") then has_no_params fun.params && same_results (option_ty fun.result) (some_ty (Integer I32))
     else (if bytes_eq fun.name (codes "run_static_initializers") then has_no_params fun.params && is_none fun.result else true)
 
 -- parameters and locals: their names differ, also from those of the module's items
-abbrev names_typed : ModuleTree → List LocalTree → Bool
+abbrev pub names_typed : ModuleTree → List LocalTree → Bool
 names_typed unit locals =
     all_differ (map (λ local. local.name) locals)
     && not (list_any (λ local. is_among (flat_map item_names unit.items) local.name) locals)
 
 -- the types of parameters and of the result are scalar, and those of locals aren't too large
-abbrev types_stand : List ModuleTree → FunctionTree → Bool
+abbrev pub types_stand : List ModuleTree → FunctionTree → Bool
 types_stand modules fun =
     params_stand modules (tys (map (λ param. param.ty) fun.params)) && result_stands modules (option_ty fun.result)
     && list_all (λ local. object_stands modules local.ty) fun.locals
 
-abbrev scope_of : List ModuleTree → FunctionTree → Scope
+abbrev pub scope_of : List ModuleTree → FunctionTree → Scope
 scope_of modules fun = record { modules = modules; locals = fun.params ++ fun.locals; result = fun.result; labels = [] }
 
 abbrev pub function_typed : List ModuleTree → ModuleTree → FunctionTree → Bool

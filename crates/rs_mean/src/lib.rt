@@ -11,4 +11,4 @@ pub use laws::{
     bodies_unfold, ended_stays_ended, events_only_grow, leaves_no_more, lists_follow, loops_unfold,
     more_budget_continues, shows_nothing, trail_is_outside,
 };
-pub use literal::literal_fits;
+pub use literal::{fits_integer, literal_fits};

@@ -16,8 +16,8 @@ pub fn literal_fits(ty: &RTy, value: Int) -> bool
     }
 }
 
-// Whether a number is a value of an integer type.
-fn fits_integer(ty: IntegerTy, value: Int) -> bool
+/// Whether a number is a value of an integer type (the Rust Reference, "Numeric types").
+pub fn fits_integer(ty: IntegerTy, value: Int) -> bool
     ensures { result ≡ fits_integer ty value }
 {
     match ty {

@@ -1,0 +1,11 @@
+pub mod Calls
+pub mod Common
+pub mod Found
+pub mod Layouts
+pub mod LayoutsAligned
+pub mod LayoutsExamples
+pub mod LayoutsFields
+pub mod LayoutsNames
+pub mod LayoutsTyped
+pub mod Locals
+pub mod Types
