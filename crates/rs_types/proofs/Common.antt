@@ -1,5 +1,5 @@
 -- The one kind of two values, by tests.
-use Rattle.std.proofs.Common.{◌≡◌, refl, Bool, true, false, if◌then◌else◌, Option, Some}
+use Rattle.std.proofs.Common.{◌≡◌, refl, Bool, true, false, if◌then◌else◌, Some}
 use Rattle.rs_tree.specs.Tree.{Ty}
 use Rattle.rs_mean.specs.Scalars.{same_type}
 use Rattle.rs_mean.specs.Typing.{Kind, of, of_none, is_code, common}

@@ -1,5 +1,5 @@
 -- What the code finds is what the definitions of layouts say.
-use Rattle.std.proofs.Common.{◌≡◌, refl, sym, ap, ◌∙◌, subst, arith, ℕ, ◌*◌, ◌≤◌, ◌<◌, nat_le, Bool, true, false, not, List, [], ◌∷◌, Option, Some, None, IfSome, IsSome, if◌then◌else◌}
+use Rattle.std.proofs.Common.{◌≡◌, refl, sym, ap, ◌∙◌, subst, arith, ℕ, ◌*◌, ◌<◌, nat_le, Bool, true, false, not, List, [], ◌∷◌, Option, Some, None, IfSome, IsSome, if◌then◌else◌}
 use Rattle.std.specs.Option.{option_and_then, option_map}
 use Rattle.std.specs.Prelude.{bytes_eq}
 use Rattle.std.proofs.lemmas.Bool.Decides.{nat_tests}
@@ -9,8 +9,8 @@ use Rattle.cr_base.specs.declared.layout.Laid.{Laid}
 use Rattle.cr_base.proofs.Layouts.{stays_too_large}
 use Rattle.rs_tree.specs.declared.ty.RPath.{RPath}
 use Rattle.rs_tree.specs.Tree.{Ty, Integer, Boolean, Void, Pointer, Array, Code, Record, FieldTree, RecordTree, ItemTree, RecordItem, StaticItem, ExternItem, FunctionItem}
-use Rattle.rs_mean.specs.Layout.{laid_with, laid_among, record_laid, repeated, within_most, piece_of, behind, front_after, raised_by, FieldPlace, placed, field_behind, field_of}
-use Rattle.rs_types.specs.Layouts.{record_of, array_laid, plain_laid, record_named, FoundRecord, first_found, found_among, by_front, within_front, front_behind, fronts, finished, field_type_among, IsAligned, AreAligned}
+use Rattle.rs_mean.specs.Layout.{laid_with, laid_among, record_laid, repeated, within_most, piece_of, behind, front_after, raised_by, FieldPlace, placed, field_behind}
+use Rattle.rs_types.specs.Layouts.{record_of, array_laid, plain_laid, FoundRecord, first_found, found_among, by_front, front_behind, fronts, finished, field_type_among, IsAligned, AreAligned}
 
 -- ---- types
 

@@ -1,10 +1,10 @@
 -- No record of a valid crate is aligned to more than 16 bytes.
-use Rattle.std.proofs.Common.{◌≡◌, refl, sym, ap, ◌∙◌, subst, arith, ℕ, ◌≤◌, nat_eq, Bool, true, false, ◌&&◌, ◌||◌, List, [], ◌∷◌, ◌++◌, reverse, Option, Some, None, find, bytes_eq, cond}
+use Rattle.std.proofs.Common.{◌≡◌, refl, sym, subst, arith, ℕ, ◌≤◌, nat_eq, Bool, true, false, ◌&&◌, ◌||◌, List, [], ◌∷◌, ◌++◌, reverse, Option, Some, None, bytes_eq}
 use Rattle.std.specs.List.{list_all}
 use Rattle.std.proofs.lemmas.List.{reverse-append}
 use Rattle.std.proofs.lemmas.Bool.Decides.{nat_tests}
-use Rattle.rs_tree.specs.Tree.{RecordTree, ItemTree, RecordItem, StaticItem, ExternItem, FunctionItem, ModuleTree, CrateTree}
-use Rattle.rs_tree.specs.Valid.{valid_align, valid_record, valid_item, valid_items, valid_crate}
+use Rattle.rs_tree.specs.Tree.{ItemTree, RecordItem, StaticItem, ExternItem, FunctionItem, ModuleTree, CrateTree}
+use Rattle.rs_tree.specs.Valid.{valid_align, valid_item, valid_items, valid_crate}
 use Rattle.rs_mean.specs.Lookups.{items_in}
 use Rattle.rs_types.specs.Layouts.{IsAligned, AreAligned, ModulesAreAligned}
 

@@ -1,7 +1,6 @@
 -- Worked layouts: `pub struct p { pub a: i8, pub b: i32 }`, and `#[repr(C, align(16))] pub struct q { pub c: [p; 3], pub d: *mut p }`
 -- behind it.
-use Rattle.std.proofs.Common.{◌≡◌, refl, false, true, List, [], ◌∷◌, codes, Option, Some, None}
-use Rattle.cr_base.specs.declared.layout.Laid.{Laid}
+use Rattle.std.proofs.Common.{◌≡◌, refl, false, List, [], ◌∷◌, codes, Some, None}
 use Rattle.rs_tree.specs.declared.ty.IntegerTy.TheVariants.{I8, I32}
 use Rattle.rs_tree.specs.Tree.{Integer, Pointer, Array, Record, RecordTree, RecordItem, ModuleTree}
 use Rattle.rs_mean.specs.Layout.{laid_of, record_laid}

@@ -1,7 +1,7 @@
 -- In a crate that is well typed each record is laid out by the whole crate as by the items in front of it, and each of its fields
 -- has a place.
-use Rattle.std.proofs.Common.{◌≡◌, refl, sym, ap, ◌∙◌, subst, arith, ℕ, zero, suc, ◌+◌, ◌*◌, ◌-◌, ◌<◌, nat_eq, nat_le, Bool, true, false, ◌&&◌, ◌||◌, not, List, [], ◌∷◌, ◌++◌, map, take, flat_map, reverse, Option, Some, None, is_none, is_some, IsSome, bytes_eq, if◌then◌else◌, slice_get}
-use Rattle.std.specs.Option.{option_and_then, option_map}
+use Rattle.std.proofs.Common.{◌≡◌, refl, sym, ap, ◌∙◌, subst, arith, ℕ, zero, suc, ◌+◌, ◌*◌, ◌-◌, nat_eq, nat_le, Bool, true, false, ◌&&◌, ◌||◌, not, List, [], ◌∷◌, ◌++◌, map, take, flat_map, reverse, Option, Some, None, is_none, is_some, IsSome, bytes_eq, if◌then◌else◌, slice_get}
+use Rattle.std.specs.Option.{option_and_then}
 use Rattle.std.specs.List.{list_any}
 use Rattle.std.specs.Cmp.Lexicographic.{bytes_decides, same_text}
 use Rattle.std.proofs.lemmas.Bool.{and_parts}
@@ -10,7 +10,7 @@ use Rattle.cr_base.specs.Layout.{most_bytes, after, no_front, spot}
 use Rattle.cr_base.specs.declared.layout.Front.{Front}
 use Rattle.cr_base.specs.declared.layout.Laid.{Laid}
 use Rattle.rs_tree.specs.Names.{is_among}
-use Rattle.rs_tree.specs.Valid.{all_differ, valid_names, valid_items, valid_crate}
+use Rattle.rs_tree.specs.Valid.{all_differ, valid_names, valid_crate}
 use Rattle.rs_tree.specs.Tree.{Ty, Integer, Boolean, Void, Pointer, Array, Code, Record, FieldTree, RecordTree, ItemTree, RecordItem, StaticItem, ExternItem, FunctionItem, ModuleTree, CrateTree}
 use Rattle.rs_mean.specs.Lookups.{items_in}
 use Rattle.rs_mean.specs.Layout.{laid_with, laid_among, laid_at, laid_of, record_laid, repeated, piece_of, behind, front_after}

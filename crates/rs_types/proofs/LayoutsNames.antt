@@ -1,5 +1,5 @@
 -- In a crate that is well typed a record and a field are found by their names where they stand by their numbers.
-use Rattle.std.proofs.Common.{◌≡◌, refl, sym, ap, ◌∙◌, subst, ℕ, zero, suc, ◌+◌, Bool, true, false, ◌&&◌, ◌||◌, not, List, [], ◌∷◌, map, take, flat_map, Option, Some, None, bytes_eq, if◌then◌else◌, slice_get}
+use Rattle.std.proofs.Common.{◌≡◌, refl, sym, ap, ◌∙◌, subst, ℕ, zero, suc, ◌+◌, Bool, true, false, ◌&&◌, ◌||◌, not, List, [], ◌∷◌, map, take, flat_map, Option, Some, None, bytes_eq, slice_get}
 use Rattle.std.specs.Option.{option_and_then, option_map}
 use Rattle.std.specs.List.{list_any}
 use Rattle.std.specs.Cmp.Lexicographic.{same_text}
@@ -13,7 +13,7 @@ use Rattle.rs_tree.specs.Tree.{Ty, FieldTree, RecordTree, ItemTree, RecordItem, 
 use Rattle.rs_mean.specs.Lookups.{items_in, record_among, record_at}
 use Rattle.rs_mean.specs.Layout.{FieldPlace, laid_of, behind, placed, field_behind, field_of, front_after}
 use Rattle.rs_mean.specs.Typing.{item_names, names_differ, item_typed, first_ill_item, well_typed}
-use Rattle.rs_types.specs.LayoutsNumbered.{record_item, record_numbered, byte_behind, byte_in, field_byte, named_in, named_byte}
+use Rattle.rs_types.specs.LayoutsNumbered.{record_item, byte_behind, byte_in, field_byte, named_in, named_byte}
 use Rattle.rs_types.proofs.LayoutsTyped.{ill_by, fields_differ}
 use Rattle.rs_types.proofs.LayoutsFields.{itself, not_both, or_first, or_second, or_false, any_append, own_items, none_at, names_of}
 

@@ -1,14 +1,13 @@
 -- In a crate that is well typed each record is laid out.
-use Rattle.std.proofs.Common.{◌≡◌, refl, sym, ap, ◌∙◌, subst, ℕ, ◌+◌, Bool, true, false, ◌&&◌, not, List, [], ◌∷◌, ◌++◌, append_assoc, map, reverse, Option, Some, None, is_none, is_some, IsSome, bytes_eq, if◌then◌else◌}
+use Rattle.std.proofs.Common.{◌≡◌, refl, sym, ap, ◌∙◌, subst, ℕ, ◌+◌, Bool, true, false, ◌&&◌, List, [], ◌∷◌, ◌++◌, append_assoc, map, reverse, Option, Some, None, is_none, is_some, IsSome, bytes_eq, if◌then◌else◌}
 use Rattle.std.specs.Cmp.Lexicographic.{same_text}
 use Rattle.std.proofs.lemmas.Bool.{and_parts}
 use Rattle.std.proofs.lemmas.List.{reverse-append}
-use Rattle.cr_base.specs.declared.layout.Laid.{Laid}
 use Rattle.rs_tree.specs.Tree.{Ty, Integer, Boolean, Void, Pointer, Array, Code, Record, RecordTree, ItemTree, RecordItem, StaticItem, ExternItem, FunctionItem, ModuleTree, CrateTree}
 use Rattle.rs_tree.specs.Valid.{all_differ}
 use Rattle.rs_mean.specs.Lookups.{items_in, record_among, record_at}
-use Rattle.rs_mean.specs.Layout.{laid_with, laid_among, laid_at, laid_of, record_laid}
-use Rattle.rs_mean.specs.Typing.{by_earlier, has_fields, names_differ, item_typed, record_typed, first_ill_item, ItemPlace, placed_in, first_ill_from, well_typed, type_stands}
+use Rattle.rs_mean.specs.Layout.{laid_among, laid_at, laid_of, record_laid}
+use Rattle.rs_mean.specs.Typing.{by_earlier, has_fields, names_differ, item_typed, first_ill_item, ItemPlace, placed_in, first_ill_from, well_typed, type_stands}
 use Rattle.rs_types.specs.Layouts.{record_named, FoundRecord, first_found, found_among, by_front}
 use Rattle.rs_types.specs.LayoutsNumbered.{is_type_in}
 

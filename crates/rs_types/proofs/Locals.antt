@@ -1,5 +1,5 @@
 -- A name among parameters and locals.
-use Rattle.std.proofs.Common.{◌≡◌, refl, ap, ◌∙◌, ℕ, Bool, true, false, if◌then◌else◌, List, [], ◌∷◌, ◌++◌, bytes_eq, option_map, Option, Some, None}
+use Rattle.std.proofs.Common.{◌≡◌, refl, ap, ◌∙◌, ℕ, Bool, true, false, if◌then◌else◌, List, [], ◌∷◌, ◌++◌, bytes_eq, option_map, Option, Some}
 use Rattle.rs_tree.specs.Tree.{Ty, LocalTree}
 use Rattle.rs_mean.specs.Lookups.{local_type}
 use Rattle.rs_types.specs.Found.{or_else}
