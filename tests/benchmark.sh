@@ -15,6 +15,8 @@
 #    blocks, of a list store and of one in a region; and of `put` and `load` alone, and of `kill` and `alloc` alone, over 100, 1,000 and
 #    10,000 live blocks; the time of a row without rounds is taken off. And the memory, in MB, that a full region of 1 MiB and one of
 #    64 MiB take.
+# 6. How long a crate of one module of 64 KiB, 256 KiB and 1 MiB of statements takes to be read and printed, by the rows: nanoseconds
+#    a byte; the time of a row without statements is taken off.
 set -u
 top=$(cd "$(dirname "$0")/.." && pwd)
 work=$(mktemp -d) || exit 1
@@ -230,6 +232,25 @@ for store in list region; do
     paced "$store" access "$live" 500000 2
     paced "$store" churn "$live" 20000 2
   done
+done
+
+# crate_row SIZE: a row of a module with this many bytes of statements.
+crate_row() {
+  awk -v size="$1" 'BEGIN {
+    line = "    x = (x * 3i32) + crate::a::f(x, (y as i32) - 7i32, *p.offset(2isize));$n"
+    printf "module pub unsafe extern \"C\" fn main_0() -> i32 {$n"
+    for (left = size; left >= length(line); left -= length(line) - 1) printf "%s", line
+    print "    return 0i32;$n}$npub unsafe extern \"C\" fn run_static_initializers() {$n}$n"
+  }'
+}
+
+crate_row 0 >"$work/no_statements.row"
+for size in 65536 262144 1048576; do
+  crate_row "$size" >"$work/statements.row"
+  [ "module $(on_row "$work/statements.row")" = "$(cat "$work/statements.row")" ] || { echo "the module isn't read"; exit 1; }
+  awk -v size="$size" -v none="$(least_of 5 on_row "$work/no_statements.row")" -v ours="$(least_of 5 on_row "$work/statements.row")" 'BEGIN {
+    printf "a module of %d bytes of statements, read and printed: %.0f ns a byte\n", size, (ours - none) / size
+  }'
 done
 
 # full NAME ROW: the memory that the program takes where a row fills a region.

@@ -141,6 +141,43 @@ tools_for() {
   fi
 }
 
+# The crate of the rows in which each form of the written crates stands: rustc takes it, and its program writes these bytes and ends
+# with this status, which are worked out by hand.
+every_form() {
+  local row name text
+  if ! command -v rustc >/dev/null 2>&1; then
+    skip 'the crate with every form (rustc isn'"'"'t there)'
+    return
+  fi
+  row=$(grep -A 1 '^# A crate in which each form of the subset stands' "$top/crates/rows/stdin" | tail -1)
+  mkdir -p "$work/every/src"
+  while read -r name text; do
+    printf '%s' "$text" | sed 's/\$n/\n/g; s/\$7c/|/g; s/\$24/$/g' >"$work/every/$name"
+  done < <(printf '%s\n' "${row#crate }" | sed 's/ | /\n/g')
+  if ! (cd "$work/every" && rustc --edition 2021 -A warnings -o translated src/main.rs) 2>"$work/rustc.log"; then
+    bad "rustc takes the crate with every form: $(head -3 "$work/rustc.log")"
+    return
+  fi
+  "$work/every/translated" >"$work/written"
+  local got=$?
+  if [ "$got" -eq 13 ] && printf 'aH\377i\nhi' | cmp -s - "$work/written"; then
+    ok 'rustc takes the crate with every form, whose program writes 7 bytes and ends with 13'
+  else
+    bad "the program of the crate with every form ends with $got, or writes other bytes"
+  fi
+}
+
+# A crate whose blocks nest 1,000 deep is read and printed within 8 MiB of stack.
+nested_blocks() {
+  local head='pub unsafe extern "C" fn main_0() -> i32 {$n' last='return 1i32;$n}$npub unsafe extern "C" fn run_static_initializers() {$n}$n'
+  printf 'module %s%s%s%s\n' "$head" "$(yes 'loop {$n' | head -1000 | tr -d '\n')" "$(yes '}$n' | head -1000 | tr -d '\n')" "$last" >"$work/nested"
+  if [ "$( (ulimit -s 8192; "$rows" <"$work/nested") | grep -o 'loop {\$n' | wc -l)" -eq 1000 ]; then
+    ok 'blocks that nest 1,000 deep are read and printed'
+  else
+    bad 'blocks that nest 1,000 deep are read and printed'
+  fi
+}
+
 # Random straight `int` units: what the programs of their crates show is compared with an evaluator of C99 that
 # shares nothing with the program, and this with gcc's programs.
 straight_units() {
@@ -220,6 +257,8 @@ syntax_mutants
 relooper_graphs
 random_records
 region_turns
+every_form
+nested_blocks
 usage='c2rs: usage: transpile -o DIR FILE..'
 report 2 "$usage"
 report 2 "$usage" transpile -o out -o out answer.c

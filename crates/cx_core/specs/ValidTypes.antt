@@ -209,7 +209,7 @@ const_in const_records (ty (array element length) is_const) = is_const || const_
 const_in const_records (ty (record_type number) is_const) = is_const || const_records number
 const_in const_records (ty form is_const) = is_const
 
-abbrev any_const : (ℕ → Bool) → Option CRecord → Bool
+abbrev pub any_const : (ℕ → Bool) → Option CRecord → Bool
 any_const const_records None = false
 any_const const_records (Some one) = list_any (λ member. const_in const_records member.type) one.members
 

@@ -194,7 +194,9 @@ impl Basic {
     }
 }
 
-pub(crate) fn promoted_basic(which: Basic, width: Option<u32>) -> Basic
+/// The basic type of a value of integer type after the integer promotions (ISO C99, 6.3.1.1p2): of a type, or of
+/// a bit-field of so many bits.
+pub fn promoted_basic(which: Basic, width: Option<u32>) -> Basic
     ensures { result ≡ promoted_basic which width }
 {
     if which.rank() > Basic::Int.rank() {
@@ -206,7 +208,8 @@ pub(crate) fn promoted_basic(which: Basic, width: Option<u32>) -> Basic
     }
 }
 
-fn common_basic(first: Basic, second: Basic) -> Basic
+/// The common type of two promoted types (ISO C99, 6.3.1.8).
+pub fn common_basic(first: Basic, second: Basic) -> Basic
     ensures { result ≡ common_basic first second }
 {
     if first.is_signed() == second.is_signed() {

@@ -15,7 +15,7 @@ mod ty;
 mod unit;
 
 pub use compatibility::compatible;
-pub use conversions::{basic_of, promote, scalar_of, usual};
+pub use conversions::{basic_of, common_basic, promote, promoted_basic, scalar_of, usual};
 pub use copies::copy_types;
 pub use expr::{CoreExpr, Form, Op1, Op2, Put};
 pub use laws::{
@@ -23,6 +23,7 @@ pub use laws::{
     conversions_are_tabulated, example_is_linked, promotion_gives_promoted,
     promotions_are_tabulated,
 };
+pub use meets::{are_kept_by_promotions, enums_agree, lengths_agree, meet_in_basic, same_basic};
 pub use program::{CoreObject, Fun, Linkage, Outer, Parts, Program};
 pub use stmt::{CoreStmt, StmtForm};
 pub use ty::{Basic, FunctionTy, Member, Params, RecordTag, RecordTy, Ty, TyForm, Types};

@@ -159,7 +159,9 @@ fn is_among(pairs: &[RecordPair], first: u32, second: u32) -> bool
     false
 }
 
-fn lengths_agree(first: Option<u64>, second: Option<u64>) -> bool
+/// Whether the lengths of two compatible arrays go together: one isn't known, or they are the same (ISO C99,
+/// 6.7.5.2p6).
+pub fn lengths_agree(first: Option<u64>, second: Option<u64>) -> bool
     ensures { result ≡ lengths_agree first second }
 {
     match (first, second) {
@@ -168,8 +170,8 @@ fn lengths_agree(first: Option<u64>, second: Option<u64>) -> bool
     }
 }
 
-// Whether two integer types are, or are compatible with, one basic type.
-pub(crate) fn meet_in_basic(types: &Types, a: &Ty, b: &Ty) -> bool
+/// Whether two integer types are, or are compatible with, one basic type (ISO C99, 6.7.2.2p4).
+pub fn meet_in_basic(types: &Types, a: &Ty, b: &Ty) -> bool
     ensures { result ≡ meet_in_basic (view_types types.now) (form_of_type (view_type a.now)) (form_of_type (view_type b.now)) }
 {
     same_basics(basic_of(a, types), basic_of(b, types))
@@ -184,15 +186,17 @@ fn same_basics(first: Option<Basic>, second: Option<Basic>) -> bool
     }
 }
 
+/// Whether two basic types are the same.
 #[tactic(auto, unfolding(crate::specs::Conversions::same_basic))]
-fn same_basic(first: Basic, second: Basic) -> bool
+pub fn same_basic(first: Basic, second: Basic) -> bool
     ensures { result ≡ same_basic first second }
 {
     first == second
 }
 
-// Whether two enumerated types are the same, or of two units and compatible with one basic type.
-fn enums_agree(types: &Types, first: u32, second: u32) -> bool
+/// Whether two enumerated types are the same, or of two units and compatible with one basic type (ISO C99,
+/// 6.7.2.2p4).
+pub fn enums_agree(types: &Types, first: u32, second: u32) -> bool
     ensures { result ≡ enums_agree (view_types types.now) first second }
 {
     if first == second {
@@ -212,7 +216,8 @@ pub(crate) fn of_two_units(units: &[u32], first: u32, second: u32) -> bool
     }
 }
 
-fn are_kept_by_promotions(params: &[Ty]) -> bool
+/// Whether arguments of these types are what the default promotions leave as they are (ISO C99, 6.7.5.3p15).
+pub fn are_kept_by_promotions(params: &[Ty]) -> bool
     ensures { result ≡ are_kept_by_promotions (types_of (map view_type params.now)) }
 {
     for param in params {

@@ -4,14 +4,14 @@ use Rattle.std.proofs.lemmas.Bool.{cond-true, cond-false}
 use Rattle.cx_cursor.specs.Reading.{State, bind}
 use Rattle.cx_cursor.specs.Sights.{sight}
 use Rattle.cx_expr.specs.Below.{Below}
-use Rattle.cx_expr.specs.Continuations.{continuation_of, goes_on}
+use Rattle.cx_words.specs.Continuations.{continuation_of, goes_on}
 use Rattle.cx_expr.specs.Declarators.{declarator_from, param_from}
 use Rattle.cx_expr.specs.Exprs.{operation, climb, expr_from, literal_from, type_name_from}
 use Rattle.cx_expr.specs.Initialisers.{list_from, entry_from, designator_from}
 use Rattle.cx_expr.specs.Knot.{readers}
 use Rattle.cx_expr.specs.Specifiers.{spec_from, member_from, member_declarator_from, enumerator_from}
 use Rattle.cx_expr.specs.Tails.{TailTree, indexed, called, dotted, pointed, up, down, operated, chosen, assigned, sequenced, join, tail_depth}
-use Rattle.cx_expr.specs.declared.form.Form.{Form}
+use Rattle.cx_words.specs.declared.form.Form.{Form}
 use Rattle.cx_tree.specs.Depth.{expr_depth}
 use Rattle.cx_tree.specs.Levels.{level}
 use Rattle.cx_tree.specs.Trees.{ExprTree, TypeNameTree}

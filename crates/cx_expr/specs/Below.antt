@@ -2,7 +2,7 @@
 -- the readers of its parts.
 use Rattle.std.specs.Prelude.{ℕ, List}
 use Rattle.cx_cursor.specs.Reading.{Reader}
-use Rattle.cx_expr.specs.declared.form.Form.{Form}
+use Rattle.cx_words.specs.declared.form.Form.{Form}
 use Rattle.cx_tree.specs.Names.{Binding}
 use Rattle.cx_tree.specs.Trees.{ExprTree, TypeNameTree, SpecTree, MemberDeclTree, MemberDeclaratorTree, EnumeratorTree, DeclaratorTree, ParamTree, InitialiserListTree, EntryTree, DesignatorTree}
 

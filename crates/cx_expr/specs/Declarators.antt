@@ -6,9 +6,9 @@ use Rattle.cx_cursor.specs.Sights.{sight, sight_behind, shows_mark, shows_word, 
 use Rattle.cx_cursor.specs.declared.sight.Sight.{Sight}
 use Rattle.cx_cursor.specs.declared.sight.Sight.TheVariants as sights
 use Rattle.cx_expr.specs.Below.{Below, DeclaratorRead, declarator_read}
-use Rattle.cx_expr.specs.Specifiers.{shows_spec, specs_from}
-use Rattle.cx_expr.specs.declared.form.Form.{Form}
-use Rattle.cx_expr.specs.declared.form.Form.TheVariants.{Named, Abstract, Parameter}
+use Rattle.cx_expr.specs.Specifiers.{specs_from}
+use Rattle.cx_words.specs.declared.form.Form.{Form}
+use Rattle.cx_words.specs.declared.form.Form.TheVariants.{Named, Abstract, Parameter}
 use Rattle.cx_lex.specs.declared.token.Keyword.{Keyword}
 use Rattle.cx_lex.specs.declared.token.Keyword.TheVariants as keywords
 use Rattle.cx_lex.specs.declared.token.Punct.TheVariants.{LeftBracket, RightBracket, LeftParenthesis, RightParenthesis, Star, Comma, Ellipsis}
@@ -20,34 +20,9 @@ use Rattle.cx_tree.specs.Trees.{ExprTree, DeclaratorTree, Missing, Identifier, G
 use Rattle.cx_tree.specs.Valid.{has_name}
 use Rattle.cx_tree.specs.Views.{specs, params}
 use Rattle.cx_tree.specs.Words.{is_qualifier}
-
--- ---- what stands ahead
-
--- What stands ahead begins an abstract declarator that isn't missing.
-abbrev pub begins_abstract : Sight → Bool
-begins_abstract sight = shows_mark Star sight || (shows_mark LeftParenthesis sight || shows_mark LeftBracket sight)
-
--- What stands ahead begins a declarator that isn't missing.
-abbrev pub begins_declarator : Form → Sight → Bool
-begins_declarator Named sight = true
-begins_declarator Abstract sight = begins_abstract sight
-begins_declarator Parameter sight = shows_word sight || begins_abstract sight
-
--- Behind a parenthesis, what stands ahead begins a list of parameters, or ends an empty one.
-abbrev pub begins_params : Sight → Bool
-begins_params sight = shows_mark RightParenthesis sight || shows_spec true false sight
-
--- a parenthesis ahead begins a declarator in parentheses
-abbrev pub begins_group : Form → State → Bool
-begins_group Named state = true
-begins_group Abstract state = not (begins_params (sight_behind state))
-begins_group Parameter state = not (begins_params (sight_behind state))
+use Rattle.cx_words.specs.Beginnings.{begins_declarator, begins_group, is_no_qualifier, is_plain, sees_star, shows_spec}
 
 -- ---- qualifiers (6.7.3)
-
-abbrev pub is_no_qualifier : Sight → Bool
-is_no_qualifier (sights.Key word) = not (is_qualifier word)
-is_no_qualifier _ = true
 
 -- qualifiers, and their lines behind those given
 pub record QualifiersRead : Type 0 where
@@ -76,20 +51,12 @@ pub record BracketsRead : Type 0 where
 abbrev pub brackets_read : BracketsTree → List ℕ → BracketsRead
 brackets_read brackets lines = record { brackets = brackets; lines = lines }
 
--- a star stands alone in front of the bracket
-abbrev pub sees_star : State → Bool
-sees_star state = sees_mark Star state && shows_mark RightBracket (sight_behind state)
-
 -- a comma with an ellipsis behind it, or no comma
 abbrev pub no_param : {A : Type 0} → A → State → Bool
 no_param all state = not (sees_mark Comma state) || shows_mark Ellipsis (sight_behind state)
 
 abbrev pub with_name : ListRead (List ℕ) → List ℕ × ℕ → ListRead (List ℕ)
 with_name all next = record { list = all.list ++ next.0 ∷ []; lines = all.lines ++ next.1 ∷ [] }
-
-abbrev pub is_plain : Sight → Bool
-is_plain sights.Word = true
-is_plain _ = false
 
 -- an identifier that is no typedef name
 unfoldable pub plain_word : Reader (List ℕ × ℕ)

@@ -6,13 +6,13 @@ use Rattle.cx_cursor.specs.Sights.{sight, sight_behind, shows_text, sees_mark, s
 use Rattle.cx_cursor.specs.declared.sight.Sight.{Sight}
 use Rattle.cx_cursor.specs.declared.sight.Sight.TheVariants as sights
 use Rattle.cx_expr.specs.Below.{Below}
-use Rattle.cx_expr.specs.Continuations.{continuation_of, goes_on}
+use Rattle.cx_words.specs.Continuations.{continuation_of, goes_on}
 use Rattle.cx_expr.specs.Declarators.{declarator_or_missing}
-use Rattle.cx_expr.specs.Specifiers.{shows_spec, specs_from}
+use Rattle.cx_expr.specs.Specifiers.{specs_from}
 use Rattle.cx_expr.specs.Tails.{TailTree, indexed, called, dotted, pointed, up, down, operated, chosen, assigned, sequenced, join}
-use Rattle.cx_expr.specs.declared.continuation.Continuation.{Continuation}
-use Rattle.cx_expr.specs.declared.continuation.Continuation.TheVariants.{Nothing, Operates, Assigns, Chooses, Commas, Indexes, Calls, Picks, Steps}
-use Rattle.cx_expr.specs.declared.form.Form.TheVariants.{Abstract}
+use Rattle.cx_words.specs.declared.continuation.Continuation.{Continuation}
+use Rattle.cx_words.specs.declared.continuation.Continuation.TheVariants.{Nothing, Operates, Assigns, Chooses, Commas, Indexes, Calls, Picks, Steps}
+use Rattle.cx_words.specs.declared.form.Form.TheVariants.{Abstract}
 use Rattle.cx_lex.specs.declared.token.Keyword.TheVariants as keywords
 use Rattle.cx_lex.specs.declared.token.Punct.{Punct}
 use Rattle.cx_lex.specs.declared.token.Punct.TheVariants as marks
@@ -21,6 +21,7 @@ use Rattle.cx_tree.specs.Depth.{expr_depth, type_name_depth}
 use Rattle.cx_tree.specs.Levels.{expression_level, assignment_level, conditional_level, cast_level, unary_level, is_unary_operator, level}
 use Rattle.cx_tree.specs.Trees.{ExprTree, Name, Number, Letter, Text, Paren, Literal, PreUp, PreDown, Unary, SizeofExpr, SizeofType, Cast, TypeNameTree, TypeName}
 use Rattle.cx_tree.specs.Views.{exprs, specs}
+use Rattle.cx_words.specs.Beginnings.{sees_type}
 
 -- ---- what stands by itself (6.5.1)
 
@@ -56,14 +57,6 @@ stepped op lines = if same_mark op PlusPlus then up lines else down lines
 
 unfoldable pub steps : Reader TailTree
 steps = operator >>= (λ op. pure (stepped op.0 (op.1 ∷ [])))
-
--- behind a parenthesis, what stands ahead begins a type name
-abbrev pub begins_type : Sight → Bool
-begins_type sight = shows_spec false false sight
-
--- a parenthesis stands ahead, and a type name behind it
-abbrev pub sees_type : State → Bool
-sees_type state = sees_mark LeftParenthesis state && begins_type (sight_behind state)
 
 -- a type name in parentheses, and the lines of these
 pub record TypeRead : Type 0 where

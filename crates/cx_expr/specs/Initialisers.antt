@@ -9,10 +9,7 @@ use Rattle.cx_lex.specs.declared.token.Punct.TheVariants.{LeftBrace, LeftBracket
 use Rattle.cx_tree.specs.Levels.{assignment_level, conditional_level}
 use Rattle.cx_tree.specs.Trees.{InitialiserTree, Single, Braced, InitialiserListTree, InitialiserList, EntryTree, Entry, DesignatorTree, Element, Member, no_designators}
 use Rattle.cx_tree.specs.Views.{entries, designators}
-
--- a designator stands ahead
-abbrev pub sees_designator : State → Bool
-sees_designator state = sees_mark LeftBracket state || sees_mark Dot state
+use Rattle.cx_words.specs.Beginnings.{sees_designator}
 
 abbrev pub no_designator : {A : Type 0} → A → State → Bool
 no_designator all state = not (sees_designator state)

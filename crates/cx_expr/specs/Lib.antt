@@ -1,5 +1,5 @@
+pub mod Asked
 pub mod Below
-pub mod Continuations
 pub mod Declarators
 pub mod Exprs
 pub mod Initialisers

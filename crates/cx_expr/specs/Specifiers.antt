@@ -7,7 +7,7 @@ use Rattle.cx_cursor.specs.Sights.{sight, sight_behind, shows_mark, shows_word, 
 use Rattle.cx_cursor.specs.declared.sight.Sight.{Sight}
 use Rattle.cx_cursor.specs.declared.sight.Sight.TheVariants as sights
 use Rattle.cx_expr.specs.Below.{Below}
-use Rattle.cx_expr.specs.declared.form.Form.TheVariants.{Named}
+use Rattle.cx_words.specs.declared.form.Form.TheVariants.{Named}
 use Rattle.cx_lex.specs.declared.token.Keyword.{Keyword}
 use Rattle.cx_lex.specs.declared.token.Keyword.TheVariants as keywords
 use Rattle.cx_lex.specs.declared.token.Punct.TheVariants.{LeftBrace, RightBrace, Comma, Semicolon, Colon, Equal}
@@ -16,29 +16,7 @@ use Rattle.cx_tree.specs.Names.{is_type_specifier}
 use Rattle.cx_tree.specs.Trees.{no_expr, some_expr, SpecTree, Key, Typedef, Record, Enum, no_members, some_members, MemberDeclTree, MemberDecl, DeclaratorTree, Missing, MemberDeclaratorTree, MemberDeclarator, EnumeratorTree, Enumerator, no_enumerator_list, some_enumerator_list}
 use Rattle.cx_tree.specs.Views.{specs, member_decls, member_declarators, enumerators}
 use Rattle.cx_tree.specs.Words.{is_type_word, is_qualifier, is_storage_class, is_function_specifier}
-
--- ---- what begins a specifier
-
--- `struct`, `union` or `enum`
-unfoldable pub begins_tagged : Keyword → Bool
-begins_tagged keywords.Struct = true
-begins_tagged keywords.Union = true
-begins_tagged keywords.Enum = true
-begins_tagged _ = false
-
--- a keyword that begins a specifier or qualifier of a member or of a type name
-unfoldable pub begins_member_spec : Keyword → Bool
-begins_member_spec word = is_type_word word || (is_qualifier word || begins_tagged word)
-
--- a keyword that begins a specifier; `all`: of any declaration, with storage classes and `inline`
-unfoldable pub begins_spec : Bool → Keyword → Bool
-begins_spec all word = begins_member_spec word || (all && (is_storage_class word || is_function_specifier word))
-
--- What stands ahead begins one more specifier; `typed`: a type specifier stands before it.
-abbrev pub shows_spec : Bool → Bool → Sight → Bool
-shows_spec all typed (sights.Key word) = begins_spec all word
-shows_spec all typed sights.TypeWord = not typed
-shows_spec all typed _ = false
+use Rattle.cx_words.specs.Beginnings.{begins_spec, shows_spec}
 
 -- the specifiers so far, and whether a type specifier is among them
 pub record SpecsRead : Type 0 where

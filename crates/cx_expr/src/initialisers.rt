@@ -4,6 +4,7 @@ ghost use Rattle.std.specs.Prelude.{◌≡◌, ◌≤◌, ◌<◌, ◌^◌, ◌+
 ghost use Rattle.cx_cursor.specs.Lists as lists;
 ghost use Rattle.cx_cursor.specs.Lists.{list_read, many_ahead, taking};
 ghost use Rattle.cx_cursor.specs.Reading.{Answers};
+ghost use Rattle.cx_expr.specs.Asked.{IsBelow};
 ghost use Rattle.cx_expr.specs.Knot.{readers};
 ghost use Rattle.cx_expr.specs.Initialisers as reader;
 ghost use Rattle.cx_expr.specs.Specifiers as braces;
@@ -11,36 +12,38 @@ ghost use Rattle.cx_expr.specs.Specifiers.{braced_read};
 ghost use Rattle.cx_tree.specs.Depth.{designator_depth, designators_depth, entries_depth, entry_depth, initialiser_depth, initialiser_list_depth};
 ghost use Rattle.cx_tree.specs.Views.{designator_view, designators, entries, entry_view, initialiser_list_view, initialiser_view};
 
-use crate::exprs::expr;
-use crate::level::{ASSIGNMENT, CONDITIONAL};
+use crate::below::{expr, list};
 use crate::nodes::{ReadDesignator, ReadEntry, ReadInitialiser, ReadList};
-use crate::words::no_further;
+use crate::wanted::{Found, Wanted};
 use cr_base::{Boxed, Items, Memory};
 use cx_cursor::{Cursor, Fault, Listed, Measured, one_line, two_lines};
 use cx_lex::Punct;
 use cx_tree::{Designator, Entry, Initialiser, InitialiserList};
+use cx_words::level::{ASSIGNMENT, CONDITIONAL};
+use cx_words::{no_further, sees_designator};
 use std::alloc::Global;
 
 /// Reads an initialiser, at most `depth` nodes deep (6.7.8).
-#[cycle(knot)]
 #[tactic(auto, unfolding(crate::specs::Initialisers::initialiser, cx_cursor::specs::Reading::bind))]
-pub fn initialiser(
+pub fn initialiser<F: Fn(&mut Cursor<'_>, u32, Wanted) -> Result<Found, Fault>>(
     alloc: Global,
     cursor: &mut Cursor<'_>,
     depth: u32,
+    below: &F,
 ) -> Result<ReadInitialiser, Fault>
-    requires { depth < 2 ^ 31 }
+    requires parts { IsBelow (F.pre below.now) (F.post below.now) depth }
+    requires depth { depth < 2 ^ 31 }
     ensures reads { Answers (λ r. initialiser_view r.tree) result cursor.new (reader.initialiser (readers depth) cursor.old) }
     ensures depth { IfOk result (λ r. r.depth ≡ initialiser_depth (initialiser_view r.tree)) }
     ensures within { IfOk result (λ r. r.depth ≤ depth) }
 {
     if cursor.sees(Punct::LeftBrace) {
-        let list = list(alloc, cursor, depth)?;
+        let list = list(cursor, depth, below)?;
         let depth = list.depth;
         let tree = Boxed::new(alloc, Initialiser::Braced(list.tree))?;
         return Ok(Measured { tree, depth });
     }
-    let single = expr(alloc, cursor, depth, ASSIGNMENT)?;
+    let single = expr(cursor, depth, below, ASSIGNMENT)?;
     let depth = single.depth;
     let tree = Boxed::new(alloc, Initialiser::Single(single.tree))?;
     Ok(Measured { tree, depth })
@@ -55,16 +58,21 @@ fn designator_of(alloc: Global, tree: Designator, depth: u32) -> Result<ReadDesi
 }
 
 // `[ at ]`
-#[cycle(knot)]
 #[tactic(auto, unfolding(crate::specs::Initialisers::element, cx_cursor::specs::Reading::bind))]
-fn element(alloc: Global, cursor: &mut Cursor<'_>, depth: u32) -> Result<ReadDesignator, Fault>
-    requires { depth < 2 ^ 31 }
+fn element<F: Fn(&mut Cursor<'_>, u32, Wanted) -> Result<Found, Fault>>(
+    alloc: Global,
+    cursor: &mut Cursor<'_>,
+    depth: u32,
+    below: &F,
+) -> Result<ReadDesignator, Fault>
+    requires parts { IsBelow (F.pre below.now) (F.post below.now) depth }
+    requires depth { depth < 2 ^ 31 }
     ensures reads { Answers (λ r. designator_view r.tree) result cursor.new (reader.element (readers depth) cursor.old) }
     ensures depth { IfOk result (λ r. r.depth ≡ designator_depth (designator_view r.tree)) }
     ensures within { IfOk result (λ r. r.depth ≤ suc depth) }
 {
     let first = cursor.mark(Punct::LeftBracket)?;
-    let at = expr(alloc, cursor, depth, CONDITIONAL)?;
+    let at = expr(cursor, depth, below, CONDITIONAL)?;
     let lines = two_lines(alloc, first, cursor.mark(Punct::RightBracket)?)?;
     let depth = at.depth + 1;
     let at = at.tree;
@@ -85,10 +93,15 @@ fn member(alloc: Global, cursor: &mut Cursor<'_>) -> Result<ReadDesignator, Faul
 }
 
 // A designator, at most `depth` nodes deep.
-#[cycle(knot)]
-#[tactic(auto, using(crate::proofs::Turns::designator_none, crate::proofs::Turns::designator_some), unfolding(crate::specs::Initialisers::designator_from))]
-fn designator(alloc: Global, cursor: &mut Cursor<'_>, depth: u32) -> Result<ReadDesignator, Fault>
-    requires { depth < 2 ^ 31 }
+#[tactic(auto, using(crate::proofs::Turns::designator_none, crate::proofs::Turns::designator_some, crate::proofs::Shallow::shallower), unfolding(crate::specs::Initialisers::designator_from))]
+fn designator<F: Fn(&mut Cursor<'_>, u32, Wanted) -> Result<Found, Fault>>(
+    alloc: Global,
+    cursor: &mut Cursor<'_>,
+    depth: u32,
+    below: &F,
+) -> Result<ReadDesignator, Fault>
+    requires parts { IsBelow (F.pre below.now) (F.post below.now) depth }
+    requires depth { depth < 2 ^ 31 }
     ensures reads { Answers (λ r. designator_view r.tree) result cursor.new ((readers depth).designator cursor.old) }
     ensures depth { IfOk result (λ r. r.depth ≡ designator_depth (designator_view r.tree)) }
     ensures within { IfOk result (λ r. r.depth ≤ depth) }
@@ -97,26 +110,21 @@ fn designator(alloc: Global, cursor: &mut Cursor<'_>, depth: u32) -> Result<Read
         return Err(cursor.no_tree());
     }
     if cursor.sees(Punct::LeftBracket) {
-        return element(alloc, cursor, depth - 1);
+        return element(alloc, cursor, depth - 1, below);
     }
     member(alloc, cursor)
 }
 
-fn sees_designator(cursor: &Cursor<'_>) -> bool
-    ensures { result ≡ reader.sees_designator cursor.now }
-{
-    cursor.sees(Punct::LeftBracket) || cursor.sees(Punct::Dot)
-}
-
 // One more designator.
-#[cycle(knot)]
 #[tactic(auto, unfolding(cx_cursor::specs::Lists::taking, cx_cursor::specs::Lists::comma_item, cx_cursor::specs::Reading::bind))]
-fn next_designator(
+fn next_designator<F: Fn(&mut Cursor<'_>, u32, Wanted) -> Result<Found, Fault>>(
     alloc: Global,
     cursor: &mut Cursor<'_>,
     depth: u32,
+    below: &F,
     list: Listed<Designator>,
 ) -> Result<Listed<Designator>, Fault>
+    requires parts { IsBelow (F.pre below.now) (F.post below.now) depth }
     requires depth { depth < 2 ^ 31 }
     requires measured { list.depth ≡ designators_depth (designators (map designator_view list.list)) }
     requires within { list.depth ≤ depth }
@@ -127,20 +135,21 @@ fn next_designator(
     ensures within { IfOk result (λ l. l.depth ≤ depth) }
 {
     let mut list = list;
-    let one = designator(alloc, cursor, depth)?;
+    let one = designator(alloc, cursor, depth, below)?;
     list.push(one)?;
     Ok(list)
 }
 
 // The designators behind the first.
-#[cycle(knot)]
 #[tactic(auto, using(cx_cursor::proofs::Turns::many_out, cx_cursor::proofs::Turns::many_stop, cx_cursor::proofs::Turns::many_goes), unfolding(cx_cursor::specs::Lists::many_ahead, cx_cursor::specs::Reading::bind))]
-fn designators_behind(
+fn designators_behind<F: Fn(&mut Cursor<'_>, u32, Wanted) -> Result<Found, Fault>>(
     alloc: Global,
     cursor: &mut Cursor<'_>,
     depth: u32,
+    below: &F,
     list: Listed<Designator>,
 ) -> Result<Listed<Designator>, Fault>
+    requires parts { IsBelow (F.pre below.now) (F.post below.now) depth }
     requires depth { depth < 2 ^ 31 }
     requires measured { list.depth ≡ designators_depth (designators (map designator_view list.list)) }
     requires within { list.depth ≤ depth }
@@ -155,25 +164,30 @@ fn designators_behind(
         if !sees_designator(cursor) {
             return Ok(list);
         }
-        list = next_designator(alloc, cursor, depth, list)?;
+        list = next_designator(alloc, cursor, depth, below, list)?;
     }
     Err(cursor.no_tree())
 }
 
 // Designators, `=` and an initialiser.
-#[cycle(knot)]
 #[tactic(auto, unfolding(crate::specs::Initialisers::designated, cx_cursor::specs::Reading::bind))]
-fn designated(alloc: Global, cursor: &mut Cursor<'_>, depth: u32) -> Result<ReadEntry, Fault>
-    requires { depth < 2 ^ 31 }
+fn designated<F: Fn(&mut Cursor<'_>, u32, Wanted) -> Result<Found, Fault>>(
+    alloc: Global,
+    cursor: &mut Cursor<'_>,
+    depth: u32,
+    below: &F,
+) -> Result<ReadEntry, Fault>
+    requires parts { IsBelow (F.pre below.now) (F.post below.now) depth }
+    requires depth { depth < 2 ^ 31 }
     ensures reads { Answers (λ r. entry_view r.tree) result cursor.new (reader.designated (readers depth) cursor.old) }
     ensures depth { IfOk result (λ r. r.depth ≡ entry_depth (entry_view r.tree)) }
     ensures within { IfOk result (λ r. r.depth ≤ suc depth) }
 {
     let list = Listed::new(alloc, Items::new(alloc));
-    let list = next_designator(alloc, cursor, depth, list)?;
-    let mut list = designators_behind(alloc, cursor, depth, list)?;
+    let list = next_designator(alloc, cursor, depth, below, list)?;
+    let mut list = designators_behind(alloc, cursor, depth, below, list)?;
     list.push_line(cursor.mark(Punct::Equal)?)?;
-    let init = initialiser(alloc, cursor, depth)?;
+    let init = initialiser(alloc, cursor, depth, below)?;
     let depth = list.depth.max(init.depth) + 1;
     let entry = Entry {
         designators: list.list,
@@ -184,19 +198,24 @@ fn designated(alloc: Global, cursor: &mut Cursor<'_>, depth: u32) -> Result<Read
     Ok(Measured { tree, depth })
 }
 
-// An entry whose parts are at most `depth` nodes deep.
-#[cycle(knot)]
+// An initialiser of a list, with its designators, whose parts are at most `depth` nodes deep.
 #[tactic(auto, unfolding(crate::specs::Initialisers::entry_from, cx_cursor::specs::Reading::bind))]
-fn entry_from(alloc: Global, cursor: &mut Cursor<'_>, depth: u32) -> Result<ReadEntry, Fault>
-    requires { depth < 2 ^ 31 }
+fn entry_from<F: Fn(&mut Cursor<'_>, u32, Wanted) -> Result<Found, Fault>>(
+    alloc: Global,
+    cursor: &mut Cursor<'_>,
+    depth: u32,
+    below: &F,
+) -> Result<ReadEntry, Fault>
+    requires parts { IsBelow (F.pre below.now) (F.post below.now) depth }
+    requires depth { depth < 2 ^ 31 }
     ensures reads { Answers (λ r. entry_view r.tree) result cursor.new (reader.entry_from (readers depth) cursor.old) }
     ensures depth { IfOk result (λ r. r.depth ≡ entry_depth (entry_view r.tree)) }
     ensures within { IfOk result (λ r. r.depth ≤ suc depth) }
 {
     if sees_designator(cursor) {
-        return designated(alloc, cursor, depth);
+        return designated(alloc, cursor, depth, below);
     }
-    let init = initialiser(alloc, cursor, depth)?;
+    let init = initialiser(alloc, cursor, depth, below)?;
     let depth = init.depth + 1;
     let entry = Entry {
         designators: Items::new(alloc),
@@ -208,10 +227,15 @@ fn entry_from(alloc: Global, cursor: &mut Cursor<'_>, depth: u32) -> Result<Read
 }
 
 // An initialiser in a list, at most `depth` nodes deep.
-#[cycle(knot)]
-#[tactic(auto, using(crate::proofs::Turns::entry_none, crate::proofs::Turns::entry_some))]
-fn entry(alloc: Global, cursor: &mut Cursor<'_>, depth: u32) -> Result<ReadEntry, Fault>
-    requires { depth < 2 ^ 31 }
+#[tactic(auto, using(crate::proofs::Turns::entry_none, crate::proofs::Turns::entry_some, crate::proofs::Shallow::shallower))]
+fn entry<F: Fn(&mut Cursor<'_>, u32, Wanted) -> Result<Found, Fault>>(
+    alloc: Global,
+    cursor: &mut Cursor<'_>,
+    depth: u32,
+    below: &F,
+) -> Result<ReadEntry, Fault>
+    requires parts { IsBelow (F.pre below.now) (F.post below.now) depth }
+    requires depth { depth < 2 ^ 31 }
     ensures reads { Answers (λ r. entry_view r.tree) result cursor.new ((readers depth).entry cursor.old) }
     ensures depth { IfOk result (λ r. r.depth ≡ entry_depth (entry_view r.tree)) }
     ensures within { IfOk result (λ r. r.depth ≤ depth) }
@@ -219,18 +243,19 @@ fn entry(alloc: Global, cursor: &mut Cursor<'_>, depth: u32) -> Result<ReadEntry
     if depth == 0 {
         return Err(cursor.no_tree());
     }
-    entry_from(alloc, cursor, depth - 1)
+    entry_from(alloc, cursor, depth - 1, below)
 }
 
 // A comma and the entry behind it.
-#[cycle(knot)]
 #[tactic(auto, unfolding(cx_cursor::specs::Lists::taking, cx_cursor::specs::Lists::comma_item, cx_cursor::specs::Reading::bind))]
-fn next_entry(
+fn next_entry<F: Fn(&mut Cursor<'_>, u32, Wanted) -> Result<Found, Fault>>(
     alloc: Global,
     cursor: &mut Cursor<'_>,
     depth: u32,
+    below: &F,
     list: Listed<Entry>,
 ) -> Result<Listed<Entry>, Fault>
+    requires parts { IsBelow (F.pre below.now) (F.post below.now) depth }
     requires depth { depth < 2 ^ 31 }
     requires measured { list.depth ≡ entries_depth (entries (map entry_view list.list)) }
     requires within { list.depth ≤ depth }
@@ -241,20 +266,21 @@ fn next_entry(
 {
     let mut list = list;
     list.push_line(cursor.mark(Punct::Comma)?)?;
-    let one = entry(alloc, cursor, depth)?;
+    let one = entry(alloc, cursor, depth, below)?;
     list.push(one)?;
     Ok(list)
 }
 
 // The entries behind the first.
-#[cycle(knot)]
 #[tactic(auto, using(cx_cursor::proofs::Turns::many_out, cx_cursor::proofs::Turns::many_stop, cx_cursor::proofs::Turns::many_goes), unfolding(cx_cursor::specs::Lists::many_ahead, cx_cursor::specs::Reading::bind))]
-fn entries_behind(
+fn entries_behind<F: Fn(&mut Cursor<'_>, u32, Wanted) -> Result<Found, Fault>>(
     alloc: Global,
     cursor: &mut Cursor<'_>,
     depth: u32,
+    below: &F,
     list: Listed<Entry>,
 ) -> Result<Listed<Entry>, Fault>
+    requires parts { IsBelow (F.pre below.now) (F.post below.now) depth }
     requires depth { depth < 2 ^ 31 }
     requires measured { list.depth ≡ entries_depth (entries (map entry_view list.list)) }
     requires within { list.depth ≤ depth }
@@ -268,7 +294,7 @@ fn entries_behind(
         if no_further(cursor) {
             return Ok(list);
         }
-        list = next_entry(alloc, cursor, depth, list)?;
+        list = next_entry(alloc, cursor, depth, below, list)?;
     }
     Err(cursor.no_tree())
 }
@@ -303,30 +329,40 @@ fn closed(cursor: &mut Cursor<'_>, entries: Listed<Entry>) -> Result<ReadEntries
 }
 
 // The entries in braces.
-#[cycle(knot)]
 #[tactic(auto, unfolding(crate::specs::Specifiers::items_in, cx_cursor::specs::Reading::bind))]
-fn braced(alloc: Global, cursor: &mut Cursor<'_>, depth: u32) -> Result<Listed<Entry>, Fault>
-    requires { depth < 2 ^ 31 }
+fn braced<F: Fn(&mut Cursor<'_>, u32, Wanted) -> Result<Found, Fault>>(
+    alloc: Global,
+    cursor: &mut Cursor<'_>,
+    depth: u32,
+    below: &F,
+) -> Result<Listed<Entry>, Fault>
+    requires parts { IsBelow (F.pre below.now) (F.post below.now) depth }
+    requires depth { depth < 2 ^ 31 }
     ensures reads { Answers (λ l. list_read (map entry_view l.list) l.lines) result cursor.new (braces.items_in (readers depth).entry [] cursor.old) }
     ensures depth { IfOk result (λ l. l.depth ≡ entries_depth (entries (map entry_view l.list))) }
     ensures within { IfOk result (λ l. l.depth ≤ depth) }
 {
     let mut list = Listed::new(alloc, one_line(alloc, cursor.mark(Punct::LeftBrace)?)?);
-    let one = entry(alloc, cursor, depth)?;
+    let one = entry(alloc, cursor, depth, below)?;
     list.push(one)?;
-    entries_behind(alloc, cursor, depth, list)
+    entries_behind(alloc, cursor, depth, below, list)
 }
 
-// A list of initialisers whose parts are at most `depth` nodes deep.
-#[cycle(knot)]
+/// Reads a list of initialisers in braces whose parts are at most `depth` nodes deep.
 #[tactic(auto, unfolding(crate::specs::Initialisers::list_from, crate::specs::Specifiers::braced, cx_cursor::specs::Reading::bind))]
-fn list_from(alloc: Global, cursor: &mut Cursor<'_>, depth: u32) -> Result<ReadList, Fault>
-    requires { depth < 2 ^ 31 }
+pub fn list_from<F: Fn(&mut Cursor<'_>, u32, Wanted) -> Result<Found, Fault>>(
+    alloc: Global,
+    cursor: &mut Cursor<'_>,
+    depth: u32,
+    below: &F,
+) -> Result<ReadList, Fault>
+    requires parts { IsBelow (F.pre below.now) (F.post below.now) depth }
+    requires depth { depth < 2 ^ 31 }
     ensures reads { Answers (λ r. initialiser_list_view r.tree) result cursor.new (reader.list_from (readers depth) cursor.old) }
     ensures depth { IfOk result (λ r. r.depth ≡ initialiser_list_depth (initialiser_list_view r.tree)) }
     ensures within { IfOk result (λ r. r.depth ≤ suc depth) }
 {
-    let entries = braced(alloc, cursor, depth)?;
+    let entries = braced(alloc, cursor, depth, below)?;
     let depth = entries.depth + 1;
     let read = closed(cursor, entries)?;
     let list = InitialiserList {
@@ -336,19 +372,4 @@ fn list_from(alloc: Global, cursor: &mut Cursor<'_>, depth: u32) -> Result<ReadL
     };
     let tree = Boxed::new(alloc, list)?;
     Ok(Measured { tree, depth })
-}
-
-/// Reads a list of initialisers in braces, at most `depth` nodes deep.
-#[cycle(knot)]
-#[tactic(auto, using(crate::proofs::Turns::list_none, crate::proofs::Turns::list_some))]
-pub fn list(alloc: Global, cursor: &mut Cursor<'_>, depth: u32) -> Result<ReadList, Fault>
-    requires { depth < 2 ^ 31 }
-    ensures reads { Answers (λ r. initialiser_list_view r.tree) result cursor.new ((readers depth).list cursor.old) }
-    ensures depth { IfOk result (λ r. r.depth ≡ initialiser_list_depth (initialiser_list_view r.tree)) }
-    ensures within { IfOk result (λ r. r.depth ≤ depth) }
-{
-    if depth == 0 {
-        return Err(cursor.no_tree());
-    }
-    list_from(alloc, cursor, depth - 1)
 }

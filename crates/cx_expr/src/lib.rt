@@ -1,33 +1,24 @@
-//! Readers of expressions and of what may stand in them (ISO C99, 6.5 to 6.7): type names, specifiers,
-//! declarators and initialisers.
+//! Readers of expressions and of initialisers (ISO C99, 6.5 and 6.7.8), over the readers of their parts, which `below` is; and
+//! what the readers of all that may hold one another are (6.5 to 6.7).
 //!
-//! A function whose parameter is `depth` reads what has parts that are at most so many nodes deep; those
-//! without `_from` in their name read what is itself at most so deep.
+//! A function whose parameter is `depth` reads what has parts that are at most so many nodes deep: those that
+//! `below` gives are.
 #![tactic(auto)]
 
-mod brackets;
+pub mod below;
 mod climbing;
-mod continuation;
-mod declarators;
-mod enumerators;
 mod exprs;
-mod form;
-mod functions;
 mod initialisers;
-pub mod level;
-mod members;
 mod nodes;
 mod primaries;
-mod specifiers;
 mod tails;
 mod typed;
-mod words;
+mod wanted;
 
-pub use declarators::{ReadDeclarator, declarator};
-pub use exprs::expr;
-pub use form::Form;
-pub use functions::declare;
-pub use initialisers::initialiser;
-pub use nodes::{ReadExpr, ReadInitialiser};
-pub use specifiers::{ReadSpecs, specs_from};
-pub use words::shows_spec;
+pub use exprs::expr_from;
+pub use initialisers::{initialiser, list_from};
+pub use nodes::{
+    ReadDeclarator, ReadEnumerator, ReadExpr, ReadInitialiser, ReadMember, ReadMemberDeclarator,
+    ReadParam, ReadSpec, ReadTypeName, spec_of,
+};
+pub use wanted::{Found, Wanted};

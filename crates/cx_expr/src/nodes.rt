@@ -3,10 +3,10 @@
 ghost use Rattle.std.specs.Prelude.{◌≡◌, IfOk};
 ghost use Rattle.cx_tree.specs.Views.{expr_view, spec_view};
 
-use cr_base::{Boxed, Memory};
-use cx_cursor::Measured;
+use cr_base::{Boxed, Items, Memory};
+use cx_cursor::{Bound, Measured};
 use cx_tree::{
-    Designator, Entry, Enumerator, Expr, Initialiser, InitialiserList, MemberDecl,
+    Declarator, Designator, Entry, Enumerator, Expr, Initialiser, InitialiserList, MemberDecl,
     MemberDeclarator, Param, Spec, TypeName,
 };
 use std::alloc::Global;
@@ -33,6 +33,15 @@ pub type ReadList = Measured<Boxed<InitialiserList>>;
 pub type ReadEntry = Measured<Boxed<Entry>>;
 
 pub type ReadDesignator = Measured<Boxed<Designator>>;
+
+/// A declarator that was read, its depth, and the names that the parameters of its own function declare
+/// (none where it is no function's).
+#[derive(Drop)]
+pub struct ReadDeclarator {
+    pub tree: Boxed<Declarator>,
+    pub depth: u32,
+    pub own: Items<Bound>,
+}
 
 /// An expression in a box, with its depth.
 pub fn expr_of(alloc: Global, tree: Expr, depth: u32) -> Result<ReadExpr, Memory>

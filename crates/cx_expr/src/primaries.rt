@@ -3,20 +3,22 @@
 ghost use Rattle.std.specs.Prelude.{◌≡◌, ◌≤◌, ◌<◌, ◌^◌, suc, map, IfOk, ◌∷◌, []};
 ghost use Rattle.cx_cursor.specs.Reading.{Answers};
 ghost use Rattle.cx_expr.specs.Exprs as reader;
+ghost use Rattle.cx_expr.specs.Asked.{IsBelow};
 ghost use Rattle.cx_expr.specs.Knot.{readers};
 ghost use Rattle.cx_tree.specs.Depth.{expr_depth};
 ghost use Rattle.cx_tree.specs.Views.{expr_view};
 ghost use Rattle.cx_cursor.specs.Lists.{list_read, many_ahead, taking};
 ghost use Rattle.cx_cursor.specs.Sights.{text};
 
-use crate::exprs::expr;
-use crate::level::{CAST, EXPRESSION, UNARY};
+use crate::below::expr;
 use crate::nodes::{ReadExpr, expr_of};
 use crate::typed::{parenthesised, sizeof};
+use crate::wanted::{Found, Wanted};
 use cr_base::{Boxed, Items, Name};
 use cx_cursor::{Cursor, Fault, Sight, one_line, same_mark, two_lines};
 use cx_lex::Punct;
 use cx_tree::{Expr, is_unary_operator};
+use cx_words::level::{CAST, EXPRESSION, UNARY};
 use std::alloc::Global;
 
 // An identifier (6.5.1).
@@ -108,16 +110,21 @@ fn texts(alloc: Global, cursor: &mut Cursor<'_>) -> Result<ReadExpr, Fault>
 }
 
 // An expression in parentheses (6.5.1).
-#[cycle(knot)]
 #[tactic(auto, unfolding(crate::specs::Exprs::paren, cx_cursor::specs::Reading::bind))]
-pub fn paren(alloc: Global, cursor: &mut Cursor<'_>, depth: u32) -> Result<ReadExpr, Fault>
-    requires { depth < 2 ^ 31 }
+pub fn paren<F: Fn(&mut Cursor<'_>, u32, Wanted) -> Result<Found, Fault>>(
+    alloc: Global,
+    cursor: &mut Cursor<'_>,
+    depth: u32,
+    below: &F,
+) -> Result<ReadExpr, Fault>
+    requires parts { IsBelow (F.pre below.now) (F.post below.now) depth }
+    requires depth { depth < 2 ^ 31 }
     ensures reads { Answers (λ r. expr_view r.tree) result cursor.new (reader.paren (readers depth) cursor.old) }
     ensures depth { IfOk result (λ r. r.depth ≡ expr_depth (expr_view r.tree)) }
     ensures within { IfOk result (λ r. r.depth ≤ suc depth) }
 {
     let first = cursor.mark(Punct::LeftParenthesis)?;
-    let inner = expr(alloc, cursor, depth, EXPRESSION)?;
+    let inner = expr(cursor, depth, below, EXPRESSION)?;
     let last = cursor.mark(Punct::RightParenthesis)?;
     let lines = two_lines(alloc, first, last)?;
     let depth = inner.depth + 1;
@@ -136,75 +143,87 @@ fn stepped_of(op: Punct, on: Boxed<Expr>, lines: Items<u32>) -> Expr
 }
 
 // A prefix `++` or `--` and its operand (6.5.3.1).
-#[cycle(knot)]
 #[tactic(auto, unfolding(crate::specs::Exprs::pre_step, cx_cursor::specs::Reading::bind))]
-fn pre_step(alloc: Global, cursor: &mut Cursor<'_>, depth: u32) -> Result<ReadExpr, Fault>
-    requires { depth < 2 ^ 31 }
+fn pre_step<F: Fn(&mut Cursor<'_>, u32, Wanted) -> Result<Found, Fault>>(
+    alloc: Global,
+    cursor: &mut Cursor<'_>,
+    depth: u32,
+    below: &F,
+) -> Result<ReadExpr, Fault>
+    requires parts { IsBelow (F.pre below.now) (F.post below.now) depth }
+    requires depth { depth < 2 ^ 31 }
     ensures reads { Answers (λ r. expr_view r.tree) result cursor.new (reader.pre_step (readers depth) cursor.old) }
     ensures depth { IfOk result (λ r. r.depth ≡ expr_depth (expr_view r.tree)) }
     ensures within { IfOk result (λ r. r.depth ≤ suc depth) }
 {
     let (op, line) = cursor.operator()?;
     let lines = one_line(alloc, line)?;
-    let on = expr(alloc, cursor, depth, UNARY)?;
+    let on = expr(cursor, depth, below, UNARY)?;
     let depth = on.depth + 1;
     Ok(expr_of(alloc, stepped_of(op, on.tree, lines), depth)?)
 }
 
 // A unary operator and its operand (6.5.3.2, 6.5.3.3).
-#[cycle(knot)]
 #[tactic(auto, unfolding(crate::specs::Exprs::unary, cx_cursor::specs::Reading::bind))]
-fn unary(alloc: Global, cursor: &mut Cursor<'_>, depth: u32) -> Result<ReadExpr, Fault>
-    requires { depth < 2 ^ 31 }
+fn unary<F: Fn(&mut Cursor<'_>, u32, Wanted) -> Result<Found, Fault>>(
+    alloc: Global,
+    cursor: &mut Cursor<'_>,
+    depth: u32,
+    below: &F,
+) -> Result<ReadExpr, Fault>
+    requires parts { IsBelow (F.pre below.now) (F.post below.now) depth }
+    requires depth { depth < 2 ^ 31 }
     ensures reads { Answers (λ r. expr_view r.tree) result cursor.new (reader.unary (readers depth) cursor.old) }
     ensures depth { IfOk result (λ r. r.depth ≡ expr_depth (expr_view r.tree)) }
     ensures within { IfOk result (λ r. r.depth ≤ suc depth) }
 {
     let (op, line) = cursor.operator()?;
     let lines = one_line(alloc, line)?;
-    let on = expr(alloc, cursor, depth, CAST)?;
+    let on = expr(cursor, depth, below, CAST)?;
     let depth = on.depth + 1;
     let on = on.tree;
     Ok(expr_of(alloc, Expr::Unary { op, on, lines }, depth)?)
 }
 
-#[cycle(knot)]
 #[tactic(auto, unfolding(crate::specs::Exprs::start_mark))]
-fn start_mark(
+fn start_mark<F: Fn(&mut Cursor<'_>, u32, Wanted) -> Result<Found, Fault>>(
     alloc: Global,
     cursor: &mut Cursor<'_>,
     depth: u32,
+    below: &F,
     least: u32,
     punct: Punct,
 ) -> Result<ReadExpr, Fault>
-    requires { depth < 2 ^ 31 }
+    requires parts { IsBelow (F.pre below.now) (F.post below.now) depth }
+    requires depth { depth < 2 ^ 31 }
     ensures reads { Answers (λ r. expr_view r.tree) result cursor.new (reader.start_mark (readers depth) least punct cursor.old) }
     ensures depth { IfOk result (λ r. r.depth ≡ expr_depth (expr_view r.tree)) }
     ensures within { IfOk result (λ r. r.depth ≤ suc depth) }
 {
     if same_mark(punct, Punct::LeftParenthesis) {
-        return parenthesised(alloc, cursor, depth, least);
+        return parenthesised(alloc, cursor, depth, below, least);
     }
     if same_mark(punct, Punct::PlusPlus) || same_mark(punct, Punct::MinusMinus) {
-        return pre_step(alloc, cursor, depth);
+        return pre_step(alloc, cursor, depth, below);
     }
     if is_unary_operator(punct) {
-        return unary(alloc, cursor, depth);
+        return unary(alloc, cursor, depth, below);
     }
     Err(cursor.no_tree())
 }
 
 /// An expression of the level `least` or above that begins with no left operand, whose parts are at most
 /// `depth` nodes deep.
-#[cycle(knot)]
 #[tactic(auto, unfolding(crate::specs::Exprs::start))]
-pub fn start(
+pub fn start<F: Fn(&mut Cursor<'_>, u32, Wanted) -> Result<Found, Fault>>(
     alloc: Global,
     cursor: &mut Cursor<'_>,
     depth: u32,
+    below: &F,
     least: u32,
 ) -> Result<ReadExpr, Fault>
-    requires { depth < 2 ^ 31 }
+    requires parts { IsBelow (F.pre below.now) (F.post below.now) depth }
+    requires depth { depth < 2 ^ 31 }
     ensures reads { Answers (λ r. expr_view r.tree) result cursor.new (reader.start (readers depth) least cursor.old) }
     ensures depth { IfOk result (λ r. r.depth ≡ expr_depth (expr_view r.tree)) }
     ensures within { IfOk result (λ r. r.depth ≤ suc depth) }
@@ -214,8 +233,8 @@ pub fn start(
         Sight::Number => constant(alloc, cursor),
         Sight::Letter => character(alloc, cursor),
         Sight::Text => texts(alloc, cursor),
-        Sight::Mark(punct) => start_mark(alloc, cursor, depth, least, punct),
-        Sight::Key(_) => sizeof(alloc, cursor, depth),
+        Sight::Mark(punct) => start_mark(alloc, cursor, depth, below, least, punct),
+        Sight::Key(_) => sizeof(alloc, cursor, depth, below),
         _ => Err(cursor.no_tree()),
     }
 }

@@ -3,21 +3,23 @@
 ghost use Rattle.std.specs.Prelude.{◌≡◌, ◌≤◌, ◌<◌, ◌^◌, suc, map, max, IfOk};
 ghost use Rattle.cx_cursor.specs.Reading.{Answers};
 ghost use Rattle.cx_expr.specs.Exprs as reader;
+ghost use Rattle.cx_expr.specs.Asked.{IsBelow};
 ghost use Rattle.cx_expr.specs.Knot.{readers};
 ghost use Rattle.cx_expr.specs.Tails.{join, tail_view, tail_depth};
 ghost use Rattle.cx_cursor.specs.Lists as lists;
 ghost use Rattle.cx_cursor.specs.Lists.{list_read};
-ghost use Rattle.cx_expr.specs.Continuations as continuations;
+ghost use Rattle.cx_words.specs.Continuations as continuations;
 ghost use Rattle.cx_tree.specs.Depth.{exprs_depth};
 ghost use Rattle.cx_tree.specs.Views.{expr_view, exprs};
 
-use crate::continuation::Continuation;
-use crate::exprs::expr;
-use crate::level::{ASSIGNMENT, CONDITIONAL, EXPRESSION};
+use crate::below::expr;
+use crate::wanted::{Found, Wanted};
 use cr_base::{Boxed, Items, Memory, Name};
 use cx_cursor::{Cursor, Fault, Listed, Measured, one_line, same_mark, two_lines};
 use cx_lex::Punct;
 use cx_tree::Expr;
+use cx_words::Continuation;
+use cx_words::level::{ASSIGNMENT, CONDITIONAL, EXPRESSION};
 use std::alloc::Global;
 
 /// What stands behind a left operand, without it.
@@ -131,16 +133,21 @@ fn tail_of(alloc: Global, tail: Tail, depth: u32) -> Result<ReadTail, Memory>
 }
 
 // An index in brackets (6.5.2.1).
-#[cycle(knot)]
 #[tactic(auto, unfolding(crate::specs::Exprs::indexes, cx_cursor::specs::Reading::bind))]
-fn indexes(alloc: Global, cursor: &mut Cursor<'_>, depth: u32) -> Result<ReadTail, Fault>
-    requires { depth < 2 ^ 31 }
+fn indexes<F: Fn(&mut Cursor<'_>, u32, Wanted) -> Result<Found, Fault>>(
+    alloc: Global,
+    cursor: &mut Cursor<'_>,
+    depth: u32,
+    below: &F,
+) -> Result<ReadTail, Fault>
+    requires parts { IsBelow (F.pre below.now) (F.post below.now) depth }
+    requires depth { depth < 2 ^ 31 }
     ensures reads { Answers (λ r. tail_view r.tree) result cursor.new (reader.indexes (readers depth) cursor.old) }
     ensures depth { IfOk result (λ r. r.depth ≡ tail_depth (tail_view r.tree)) }
     ensures within { IfOk result (λ r. r.depth ≤ depth) }
 {
     let first = cursor.mark(Punct::LeftBracket)?;
-    let index = expr(alloc, cursor, depth, EXPRESSION)?;
+    let index = expr(cursor, depth, below, EXPRESSION)?;
     let last = cursor.mark(Punct::RightBracket)?;
     let lines = two_lines(alloc, first, last)?;
     let depth = index.depth;
@@ -149,14 +156,15 @@ fn indexes(alloc: Global, cursor: &mut Cursor<'_>, depth: u32) -> Result<ReadTai
 }
 
 // A comma and the argument behind it.
-#[cycle(knot)]
 #[tactic(auto, unfolding(cx_cursor::specs::Lists::taking, cx_cursor::specs::Lists::comma_item, cx_cursor::specs::Reading::bind))]
-fn next_arg(
+fn next_arg<F: Fn(&mut Cursor<'_>, u32, Wanted) -> Result<Found, Fault>>(
     alloc: Global,
     cursor: &mut Cursor<'_>,
     depth: u32,
+    below: &F,
     args: Listed<Expr>,
 ) -> Result<Listed<Expr>, Fault>
+    requires parts { IsBelow (F.pre below.now) (F.post below.now) depth }
     requires depth { depth < 2 ^ 31 }
     requires within { args.depth ≤ depth }
     requires measured { args.depth ≡ exprs_depth (exprs (map expr_view args.list)) }
@@ -167,20 +175,21 @@ fn next_arg(
 {
     let mut args = args;
     args.push_line(cursor.mark(Punct::Comma)?)?;
-    let one = expr(alloc, cursor, depth, ASSIGNMENT)?;
+    let one = expr(cursor, depth, below, ASSIGNMENT)?;
     args.push(one)?;
     Ok(args)
 }
 
 // The arguments behind the first, each behind a comma.
-#[cycle(knot)]
 #[tactic(auto, using(cx_cursor::proofs::Turns::many_out, cx_cursor::proofs::Turns::many_stop, cx_cursor::proofs::Turns::many_goes), unfolding(cx_cursor::specs::Lists::many_ahead, cx_cursor::specs::Reading::bind))]
-fn args_behind(
+fn args_behind<F: Fn(&mut Cursor<'_>, u32, Wanted) -> Result<Found, Fault>>(
     alloc: Global,
     cursor: &mut Cursor<'_>,
     depth: u32,
+    below: &F,
     args: Listed<Expr>,
 ) -> Result<Listed<Expr>, Fault>
+    requires parts { IsBelow (F.pre below.now) (F.post below.now) depth }
     requires depth { depth < 2 ^ 31 }
     requires within { args.depth ≤ depth }
     requires measured { args.depth ≡ exprs_depth (exprs (map expr_view args.list)) }
@@ -194,22 +203,23 @@ fn args_behind(
         if !cursor.sees(Punct::Comma) {
             return Ok(args);
         }
-        args = next_arg(alloc, cursor, depth, args)?;
+        args = next_arg(alloc, cursor, depth, below, args)?;
     }
     Err(cursor.no_tree())
 }
 
 // The arguments of a call, none where the list ends at once. `first` is the line of the parenthesis in front
 // of them.
-#[cycle(knot)]
 #[tactic(auto, unfolding(crate::specs::Exprs::args, crate::specs::Exprs::some_args, cx_cursor::specs::Reading::bind))]
-fn args(
+fn args<F: Fn(&mut Cursor<'_>, u32, Wanted) -> Result<Found, Fault>>(
     alloc: Global,
     cursor: &mut Cursor<'_>,
     depth: u32,
+    below: &F,
     first: u32,
 ) -> Result<Listed<Expr>, Fault>
-    requires { depth < 2 ^ 31 }
+    requires parts { IsBelow (F.pre below.now) (F.post below.now) depth }
+    requires depth { depth < 2 ^ 31 }
     ensures reads { Answers (λ l. list_read (map expr_view l.list) l.lines) result cursor.new (reader.args (readers depth) first cursor.old) }
     ensures depth { IfOk result (λ l. l.depth ≡ exprs_depth (exprs (map expr_view l.list))) }
     ensures within { IfOk result (λ l. l.depth ≤ depth) }
@@ -218,22 +228,27 @@ fn args(
     if cursor.sees(Punct::RightParenthesis) {
         return Ok(args);
     }
-    let one = expr(alloc, cursor, depth, ASSIGNMENT)?;
+    let one = expr(cursor, depth, below, ASSIGNMENT)?;
     args.push(one)?;
-    args_behind(alloc, cursor, depth, args)
+    args_behind(alloc, cursor, depth, below, args)
 }
 
 // The arguments of a call in their parentheses (6.5.2.2).
-#[cycle(knot)]
 #[tactic(auto, unfolding(crate::specs::Exprs::calls, cx_cursor::specs::Reading::bind))]
-fn calls(alloc: Global, cursor: &mut Cursor<'_>, depth: u32) -> Result<ReadTail, Fault>
-    requires { depth < 2 ^ 31 }
+fn calls<F: Fn(&mut Cursor<'_>, u32, Wanted) -> Result<Found, Fault>>(
+    alloc: Global,
+    cursor: &mut Cursor<'_>,
+    depth: u32,
+    below: &F,
+) -> Result<ReadTail, Fault>
+    requires parts { IsBelow (F.pre below.now) (F.post below.now) depth }
+    requires depth { depth < 2 ^ 31 }
     ensures reads { Answers (λ r. tail_view r.tree) result cursor.new (reader.calls (readers depth) cursor.old) }
     ensures depth { IfOk result (λ r. r.depth ≡ tail_depth (tail_view r.tree)) }
     ensures within { IfOk result (λ r. r.depth ≤ depth) }
 {
     let first = cursor.mark(Punct::LeftParenthesis)?;
-    let mut list = args(alloc, cursor, depth, first)?;
+    let mut list = args(alloc, cursor, depth, below, first)?;
     list.push_line(cursor.mark(Punct::RightParenthesis)?)?;
     let Listed { list, depth, lines } = list;
     Ok(tail_of(alloc, Tail::Call { args: list, lines }, depth)?)
@@ -285,14 +300,15 @@ fn steps(alloc: Global, cursor: &mut Cursor<'_>) -> Result<ReadTail, Fault>
 }
 
 // A binary operator of this level, and its right operand (6.5.5 to 6.5.14).
-#[cycle(knot)]
 #[tactic(auto, unfolding(crate::specs::Exprs::operates, cx_cursor::specs::Reading::bind))]
-fn operates(
+fn operates<F: Fn(&mut Cursor<'_>, u32, Wanted) -> Result<Found, Fault>>(
     alloc: Global,
     cursor: &mut Cursor<'_>,
     depth: u32,
+    below: &F,
     level: u32,
 ) -> Result<ReadTail, Fault>
+    requires parts { IsBelow (F.pre below.now) (F.post below.now) depth }
     requires depth { depth < 2 ^ 31 }
     requires level { level < 2 ^ 31 }
     ensures reads { Answers (λ r. tail_view r.tree) result cursor.new (reader.operates (readers depth) level cursor.old) }
@@ -301,42 +317,52 @@ fn operates(
 {
     let (op, line) = cursor.operator()?;
     let lines = one_line(alloc, line)?;
-    let right = expr(alloc, cursor, depth, level + 1)?;
+    let right = expr(cursor, depth, below, level + 1)?;
     let depth = right.depth;
     let right = right.tree;
     Ok(tail_of(alloc, Tail::Binary { op, right, lines }, depth)?)
 }
 
 // An assignment operator, and its right operand (6.5.16).
-#[cycle(knot)]
 #[tactic(auto, unfolding(crate::specs::Exprs::assigns, cx_cursor::specs::Reading::bind))]
-fn assigns(alloc: Global, cursor: &mut Cursor<'_>, depth: u32) -> Result<ReadTail, Fault>
-    requires { depth < 2 ^ 31 }
+fn assigns<F: Fn(&mut Cursor<'_>, u32, Wanted) -> Result<Found, Fault>>(
+    alloc: Global,
+    cursor: &mut Cursor<'_>,
+    depth: u32,
+    below: &F,
+) -> Result<ReadTail, Fault>
+    requires parts { IsBelow (F.pre below.now) (F.post below.now) depth }
+    requires depth { depth < 2 ^ 31 }
     ensures reads { Answers (λ r. tail_view r.tree) result cursor.new (reader.assigns (readers depth) cursor.old) }
     ensures depth { IfOk result (λ r. r.depth ≡ tail_depth (tail_view r.tree)) }
     ensures within { IfOk result (λ r. r.depth ≤ depth) }
 {
     let (op, line) = cursor.operator()?;
     let lines = one_line(alloc, line)?;
-    let right = expr(alloc, cursor, depth, ASSIGNMENT)?;
+    let right = expr(cursor, depth, below, ASSIGNMENT)?;
     let depth = right.depth;
     let right = right.tree;
     Ok(tail_of(alloc, Tail::Assign { op, right, lines }, depth)?)
 }
 
 // The second and the third operand of `?:` (6.5.15).
-#[cycle(knot)]
 #[tactic(auto, unfolding(crate::specs::Exprs::chooses, cx_cursor::specs::Reading::bind))]
-fn chooses(alloc: Global, cursor: &mut Cursor<'_>, depth: u32) -> Result<ReadTail, Fault>
-    requires { depth < 2 ^ 31 }
+fn chooses<F: Fn(&mut Cursor<'_>, u32, Wanted) -> Result<Found, Fault>>(
+    alloc: Global,
+    cursor: &mut Cursor<'_>,
+    depth: u32,
+    below: &F,
+) -> Result<ReadTail, Fault>
+    requires parts { IsBelow (F.pre below.now) (F.post below.now) depth }
+    requires depth { depth < 2 ^ 31 }
     ensures reads { Answers (λ r. tail_view r.tree) result cursor.new (reader.chooses (readers depth) cursor.old) }
     ensures depth { IfOk result (λ r. r.depth ≡ tail_depth (tail_view r.tree)) }
     ensures within { IfOk result (λ r. r.depth ≤ depth) }
 {
     let first = cursor.mark(Punct::Question)?;
-    let if_true = expr(alloc, cursor, depth, EXPRESSION)?;
+    let if_true = expr(cursor, depth, below, EXPRESSION)?;
     let lines = two_lines(alloc, first, cursor.mark(Punct::Colon)?)?;
-    let if_false = expr(alloc, cursor, depth, CONDITIONAL)?;
+    let if_false = expr(cursor, depth, below, CONDITIONAL)?;
     let depth = if_true.depth.max(if_false.depth);
     let choice = Tail::Cond {
         if_true: if_true.tree,
@@ -347,30 +373,36 @@ fn chooses(alloc: Global, cursor: &mut Cursor<'_>, depth: u32) -> Result<ReadTai
 }
 
 // A comma, and its right operand (6.5.17).
-#[cycle(knot)]
 #[tactic(auto, unfolding(crate::specs::Exprs::commas, cx_cursor::specs::Reading::bind))]
-fn commas(alloc: Global, cursor: &mut Cursor<'_>, depth: u32) -> Result<ReadTail, Fault>
-    requires { depth < 2 ^ 31 }
+fn commas<F: Fn(&mut Cursor<'_>, u32, Wanted) -> Result<Found, Fault>>(
+    alloc: Global,
+    cursor: &mut Cursor<'_>,
+    depth: u32,
+    below: &F,
+) -> Result<ReadTail, Fault>
+    requires parts { IsBelow (F.pre below.now) (F.post below.now) depth }
+    requires depth { depth < 2 ^ 31 }
     ensures reads { Answers (λ r. tail_view r.tree) result cursor.new (reader.commas (readers depth) cursor.old) }
     ensures depth { IfOk result (λ r. r.depth ≡ tail_depth (tail_view r.tree)) }
     ensures within { IfOk result (λ r. r.depth ≤ depth) }
 {
     let (_, line) = cursor.operator()?;
     let lines = one_line(alloc, line)?;
-    let right = expr(alloc, cursor, depth, ASSIGNMENT)?;
+    let right = expr(cursor, depth, below, ASSIGNMENT)?;
     let depth = right.depth;
     let right = right.tree;
     Ok(tail_of(alloc, Tail::Comma { right, lines }, depth)?)
 }
 
 /// What continues a left operand.
-#[cycle(knot)]
-pub fn read_tail(
+pub fn read_tail<F: Fn(&mut Cursor<'_>, u32, Wanted) -> Result<Found, Fault>>(
     alloc: Global,
     cursor: &mut Cursor<'_>,
     depth: u32,
+    below: &F,
     continuation: Continuation,
 ) -> Result<ReadTail, Fault>
+    requires parts { IsBelow (F.pre below.now) (F.post below.now) depth }
     requires depth { depth < 2 ^ 31 }
     requires level { continuations.strength continuation < 2 ^ 31 }
     ensures reads { Answers (λ r. tail_view r.tree) result cursor.new (reader.tail (readers depth) continuation cursor.old) }
@@ -378,14 +410,14 @@ pub fn read_tail(
     ensures within { IfOk result (λ r. r.depth ≤ depth) }
 {
     match continuation {
-        Continuation::Indexes => indexes(alloc, cursor, depth),
-        Continuation::Calls => calls(alloc, cursor, depth),
+        Continuation::Indexes => indexes(alloc, cursor, depth, below),
+        Continuation::Calls => calls(alloc, cursor, depth, below),
         Continuation::Picks => picks(alloc, cursor),
         Continuation::Steps => steps(alloc, cursor),
-        Continuation::Operates(level) => operates(alloc, cursor, depth, level),
-        Continuation::Assigns => assigns(alloc, cursor, depth),
-        Continuation::Chooses => chooses(alloc, cursor, depth),
-        Continuation::Commas => commas(alloc, cursor, depth),
+        Continuation::Operates(level) => operates(alloc, cursor, depth, below, level),
+        Continuation::Assigns => assigns(alloc, cursor, depth, below),
+        Continuation::Chooses => chooses(alloc, cursor, depth, below),
+        Continuation::Commas => commas(alloc, cursor, depth, below),
         Continuation::Nothing => Err(cursor.no_tree()),
     }
 }

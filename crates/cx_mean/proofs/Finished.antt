@@ -15,7 +15,7 @@ use Rattle.cx_mean.proofs.Quiet.{begun_quiet}
 use Rattle.mem_bytes.specs.Access.{and_then}
 use Rattle.mem_bytes.specs.Memory.{Blocks}
 use Rattle.mem_bytes.specs.declared.value.Value.TheVariants.{Whole as Number}
-use Rattle.cx_mean.specs.Numbers.{number_of_truth}
+use Rattle.cx_numbers.specs.Numbers.{number_of_truth}
 
 -- the state behind a function's return
 abbrev pub back : Frame → List CCaller → CValue → World → CState

@@ -19,7 +19,7 @@ use Rattle.cx_mean.specs.Accesses.{CKind, of_scalar, of_record, scalar_kind, rec
 use Rattle.cx_mean.specs.Initialisers.{part_with}
 use Rattle.cx_mean.specs.Marks.{Marks, Range, any_overlap, bits_of_bytes, bits_of_field, with_write}
 use Rattle.cx_mean.specs.Nodes.{pointed_to, member_of_place, value_part, member_of_kind, member_bits, member_with, member_value}
-use Rattle.cx_mean.specs.Numbers.{represents}
+use Rattle.cx_numbers.specs.Numbers.{represents}
 use Rattle.cx_mean.specs.Operands.{CWhy, breaks, stuck, needed, accessed, by_pointers, CValue, scalar, cells, names, designates, designates_bits, missing, sequenced_after, Frame, place_in, scalar_value}
 use Rattle.cx_mean.specs.Settings.{CSetting, scalar_in_type, extent_in, types_in_setting}
 use Rattle.cx_mean.specs.Unwritten.{KeepsBeside}

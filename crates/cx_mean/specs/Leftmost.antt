@@ -14,7 +14,7 @@ use Rattle.cx_mean.specs.Initialisers.{put_stored}
 use Rattle.cx_mean.specs.Marks.{Marks, no_marks, at_sequence_point}
 use Rattle.cx_mean.specs.Moves.{CPutting, CPurpose, puts_it, drops_it, turns_on, gives_it, chooses_by, CMove, values, reaches, begins, leaves, calls_main, goes_nowhere, CStand, next_of, static_puts, putting, beginning, reached, turning_on}
 use Rattle.cx_mean.specs.Nodes.{CDone, node_done, CUpdating, node_updating, update_computed, update_converted, update_stored, truth_of_value, tested, literal_cleared, marks_after_put}
-use Rattle.cx_mean.specs.Numbers.{number_of_truth}
+use Rattle.cx_numbers.specs.Numbers.{number_of_truth}
 use Rattle.cx_mean.specs.Operands.{CWhy, stuck, CStop, stops, CValue, scalar, names, COperand, at_once, with_marks, Frame}
 use Rattle.cx_mean.specs.Paths.{site_at}
 use Rattle.cx_mean.specs.Run.{CSeen, going, ended, progress_of_stop}

@@ -7,7 +7,6 @@ pub mod Leftmost
 pub mod Marks
 pub mod Moves
 pub mod Nodes
-pub mod Numbers
 pub mod Operands
 pub mod Paths
 pub mod Quiet

@@ -13,7 +13,7 @@ use Rattle.mem_bytes.specs.Pointers.{place_moved}
 use Rattle.cx_mean.specs.Accesses.{CKind, of_scalar, of_record, kind_of, object_at, at_field_place, field_value, CLoaded, loaded, CStored, stored}
 use Rattle.cx_mean.specs.Initialisers.{part_with, object_cleared}
 use Rattle.cx_mean.specs.Marks.{Marks, no_marks, bits_of_bytes, with_write, at_sequence_point, both}
-use Rattle.cx_mean.specs.Numbers.{number_of_truth}
+use Rattle.cx_numbers.specs.Numbers.{number_of_truth}
 use Rattle.cx_mean.specs.Operands.{CWhy, breaks, stuck, needed, accessed, by_pointers, CValue, scalar, cells, names, designates, missing, COperand, Frame, place_in, scalar_value, united_operands}
 use Rattle.cx_mean.specs.Settings.{CSetting, types_in_setting, scalar_in_type}
 use Rattle.cx_mean.specs.Values.{CTyped, is_true, unary_value, binary_value, converted_value}

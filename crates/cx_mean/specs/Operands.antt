@@ -6,6 +6,7 @@ use Rattle.cr_base.specs.declared.rule.URule.TheVariants.{U1, U5, U6, U7, U8, U9
 use Rattle.cx_core.specs.Trees.{CTy}
 use Rattle.cr_world.specs.Held.{HeldFault, access, through_null, not_allocated, overlapping, wrong_kind}
 use Rattle.cr_world.specs.World.{Stop, wrong}
+pub use Rattle.cx_numbers.specs.Numbers.{CWhy, breaks, stuck}
 use Rattle.cx_mean.specs.Marks.{Marks, Range, no_marks, conflict, both, any_overlap}
 use Rattle.mem_bytes.specs.Access.{and_then}
 use Rattle.mem_bytes.specs.declared.cell.Cell.{Cell}
@@ -18,13 +19,6 @@ use Rattle.mem_bytes.specs.declared.value.Value.{Value}
 use Rattle.mem_bytes.specs.declared.value.Value.TheVariants.{Object}
 
 -- ---- what may be wrong
-
--- why a step has no meaning
-pub data CWhy : Type 0 where
-  -- C leaves it undefined, by this rule
-  breaks : URule → CWhy
-  -- no typed program has such a step
-  stuck : CWhy
 
 -- a step that has no meaning, with the place of its node
 pub record CFault : Type 0 where

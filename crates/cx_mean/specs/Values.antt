@@ -11,7 +11,7 @@ use Rattle.cx_core.specs.declared.expr.Op2.{Op2}
 use Rattle.cx_core.specs.declared.expr.Op2.TheVariants.{Add, Subtract, Less, Greater, LessOrEqual, GreaterOrEqual, Equal, NotEqual}
 use Rattle.cx_core.specs.Trees.{CTy, void, basic, enum_type, pointer, array, record_type, function, form_of_type}
 use Rattle.mem_bytes.specs.Pointers.{usable, moved, distance, difference, equality}
-use Rattle.cx_mean.specs.Numbers.{represents, number_of_truth, number_of_binary, number_of_unary}
+use Rattle.cx_numbers.specs.Numbers.{represents, number_of_truth, number_of_binary, number_of_unary}
 use Rattle.cx_mean.specs.Operands.{CWhy, stuck, needed, by_pointers, CValue, scalar, missing, scalar_value}
 use Rattle.cx_mean.specs.Settings.{CSetting, scalar_in_type, element_extent}
 use Rattle.mem_bytes.specs.Access.{and_then}

@@ -7,11 +7,11 @@ use Rattle.cx_cursor.specs.Reading.{State, at}
 use Rattle.cx_cursor.specs.Sights.{sight, same_mark}
 use Rattle.cx_cursor.proofs.Readers.{bind_some}
 use Rattle.cx_expr.specs.Below.{Below}
-use Rattle.cx_expr.specs.Continuations.{continuation_of, goes_on}
+use Rattle.cx_words.specs.Continuations.{continuation_of, goes_on}
 use Rattle.cx_expr.specs.Exprs as read
 use Rattle.cx_expr.specs.Exprs.{picked, stepped, operation, climb}
 use Rattle.cx_expr.specs.Tails.{TailTree, indexed, called, dotted, pointed, up, down, operated, chosen, assigned, sequenced, join}
-use Rattle.cx_expr.specs.declared.continuation.Continuation.{Continuation}
+use Rattle.cx_words.specs.declared.continuation.Continuation.{Continuation}
 use Rattle.cx_lex.specs.declared.token.Punct.TheVariants as punct
 use Rattle.cx_lex.specs.declared.token.Token.{Token}
 use Rattle.cx_parse.proofs.Operands.{tail_tokens, new_tail, continues, joined_tokens, joined_names, spine, bound, Operand, operand, tail_ends, tail_continues, goes_on_true}

@@ -2,7 +2,7 @@
 use Rattle.std.proofs.Common.{◌≡◌, ℕ, ◌<◌, false, List, sym, ap, ◌∙◌, subst, refl, inl, inr, lit≤}
 use Rattle.std.specs.Prelude.{◌⊎◌}
 use Rattle.cx_cursor.specs.Sights.{same_mark}
-use Rattle.cx_expr.specs.Continuations.{continuation_of_mark, continuation_of_other, strength}
+use Rattle.cx_words.specs.Continuations.{continuation_of_mark, continuation_of_other, strength}
 use Rattle.cx_lex.specs.declared.token.Punct.{Punct}
 use Rattle.cx_lex.specs.declared.token.Punct.TheVariants as punct
 use Rattle.cx_lex.specs.declared.token.Token.{Token}

@@ -7,7 +7,7 @@ use Rattle.cx_cursor.specs.Sights.{sight, sight_behind, word_sight, same_mark, s
 use Rattle.cx_cursor.specs.declared.sight.Sight.{Sight}
 use Rattle.cx_cursor.specs.declared.sight.Sight.TheVariants as sights
 use Rattle.cx_cursor.proofs.Readers.{same_mark_same, same_key_same, same_key_refl}
-use Rattle.cx_expr.specs.Specifiers.{shows_spec, begins_spec, begins_member_spec, begins_tagged}
+use Rattle.cx_words.specs.Beginnings.{shows_spec, begins_spec, begins_member_spec, begins_tagged}
 use Rattle.cx_lex.specs.declared.token.Keyword.{Keyword}
 use Rattle.cx_lex.specs.declared.token.Keyword.TheVariants as keyword
 use Rattle.cx_lex.specs.declared.token.Punct.{Punct}

@@ -5,10 +5,10 @@ use Rattle.std.proofs.lemmas.Bool.Decides.{nat_tests}
 use Rattle.std.proofs.lemmas.List.{append-nil}
 use Rattle.cx_cursor.specs.Reading.{at}
 use Rattle.cx_cursor.specs.Sights.{sight, same_mark}
-use Rattle.cx_expr.specs.Continuations.{continuation_of, continuation_of_mark, continuation_of_other, strength, needs, goes_on}
+use Rattle.cx_words.specs.Continuations.{continuation_of, continuation_of_mark, continuation_of_other, strength, needs, goes_on}
 use Rattle.cx_expr.specs.Tails.{TailTree, indexed, called, dotted, pointed, up, down, operated, chosen, assigned, sequenced, join}
-use Rattle.cx_expr.specs.declared.continuation.Continuation.{Continuation}
-use Rattle.cx_expr.specs.declared.continuation.Continuation.TheVariants.{Operates, Assigns, Chooses, Commas, Indexes, Calls, Picks, Steps}
+use Rattle.cx_words.specs.declared.continuation.Continuation.{Continuation}
+use Rattle.cx_words.specs.declared.continuation.Continuation.TheVariants.{Operates, Assigns, Chooses, Commas, Indexes, Calls, Picks, Steps}
 use Rattle.cx_lex.specs.declared.token.Punct.{Punct}
 use Rattle.cx_lex.specs.declared.token.Punct.TheVariants as punct
 use Rattle.cx_lex.specs.declared.token.Token.{Token}

@@ -8,7 +8,8 @@ use Rattle.cx_cursor.specs.declared.sight.Sight.{Sight}
 use Rattle.cx_cursor.specs.declared.sight.Sight.TheVariants as sights
 use Rattle.cx_cursor.proofs.Readers.{bind_some, token, mark_reads, keyword_reads, same_mark_refl, same_key_refl}
 use Rattle.cx_expr.specs.Below.{Below, DeclaratorRead, declarator_read}
-use Rattle.cx_expr.specs.Declarators.{is_no_qualifier, QualifiersRead, qualifiers_read, with_qualifier, stops_qualifiers, qualifiers, BracketsRead, brackets_read, sees_star, without_size, star, static_first, static_last, sized, behind_qualifiers, in_brackets, array}
+use Rattle.cx_expr.specs.Declarators.{QualifiersRead, qualifiers_read, with_qualifier, stops_qualifiers, qualifiers, BracketsRead, brackets_read, without_size, star, static_first, static_last, sized, behind_qualifiers, in_brackets, array}
+use Rattle.cx_words.specs.Beginnings.{is_no_qualifier, sees_star}
 use Rattle.cx_lex.specs.declared.token.Keyword.{Keyword}
 use Rattle.cx_lex.specs.declared.token.Keyword.TheVariants as keywords
 use Rattle.cx_lex.specs.declared.token.Punct.TheVariants as punct

@@ -16,7 +16,8 @@ use Rattle.cx_parse.proofs.ReadsSteps.{both_read, then_quiet, read_as, mark_then
 use Rattle.cx_parse.proofs.ReadsStmts.{semicolon_closes, parenthesis_closes, shows_no_else, no_else_shown, reads_text, scoped_reads, last_mark, option_reads, StmtsRead, head_front, head_reads, part_reads}
 use Rattle.cx_parse.proofs.Stood.{Reads, AllRead}
 use Rattle.cx_parse.proofs.StoodStmts.{DeclFits, FirstFits, OptionFits, StmtFits, NoElse, EndsStmt}
-use Rattle.cx_stmt.specs.Declarations.{sees_decl, decl}
+use Rattle.cx_stmt.specs.Declarations.{decl}
+use Rattle.cx_words.specs.Beginnings.{sees_decl}
 use Rattle.cx_stmt.specs.Stmts.{option_expr, HeadRead, head_read, head, ForRead, for_read, first_read, first_value, first_clause, clauses, part, else_branch, behind_branch, if_stmt, switch_stmt, while_stmt, do_stmt, for_stmt}
 use Rattle.cx_tree.specs.Levels.{expression_level}
 use Rattle.cx_tree.specs.Names.{Binding, new_expr, new_option, new_first, new_decl, ExprStands}

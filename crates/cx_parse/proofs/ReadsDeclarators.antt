@@ -8,9 +8,10 @@ use Rattle.cx_cursor.specs.Sights.{word_sight, sight_in, sight_behind, shows_mar
 use Rattle.cx_cursor.specs.declared.sight.Sight.{Sight}
 use Rattle.cx_cursor.proofs.Readers.{bind_some, token, word_reads, same_mark_refl}
 use Rattle.cx_expr.specs.Below.{Below, DeclaratorRead, declarator_read}
-use Rattle.cx_expr.specs.Declarators.{begins_declarator, begins_params, begins_group, qualifiers_read, qualifiers, no_tail, no_declarator, identifier, tail, tails, declarator_or_missing, pointer, group, abstract_head, head, declarator_from}
-use Rattle.cx_expr.specs.declared.form.Form.{Form}
-use Rattle.cx_expr.specs.declared.form.Form.TheVariants.{Named, Abstract, Parameter}
+use Rattle.cx_expr.specs.Declarators.{qualifiers_read, qualifiers, no_tail, no_declarator, identifier, tail, tails, declarator_or_missing, pointer, group, abstract_head, head, declarator_from}
+use Rattle.cx_words.specs.Beginnings.{begins_declarator, begins_params, begins_group}
+use Rattle.cx_words.specs.declared.form.Form.{Form}
+use Rattle.cx_words.specs.declared.form.Form.TheVariants.{Named, Abstract, Parameter}
 use Rattle.cx_lex.specs.declared.token.Keyword.{Keyword}
 use Rattle.cx_lex.specs.declared.token.Punct.TheVariants as punct
 use Rattle.cx_lex.specs.declared.token.Token.{Token}

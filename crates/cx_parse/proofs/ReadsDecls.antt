@@ -9,11 +9,12 @@ use Rattle.cx_cursor.specs.Reading.{at, declaring}
 use Rattle.cx_cursor.specs.Sights.{sight_in, same_mark, sees_mark, mark}
 use Rattle.cx_cursor.proofs.Readers.{bind_some, token, mark_reads, same_mark_refl}
 use Rattle.cx_expr.specs.Below.{declarator_read}
-use Rattle.cx_expr.specs.Continuations.{continuation_of_mark, continuation_of_other, strength}
+use Rattle.cx_words.specs.Continuations.{continuation_of_mark, continuation_of_other, strength}
 use Rattle.cx_expr.specs.Initialisers.{initialiser}
 use Rattle.cx_expr.specs.Knot.{readers}
-use Rattle.cx_expr.specs.Specifiers.{shows_spec, specs_read, specs_from}
-use Rattle.cx_expr.specs.declared.form.Form.TheVariants.{Named}
+use Rattle.cx_expr.specs.Specifiers.{specs_read, specs_from}
+use Rattle.cx_words.specs.Beginnings.{shows_spec}
+use Rattle.cx_words.specs.declared.form.Form.TheVariants.{Named}
 use Rattle.cx_lex.specs.declared.token.Punct.TheVariants.{LeftBrace, Comma, Equal, Semicolon, LeftBracket, LeftParenthesis, Star}
 use Rattle.cx_lex.specs.declared.token.Token.{Token}
 use Rattle.cx_lex.specs.declared.token.TokenKind.TheVariants as kind

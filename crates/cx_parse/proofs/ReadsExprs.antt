@@ -8,8 +8,9 @@ use Rattle.cx_cursor.specs.Sights as read
 use Rattle.cx_cursor.specs.Sights.{sight, same_mark, same_key, sees_mark}
 use Rattle.cx_cursor.proofs.Readers.{bind_some, token, key_reads}
 use Rattle.cx_expr.specs.Below.{Below}
-use Rattle.cx_expr.specs.Continuations.{continuation_of, goes_on}
-use Rattle.cx_expr.specs.Exprs.{sees_type, stepped_of, literal_of, pre_step, unary, start_mark, sizeof_typed, sizeof_expr, sizeof_behind, sizeof, start, climb, expr_from, literal_from}
+use Rattle.cx_words.specs.Continuations.{continuation_of, goes_on}
+use Rattle.cx_expr.specs.Exprs.{stepped_of, literal_of, pre_step, unary, start_mark, sizeof_typed, sizeof_expr, sizeof_behind, sizeof, start, climb, expr_from, literal_from}
+use Rattle.cx_words.specs.Beginnings.{sees_type}
 use Rattle.cx_expr.specs.Knot.{above}
 use Rattle.cx_lex.specs.declared.token.Keyword.TheVariants as keyword
 use Rattle.cx_lex.specs.declared.token.Punct.{Punct}

@@ -10,8 +10,9 @@ use Rattle.cx_cursor.proofs.Readers.{bind_some, token, mark_reads, same_mark_ref
 use Rattle.cx_expr.specs.Below.{DeclaratorRead, declarator_read}
 use Rattle.cx_expr.specs.Initialisers.{initialiser}
 use Rattle.cx_expr.specs.Knot.{readers}
-use Rattle.cx_expr.specs.Specifiers.{shows_spec, specs_read, specs_from}
-use Rattle.cx_expr.specs.declared.form.Form.TheVariants.{Named}
+use Rattle.cx_expr.specs.Specifiers.{specs_read, specs_from}
+use Rattle.cx_words.specs.Beginnings.{shows_spec}
+use Rattle.cx_words.specs.declared.form.Form.TheVariants.{Named}
 use Rattle.cx_lex.specs.declared.token.Punct.TheVariants.{LeftBrace, Comma, Equal, Semicolon}
 use Rattle.cx_lex.specs.declared.token.Token.{Token}
 use Rattle.cx_lex.specs.declared.token.TokenKind.{TokenKind}

@@ -6,8 +6,9 @@ use Rattle.cx_cursor.specs.Reading.{State, at, onward}
 use Rattle.cx_cursor.specs.Sights.{word_sight, sight, sight_in, shows_mark, sees_mark, same_mark, mark}
 use Rattle.cx_cursor.proofs.Readers.{bind_some, token, mark_reads, word_reads, same_mark_refl}
 use Rattle.cx_expr.specs.Below.{Below, DeclaratorRead, declarator_read}
-use Rattle.cx_expr.specs.Declarators.{no_param, is_plain, plain_word, with_comma_name, comma_name, may_name, params_read, scoped_read, params_end, some_names, names_in, identifiers, params_in, scoped_params, function, in_parentheses, function_or_identifiers}
-use Rattle.cx_expr.specs.Specifiers.{shows_spec}
+use Rattle.cx_expr.specs.Declarators.{no_param, plain_word, with_comma_name, comma_name, may_name, params_read, scoped_read, params_end, some_names, names_in, identifiers, params_in, scoped_params, function, in_parentheses, function_or_identifiers}
+use Rattle.cx_words.specs.Beginnings.{is_plain}
+use Rattle.cx_words.specs.Beginnings.{shows_spec}
 use Rattle.cx_lex.specs.declared.token.Punct.TheVariants as punct
 use Rattle.cx_lex.specs.declared.token.Token.{Token}
 use Rattle.cx_lex.specs.declared.token.TokenKind.TheVariants as kind

@@ -7,10 +7,11 @@ use Rattle.cx_cursor.specs.Sights.{sight_in, sight_behind, shows_mark, shows_wor
 use Rattle.cx_cursor.specs.declared.sight.Sight.{Sight}
 use Rattle.cx_cursor.specs.declared.sight.Sight.TheVariants as sights
 use Rattle.cx_cursor.proofs.Readers.{token, same_mark_refl}
-use Rattle.cx_expr.specs.Declarators.{begins_params, qualifiers}
-use Rattle.cx_expr.specs.Specifiers.{shows_spec}
-use Rattle.cx_expr.specs.declared.form.Form.{Form}
-use Rattle.cx_expr.specs.declared.form.Form.TheVariants.{Named, Abstract, Parameter}
+use Rattle.cx_expr.specs.Declarators.{qualifiers}
+use Rattle.cx_words.specs.Beginnings.{begins_params}
+use Rattle.cx_words.specs.Beginnings.{shows_spec}
+use Rattle.cx_words.specs.declared.form.Form.{Form}
+use Rattle.cx_words.specs.declared.form.Form.TheVariants.{Named, Abstract, Parameter}
 use Rattle.cx_lex.specs.declared.token.Punct.TheVariants as punct
 use Rattle.cx_lex.specs.declared.token.Token.{Token}
 use Rattle.cx_lex.specs.declared.token.TokenKind.TheVariants as kind

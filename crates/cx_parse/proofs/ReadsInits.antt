@@ -9,8 +9,9 @@ use Rattle.cx_cursor.specs.Sights as read
 use Rattle.cx_cursor.specs.Sights.{sight, sight_in, shows_mark, same_mark, sees_mark}
 use Rattle.cx_cursor.proofs.Readers.{bind_some, token, mark_reads, word_reads}
 use Rattle.cx_expr.specs.Below.{Below}
-use Rattle.cx_expr.specs.Continuations.{continuation_of_mark, continuation_of_other}
-use Rattle.cx_expr.specs.Initialisers.{sees_designator, no_designator, with_designator, member, initialiser, list_from, designated, entry_from, element, designator_from}
+use Rattle.cx_words.specs.Continuations.{continuation_of_mark, continuation_of_other}
+use Rattle.cx_expr.specs.Initialisers.{no_designator, with_designator, member, initialiser, list_from, designated, entry_from, element, designator_from}
+use Rattle.cx_words.specs.Beginnings.{sees_designator}
 use Rattle.cx_expr.specs.Knot.{above}
 use Rattle.cx_expr.specs.Specifiers.{braced_read, braced}
 use Rattle.cx_lex.specs.declared.token.Punct.{Punct}

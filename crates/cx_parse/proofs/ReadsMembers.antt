@@ -8,9 +8,10 @@ use Rattle.cx_cursor.specs.Sights.{sight_in, shows_mark, sees_mark, same_mark, m
 use Rattle.cx_cursor.proofs.Readers.{bind_some, token, mark_reads, word_reads, same_mark_refl}
 use Rattle.cx_cursor.specs.declared.sight.Sight.{Sight}
 use Rattle.cx_expr.specs.Below.{Below, declarator_read}
-use Rattle.cx_expr.specs.Continuations.{continuation_of_mark, continuation_of_other, strength}
-use Rattle.cx_expr.specs.Specifiers.{shows_spec, specs_from, declarators, member_from, width_of, behind_member, member_declarator_from, enumerator_value, enumerator_from, specs_read}
-use Rattle.cx_expr.specs.declared.form.Form.TheVariants.{Named}
+use Rattle.cx_words.specs.Continuations.{continuation_of_mark, continuation_of_other, strength}
+use Rattle.cx_expr.specs.Specifiers.{specs_from, declarators, member_from, width_of, behind_member, member_declarator_from, enumerator_value, enumerator_from, specs_read}
+use Rattle.cx_words.specs.Beginnings.{shows_spec}
+use Rattle.cx_words.specs.declared.form.Form.TheVariants.{Named}
 use Rattle.cx_lex.specs.declared.token.Punct.{Punct}
 use Rattle.cx_lex.specs.declared.token.Punct.TheVariants as punct
 use Rattle.cx_lex.specs.declared.token.Token.{Token}

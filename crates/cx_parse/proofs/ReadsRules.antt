@@ -4,8 +4,8 @@ use Rattle.std.proofs.lemmas.List.{append-nil}
 use Rattle.cx_cursor.specs.Reading.{at, Reader, bind}
 use Rattle.cx_cursor.specs.Sights.{same_mark, mark, operator}
 use Rattle.cx_cursor.proofs.Readers.{bind_some, token, mark_reads, operator_reads}
-use Rattle.cx_expr.specs.Continuations.{continuation_of_mark, strength}
-use Rattle.cx_expr.specs.declared.continuation.Continuation.TheVariants.{Nothing}
+use Rattle.cx_words.specs.Continuations.{continuation_of_mark, strength}
+use Rattle.cx_words.specs.declared.continuation.Continuation.TheVariants.{Nothing}
 use Rattle.cx_lex.specs.declared.token.Punct.{Punct}
 use Rattle.cx_lex.specs.declared.token.Punct.TheVariants as punct
 use Rattle.cx_lex.specs.declared.token.Token.{Token}

@@ -5,9 +5,9 @@ use Rattle.std.specs.Prelude.{⊤}
 use Rattle.cx_cursor.specs.Sights.{word_sight, sight_in, shows_mark, shows_word, same_mark}
 use Rattle.cx_cursor.specs.declared.sight.Sight.{Sight}
 use Rattle.cx_cursor.specs.declared.sight.Sight.TheVariants as sights
-use Rattle.cx_expr.specs.Declarators.{begins_abstract, begins_declarator, is_no_qualifier}
-use Rattle.cx_expr.specs.Specifiers.{begins_tagged, begins_member_spec, begins_spec, shows_spec}
-use Rattle.cx_expr.specs.declared.form.Form.TheVariants.{Parameter}
+use Rattle.cx_words.specs.Beginnings.{begins_abstract, begins_declarator, is_no_qualifier}
+use Rattle.cx_words.specs.Beginnings.{begins_tagged, begins_member_spec, begins_spec, shows_spec}
+use Rattle.cx_words.specs.declared.form.Form.TheVariants.{Parameter}
 use Rattle.cx_lex.specs.declared.token.Keyword.{Keyword}
 use Rattle.cx_lex.specs.declared.token.Keyword.TheVariants as keywords
 use Rattle.cx_lex.specs.declared.token.Punct.{Punct}

@@ -5,7 +5,8 @@ use Rattle.cx_cursor.specs.Lists.{many_ahead, taking}
 use Rattle.cx_cursor.specs.Reading.{at}
 use Rattle.cx_cursor.specs.Sights.{sight_in}
 use Rattle.cx_expr.specs.Below.{Below}
-use Rattle.cx_expr.specs.Specifiers.{shows_spec, SpecsRead, specs_read, with_spec, stops_specs, specs_from}
+use Rattle.cx_expr.specs.Specifiers.{SpecsRead, specs_read, with_spec, stops_specs, specs_from}
+use Rattle.cx_words.specs.Beginnings.{shows_spec}
 use Rattle.cx_lex.specs.declared.token.Punct.TheVariants as punct
 use Rattle.cx_lex.specs.declared.token.Token.{Token}
 use Rattle.cx_tree.specs.Depth.{spec_depth, specs_depth}

@@ -6,9 +6,9 @@ use Rattle.std.proofs.Math.Seq.{take-append_seam}
 use Rattle.cx_cursor.specs.Reading.{at, Reader, bind, scoped}
 use Rattle.cx_cursor.specs.Sights.{sight_of, word_sight, same_mark, same_key, shows_key, sees_mark, sees_key, mark, word}
 use Rattle.cx_cursor.proofs.Readers.{bind_some, token, word_reads, same_mark_refl, same_key_same, same_key_refl}
-use Rattle.cx_expr.specs.Continuations.{continuation_of_mark, continuation_of_other}
+use Rattle.cx_words.specs.Continuations.{continuation_of_mark, continuation_of_other}
 use Rattle.cx_expr.specs.Knot.{readers}
-use Rattle.cx_expr.specs.declared.continuation.Continuation.TheVariants.{Nothing}
+use Rattle.cx_words.specs.declared.continuation.Continuation.TheVariants.{Nothing}
 use Rattle.cx_lex.specs.declared.token.Keyword.{Keyword}
 use Rattle.cx_lex.specs.declared.token.Keyword.TheVariants as keywords
 use Rattle.cx_lex.specs.declared.token.Punct.{Punct}

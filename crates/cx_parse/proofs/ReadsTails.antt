@@ -7,7 +7,7 @@ use Rattle.cx_cursor.specs.Sights as read
 use Rattle.cx_cursor.specs.Sights.{sight, same_mark, sees_mark}
 use Rattle.cx_cursor.proofs.Readers.{bind_some, token, mark_reads, operator_reads, word_reads, same_mark_refl}
 use Rattle.cx_expr.specs.Below.{Below}
-use Rattle.cx_expr.specs.Continuations.{continuation_of_mark, continuation_of_other}
+use Rattle.cx_words.specs.Continuations.{continuation_of_mark, continuation_of_other}
 use Rattle.cx_expr.specs.Exprs.{picked, picks, stepped, steps, indexes, some_args, args, calls, operates, assigns, chooses, commas}
 use Rattle.cx_expr.specs.Tails.{TailTree, indexed, called, operated, chosen, assigned, sequenced}
 use Rattle.cx_lex.specs.declared.token.Punct.{Punct}

@@ -7,7 +7,7 @@ use Rattle.cx_expr.specs.Below.{Below}
 use Rattle.cx_expr.specs.Declarators.{declarator_or_missing, param_from}
 use Rattle.cx_expr.specs.Exprs.{type_name_from}
 use Rattle.cx_expr.specs.Specifiers.{specs_read, specs_from}
-use Rattle.cx_expr.specs.declared.form.Form.TheVariants.{Abstract, Parameter}
+use Rattle.cx_words.specs.declared.form.Form.TheVariants.{Abstract, Parameter}
 use Rattle.cx_lex.specs.declared.token.Punct.TheVariants as punct
 use Rattle.cx_lex.specs.declared.token.Token.{Token}
 use Rattle.cx_tree.specs.Names.{Binding, bound, has_type_specifier, new_specs, new_declarator, new_type_name, new_param}

@@ -23,7 +23,8 @@ use Rattle.cx_parse.proofs.SoundBranches.{all_taken}
 use Rattle.cx_parse.proofs.Stood.{Reads, AllRead}
 use Rattle.cx_parse.proofs.StoodStmts.{DeclFits, OptionFits, StmtFits, ItemFits, NoElse, EndsStmt}
 use Rattle.cx_parse.proofs.StmtEdges.{no_both, both_true, decl_seen, option_unseen, stmt_seen, item_seen}
-use Rattle.cx_stmt.specs.Declarations.{sees_label, sees_decl, decl}
+use Rattle.cx_stmt.specs.Declarations.{decl}
+use Rattle.cx_words.specs.Beginnings.{sees_label, sees_decl}
 use Rattle.cx_stmt.specs.Stmts.{expr_stmt, with_item, sees_end, item, block_items, block_from, keyword_stmt, stmt_by, stmt_from, stmt}
 use Rattle.cx_stmt.specs.Units.{block, body}
 use Rattle.cx_tree.specs.Depth.{items_depth, stmt_depth}

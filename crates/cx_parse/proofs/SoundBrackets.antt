@@ -6,7 +6,8 @@ use Rattle.cx_cursor.specs.Reading.{State, at, Reader, bind}
 use Rattle.cx_cursor.specs.Sights.{sight_in, sees_mark, sees_key, keyword}
 use Rattle.cx_cursor.proofs.Readers.{Gives, gives_bind, Took, TookOne, took_one, token, keyword_gives}
 use Rattle.cx_expr.specs.Below.{Below}
-use Rattle.cx_expr.specs.Declarators.{is_no_qualifier, QualifiersRead, qualifiers_read, with_qualifier, stops_qualifiers, qualifiers, BracketsRead, sees_star, without_size, star, static_first, static_last, sized, behind_qualifiers, in_brackets}
+use Rattle.cx_expr.specs.Declarators.{QualifiersRead, qualifiers_read, with_qualifier, stops_qualifiers, qualifiers, BracketsRead, without_size, star, static_first, static_last, sized, behind_qualifiers, in_brackets}
+use Rattle.cx_words.specs.Beginnings.{is_no_qualifier, sees_star}
 use Rattle.cx_lex.specs.declared.token.Keyword.{Keyword}
 use Rattle.cx_lex.specs.declared.token.Keyword.TheVariants as keywords
 use Rattle.cx_lex.specs.declared.token.Punct.TheVariants as punct

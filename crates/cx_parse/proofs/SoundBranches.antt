@@ -18,7 +18,8 @@ use Rattle.cx_parse.proofs.Lists.{each_of, Each, Items, many_ahead_sound}
 use Rattle.cx_parse.proofs.SoundStmts.{never_open, Left, scoped_gives, left_names, option_sound, HeadStood, head_sound}
 use Rattle.cx_parse.proofs.Stood.{AllSound}
 use Rattle.cx_parse.proofs.StoodStmts.{OptionFits, DeclStood, FirstFits, StmtFits, StmtStood, ItemFits, ItemStood}
-use Rattle.cx_stmt.specs.Declarations.{sees_decl, decl}
+use Rattle.cx_stmt.specs.Declarations.{decl}
+use Rattle.cx_words.specs.Beginnings.{sees_decl}
 use Rattle.cx_stmt.specs.Stmts.{option_expr, HeadRead, head, ForRead, for_read, FirstRead, first_read, first_value, first_clause, clauses, with_item, sees_end, item, block_items, block_from, part, else_branch, behind_branch, if_stmt, switch_stmt, while_stmt, do_stmt, for_stmt}
 use Rattle.cx_tree.specs.Depth.{items_depth}
 use Rattle.cx_tree.specs.Levels.{expression_level}

@@ -9,10 +9,11 @@ use Rattle.cx_cursor.specs.Sights.{sight, sight_in, sight_behind, shows_mark, sh
 use Rattle.cx_cursor.specs.declared.sight.Sight.{Sight}
 use Rattle.cx_cursor.proofs.Readers.{Gives, gives_bind, Took, token, same_mark_refl}
 use Rattle.cx_expr.specs.Below.{Below, DeclaratorRead, declarator_read}
-use Rattle.cx_expr.specs.Declarators.{begins_declarator, begins_params, begins_group, may_name, no_declarator, identifier, params_end, function_of, names_in, identifiers, in_brackets, array, scoped_params, function, in_parentheses, function_or_identifiers, tail, group, abstract_head, head}
-use Rattle.cx_expr.specs.Specifiers.{shows_spec}
-use Rattle.cx_expr.specs.declared.form.Form.{Form}
-use Rattle.cx_expr.specs.declared.form.Form.TheVariants.{Named, Abstract, Parameter}
+use Rattle.cx_expr.specs.Declarators.{may_name, no_declarator, identifier, params_end, function_of, names_in, identifiers, in_brackets, array, scoped_params, function, in_parentheses, function_or_identifiers, tail, group, abstract_head, head}
+use Rattle.cx_words.specs.Beginnings.{begins_declarator, begins_params, begins_group}
+use Rattle.cx_words.specs.Beginnings.{shows_spec}
+use Rattle.cx_words.specs.declared.form.Form.{Form}
+use Rattle.cx_words.specs.declared.form.Form.TheVariants.{Named, Abstract, Parameter}
 use Rattle.cx_lex.specs.declared.token.Punct.TheVariants as punct
 use Rattle.cx_lex.specs.declared.token.Token.{Token}
 use Rattle.cx_lex.specs.declared.token.TokenKind.TheVariants as kind

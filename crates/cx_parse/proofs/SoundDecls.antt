@@ -10,8 +10,9 @@ use Rattle.cx_cursor.proofs.Readers.{Gives, gives_bind, gives_pure, gives_none, 
 use Rattle.cx_expr.specs.Below.{DeclaratorRead}
 use Rattle.cx_expr.specs.Initialisers.{initialiser}
 use Rattle.cx_expr.specs.Knot.{readers}
-use Rattle.cx_expr.specs.Specifiers.{shows_spec, SpecsRead, specs_from}
-use Rattle.cx_expr.specs.declared.form.Form.TheVariants.{Named}
+use Rattle.cx_expr.specs.Specifiers.{SpecsRead, specs_from}
+use Rattle.cx_words.specs.Beginnings.{shows_spec}
+use Rattle.cx_words.specs.declared.form.Form.TheVariants.{Named}
 use Rattle.cx_lex.specs.declared.token.Punct.TheVariants.{Equal, Semicolon}
 use Rattle.cx_lex.specs.declared.token.Token.{Token}
 use Rattle.cx_lex.specs.declared.token.TokenKind.TheVariants as kind

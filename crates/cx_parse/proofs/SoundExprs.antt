@@ -10,11 +10,12 @@ use Rattle.cx_cursor.specs.declared.sight.Sight.{Sight}
 use Rattle.cx_cursor.specs.declared.sight.Sight.TheVariants as sights
 use Rattle.cx_cursor.proofs.Readers.{Gives, gives_bind, TookOne, took_one, token, number_gives, letter_gives, text_gives, same_mark_same}
 use Rattle.cx_expr.specs.Below.{Below}
-use Rattle.cx_expr.specs.Continuations.{continuation_of, strength, needs, goes_on}
-use Rattle.cx_expr.specs.Exprs.{name, constant, character, texts, no_text, with_text, sees_type, TypeRead, stepped_of, tail, operation, climb, typed, literal_of, cast_of, behind_type, paren, parenthesised, pre_step, unary, start_mark, sizeof_typed, sizeof_expr, sizeof_behind, sizeof, start_by, start, expr_from, literal_from}
+use Rattle.cx_words.specs.Continuations.{continuation_of, strength, needs, goes_on}
+use Rattle.cx_expr.specs.Exprs.{name, constant, character, texts, no_text, with_text, TypeRead, stepped_of, tail, operation, climb, typed, literal_of, cast_of, behind_type, paren, parenthesised, pre_step, unary, start_mark, sizeof_typed, sizeof_expr, sizeof_behind, sizeof, start_by, start, expr_from, literal_from}
+use Rattle.cx_words.specs.Beginnings.{sees_type}
 use Rattle.cx_expr.specs.Tails.{TailTree, join}
-use Rattle.cx_expr.specs.declared.continuation.Continuation.{Continuation}
-use Rattle.cx_expr.specs.declared.continuation.Continuation.TheVariants.{Nothing, Operates, Assigns, Chooses, Commas, Indexes, Calls, Picks, Steps}
+use Rattle.cx_words.specs.declared.continuation.Continuation.{Continuation}
+use Rattle.cx_words.specs.declared.continuation.Continuation.TheVariants.{Nothing, Operates, Assigns, Chooses, Commas, Indexes, Calls, Picks, Steps}
 use Rattle.cx_lex.specs.declared.token.Keyword.TheVariants as keywords
 use Rattle.cx_lex.specs.declared.token.Punct.{Punct}
 use Rattle.cx_lex.specs.declared.token.Punct.TheVariants as punct

@@ -8,7 +8,8 @@ use Rattle.cx_cursor.specs.declared.sight.Sight.{Sight}
 use Rattle.cx_cursor.specs.declared.sight.Sight.TheVariants as sights
 use Rattle.cx_cursor.proofs.Readers.{Gives, gives_bind, Took, TookOne, token, word_gives}
 use Rattle.cx_expr.specs.Below.{Below}
-use Rattle.cx_expr.specs.Declarators.{no_param, with_name, is_plain, plain_word, with_comma_name, comma_name, ParamsRead, ScopedRead, params_end, some_names, names_in, params_in, scoped_params}
+use Rattle.cx_expr.specs.Declarators.{no_param, with_name, plain_word, with_comma_name, comma_name, ParamsRead, ScopedRead, params_end, some_names, names_in, params_in, scoped_params}
+use Rattle.cx_words.specs.Beginnings.{is_plain}
 use Rattle.cx_lex.specs.declared.token.Punct.TheVariants as punct
 use Rattle.cx_lex.specs.declared.token.Token.{Token}
 use Rattle.cx_lex.specs.declared.token.TokenKind.TheVariants as kind

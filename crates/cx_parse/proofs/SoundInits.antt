@@ -6,7 +6,8 @@ use Rattle.cx_cursor.specs.Reading.{State, at}
 use Rattle.cx_cursor.specs.Sights.{sees_mark}
 use Rattle.cx_cursor.proofs.Readers.{Gives, gives_bind, token}
 use Rattle.cx_expr.specs.Below.{Below}
-use Rattle.cx_expr.specs.Initialisers.{sees_designator, no_designator, member, initialiser, list_from, designated, entry_from, element, designator_from}
+use Rattle.cx_expr.specs.Initialisers.{no_designator, member, initialiser, list_from, designated, entry_from, element, designator_from}
+use Rattle.cx_words.specs.Beginnings.{sees_designator}
 use Rattle.cx_expr.specs.Specifiers.{braced}
 use Rattle.cx_lex.specs.declared.token.Punct.TheVariants as punct
 use Rattle.cx_lex.specs.declared.token.Token.{Token}

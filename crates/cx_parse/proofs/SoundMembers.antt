@@ -7,9 +7,10 @@ use Rattle.cx_cursor.specs.Scopes.{binding}
 use Rattle.cx_cursor.specs.Sights.{sight_in, sees_mark}
 use Rattle.cx_cursor.proofs.Readers.{Gives, gives_bind, token}
 use Rattle.cx_expr.specs.Below.{Below, DeclaratorRead}
-use Rattle.cx_expr.specs.Specifiers.{shows_spec, declarators, member_from, width_of, behind_member, member_declarator_from, enumerator_value, enumerator_from}
-use Rattle.cx_expr.specs.declared.form.Form.{Form}
-use Rattle.cx_expr.specs.declared.form.Form.TheVariants.{Named}
+use Rattle.cx_expr.specs.Specifiers.{declarators, member_from, width_of, behind_member, member_declarator_from, enumerator_value, enumerator_from}
+use Rattle.cx_words.specs.Beginnings.{shows_spec}
+use Rattle.cx_words.specs.declared.form.Form.{Form}
+use Rattle.cx_words.specs.declared.form.Form.TheVariants.{Named}
 use Rattle.cx_lex.specs.declared.token.Punct.TheVariants as punct
 use Rattle.cx_lex.specs.declared.token.Token.{Token}
 use Rattle.cx_lex.specs.declared.token.TokenKind.{TokenKind}

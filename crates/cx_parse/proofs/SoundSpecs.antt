@@ -8,7 +8,8 @@ use Rattle.cx_cursor.specs.Sights.{sight, sight_in, word_sight}
 use Rattle.cx_cursor.specs.declared.sight.Sight.{Sight}
 use Rattle.cx_cursor.proofs.Readers.{Gives, gives_bind, Took}
 use Rattle.cx_expr.specs.Below.{Below}
-use Rattle.cx_expr.specs.Specifiers.{begins_tagged, begins_member_spec, begins_spec, shows_spec, SpecsRead, specs_read, with_spec, stops_specs, specs_from}
+use Rattle.cx_expr.specs.Specifiers.{SpecsRead, specs_read, with_spec, stops_specs, specs_from}
+use Rattle.cx_words.specs.Beginnings.{begins_tagged, begins_member_spec, begins_spec, shows_spec}
 use Rattle.cx_lex.specs.declared.token.Keyword.{Keyword}
 use Rattle.cx_lex.specs.declared.token.Keyword.TheVariants as keywords
 use Rattle.cx_lex.specs.declared.token.Token.{Token}

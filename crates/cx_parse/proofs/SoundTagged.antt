@@ -8,7 +8,8 @@ use Rattle.cx_cursor.specs.declared.sight.Sight.{Sight}
 use Rattle.cx_cursor.specs.declared.sight.Sight.TheVariants as sights
 use Rattle.cx_cursor.proofs.Readers.{Gives, gives_bind, token}
 use Rattle.cx_expr.specs.Below.{Below}
-use Rattle.cx_expr.specs.Specifiers.{begins_tagged, begins_member_spec, begins_spec, no_brace, BracedRead, braced, typedef_spec, members, record_tagged, record_untagged, record_behind, enum_tagged, enum_untagged, enum_behind, spec_behind, key_spec, spec_by, spec_from}
+use Rattle.cx_expr.specs.Specifiers.{no_brace, BracedRead, braced, typedef_spec, members, record_tagged, record_untagged, record_behind, enum_tagged, enum_untagged, enum_behind, spec_behind, key_spec, spec_by, spec_from}
+use Rattle.cx_words.specs.Beginnings.{begins_tagged, begins_member_spec, begins_spec}
 use Rattle.cx_lex.specs.declared.token.Keyword.{Keyword}
 use Rattle.cx_lex.specs.declared.token.Keyword.TheVariants as keywords
 use Rattle.cx_lex.specs.declared.token.Punct.TheVariants as punct

@@ -8,11 +8,11 @@ use Rattle.cx_cursor.specs.Reading.{State, at}
 use Rattle.cx_cursor.specs.Sights.{sight_in, sees_mark, same_mark}
 use Rattle.cx_cursor.proofs.Readers.{Gives, token}
 use Rattle.cx_expr.specs.Below.{Below}
-use Rattle.cx_expr.specs.Continuations.{continuation_of, continuation_of_mark, continuation_of_other, strength, needs}
+use Rattle.cx_words.specs.Continuations.{continuation_of, continuation_of_mark, continuation_of_other, strength, needs}
 use Rattle.cx_expr.specs.Exprs.{picked, picks, stepped, steps, indexes, operates, assigns, chooses, commas, args, some_args, calls}
 use Rattle.cx_expr.specs.Tails.{TailTree, indexed, called, dotted, pointed, up, down, operated, chosen, assigned, sequenced, join, tail_depth}
-use Rattle.cx_expr.specs.declared.continuation.Continuation.{Continuation}
-use Rattle.cx_expr.specs.declared.continuation.Continuation.TheVariants.{Nothing, Operates, Assigns, Chooses, Commas, Indexes, Calls, Picks, Steps}
+use Rattle.cx_words.specs.declared.continuation.Continuation.{Continuation}
+use Rattle.cx_words.specs.declared.continuation.Continuation.TheVariants.{Nothing, Operates, Assigns, Chooses, Commas, Indexes, Calls, Picks, Steps}
 use Rattle.cx_lex.specs.declared.token.Punct.{Punct}
 use Rattle.cx_lex.specs.declared.token.Punct.TheVariants as punct
 use Rattle.cx_lex.specs.declared.token.Token.{Token}

@@ -6,10 +6,11 @@ use Rattle.cx_cursor.specs.Sights.{sight, shows_mark, shows_word, sees_mark}
 use Rattle.cx_cursor.specs.declared.sight.Sight.{Sight}
 use Rattle.cx_cursor.proofs.Readers.{Gives, gives_bind}
 use Rattle.cx_expr.specs.Below.{Below, DeclaratorRead}
-use Rattle.cx_expr.specs.Declarators.{begins_abstract, begins_declarator, no_tail, tail, tails, declarator_or_missing, pointer, head, declarator_from, param_from}
+use Rattle.cx_expr.specs.Declarators.{no_tail, tail, tails, declarator_or_missing, pointer, head, declarator_from, param_from}
+use Rattle.cx_words.specs.Beginnings.{begins_abstract, begins_declarator}
 use Rattle.cx_expr.specs.Exprs.{type_name_from}
-use Rattle.cx_expr.specs.declared.form.Form.{Form}
-use Rattle.cx_expr.specs.declared.form.Form.TheVariants.{Named, Abstract, Parameter}
+use Rattle.cx_words.specs.declared.form.Form.{Form}
+use Rattle.cx_words.specs.declared.form.Form.TheVariants.{Named, Abstract, Parameter}
 use Rattle.cx_lex.specs.declared.token.Keyword.{Keyword}
 use Rattle.cx_lex.specs.declared.token.Punct.TheVariants as punct
 use Rattle.cx_lex.specs.declared.token.Token.{Token}

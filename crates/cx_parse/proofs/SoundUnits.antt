@@ -11,8 +11,9 @@ use Rattle.cx_cursor.proofs.Readers.{Gives, gives_bind, gives_pure, gives_none, 
 use Rattle.cx_expr.specs.Below.{DeclaratorRead}
 use Rattle.cx_expr.specs.Initialisers.{initialiser}
 use Rattle.cx_expr.specs.Knot.{readers}
-use Rattle.cx_expr.specs.Specifiers.{shows_spec, SpecsRead, specs_from}
-use Rattle.cx_expr.specs.declared.form.Form.TheVariants.{Named}
+use Rattle.cx_expr.specs.Specifiers.{SpecsRead, specs_from}
+use Rattle.cx_words.specs.Beginnings.{shows_spec}
+use Rattle.cx_words.specs.declared.form.Form.TheVariants.{Named}
 use Rattle.cx_lex.specs.declared.token.Keyword.{Keyword}
 use Rattle.cx_lex.specs.declared.token.Keyword.TheVariants as keywords
 use Rattle.cx_lex.specs.declared.token.Punct.TheVariants.{LeftBrace, Semicolon}
@@ -25,7 +26,8 @@ use Rattle.cx_parse.proofs.SoundDecls.{gives_declaring, bare_sound, declared_sou
 use Rattle.cx_parse.proofs.SoundStmts.{Left, scoped_gives, left_names, expr_stmt_sound, return_sound, goto_sound, continue_sound, break_sound, label_sound, default_sound, case_sound}
 use Rattle.cx_parse.proofs.Stood.{AllSound, DeclaratorStood, InitialiserStood}
 use Rattle.cx_parse.proofs.StoodStmts.{SpecsStood, DeclStood, StmtFits, StmtStood, ExternalFits, ExternalStood}
-use Rattle.cx_stmt.specs.Declarations.{sees_label, decl, behind_first, no_declarators}
+use Rattle.cx_stmt.specs.Declarations.{decl, behind_first, no_declarators}
+use Rattle.cx_words.specs.Beginnings.{sees_label}
 use Rattle.cx_stmt.specs.Stmts.{label, block_from, if_stmt, switch_stmt, while_stmt, do_stmt, for_stmt, keyword_stmt, stmt_by, stmt_from, stmt}
 use Rattle.cx_stmt.specs.Units.{definition_tree, block, body, definition, behind_declarator, behind_specs, external, at_end, with_external, unit_tree, unit}
 use Rattle.cx_tree.specs.Depth.{externals_depth, unit_depth}

@@ -10,8 +10,9 @@ use Rattle.cx_cursor.specs.Sights as read
 use Rattle.cx_cursor.specs.Sights.{sight, sight_of, sight_behind, word_sight, shows_mark, shows_text, same_mark, same_key, sees_mark}
 use Rattle.cx_cursor.proofs.Readers.{bind_some, token, word_reads, number_reads, letter_reads, text_reads}
 use Rattle.cx_expr.specs.Below.{Below}
-use Rattle.cx_expr.specs.Continuations.{continuation_of_mark, continuation_of_other}
-use Rattle.cx_expr.specs.Exprs.{name, constant, character, no_text, with_text, texts, begins_type, sees_type, TypeRead, type_read, typed, literal_of, cast_of, behind_type, paren, parenthesised, unary, start_mark, start_by, start}
+use Rattle.cx_words.specs.Continuations.{continuation_of_mark, continuation_of_other}
+use Rattle.cx_expr.specs.Exprs.{name, constant, character, no_text, with_text, texts, TypeRead, type_read, typed, literal_of, cast_of, behind_type, paren, parenthesised, unary, start_mark, start_by, start}
+use Rattle.cx_words.specs.Beginnings.{begins_type, sees_type}
 use Rattle.cx_lex.specs.declared.token.Punct.{Punct}
 use Rattle.cx_lex.specs.declared.token.Punct.TheVariants as punct
 use Rattle.cx_lex.specs.declared.token.Token.{Token}

@@ -4,7 +4,7 @@ use Rattle.std.proofs.lemmas.Bool.{true≢false}
 use Rattle.cx_cursor.specs.Reading.{at}
 use Rattle.cx_cursor.specs.Sights.{sight_in, word_sight, same_mark, same_key, shows_mark, shows_key, shows_word, sees_mark, sees_key}
 use Rattle.cx_cursor.proofs.Readers.{token, same_mark_refl}
-use Rattle.cx_expr.specs.Specifiers.{shows_spec, begins_spec, begins_member_spec, begins_tagged}
+use Rattle.cx_words.specs.Beginnings.{shows_spec, begins_spec, begins_member_spec, begins_tagged}
 use Rattle.cx_lex.specs.declared.token.Keyword.TheVariants as keywords
 use Rattle.cx_lex.specs.declared.token.Punct.TheVariants.{RightBrace, Colon, Semicolon}
 use Rattle.cx_lex.specs.declared.token.Token.{Token}
@@ -15,7 +15,7 @@ use Rattle.cx_parse.proofs.ReadsSpecs.{spec_some}
 use Rattle.cx_parse.proofs.ReadsStmts.{no_else_shown}
 use Rattle.cx_parse.proofs.SoundDecls.{named_present}
 use Rattle.cx_parse.proofs.StoodStmts.{DeclFits, OptionFits, StmtFits, ItemFits, NoElse}
-use Rattle.cx_stmt.specs.Declarations.{sees_label, sees_decl}
+use Rattle.cx_words.specs.Beginnings.{sees_label, sees_decl}
 use Rattle.cx_tree.specs.Levels.{expression_level}
 use Rattle.cx_tree.specs.Names.{Binding, is_type}
 use Rattle.cx_tree.specs.Tokens.{ended, listed, behind_commas, spec_tokens, specs_tokens, declarator_tokens, init_tokens, init_declarator_tokens, init_declarators_tokens, decl_tokens, option_tokens, stmt_tokens, item_tokens}

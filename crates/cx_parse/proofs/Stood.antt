@@ -6,10 +6,10 @@ use Rattle.cx_cursor.specs.Reading.{State, at, Reader}
 use Rattle.cx_cursor.proofs.Readers.{Gives, Took, token}
 use Rattle.cx_cursor.specs.Sights.{sight, same_mark}
 use Rattle.cx_expr.specs.Below.{Below, DeclaratorRead, declarator_read}
-use Rattle.cx_expr.specs.Continuations.{continuation_of_mark, strength}
-use Rattle.cx_expr.specs.Declarators.{begins_declarator}
-use Rattle.cx_expr.specs.declared.form.Form.{Form}
-use Rattle.cx_expr.specs.declared.form.Form.TheVariants.{Named, Abstract, Parameter}
+use Rattle.cx_words.specs.Continuations.{continuation_of_mark, strength}
+use Rattle.cx_words.specs.Beginnings.{begins_declarator}
+use Rattle.cx_words.specs.declared.form.Form.{Form}
+use Rattle.cx_words.specs.declared.form.Form.TheVariants.{Named, Abstract, Parameter}
 use Rattle.cx_lex.specs.declared.token.Punct.{Punct}
 use Rattle.cx_lex.specs.declared.token.Punct.TheVariants as punct
 use Rattle.cx_lex.specs.declared.token.Token.{Token}

@@ -3,7 +3,8 @@ use Rattle.std.proofs.Common.{◌≡◌, ℕ, Bool, true, false, List, [], ◌�
 use Rattle.cx_cursor.specs.Reading.{State}
 use Rattle.cx_cursor.specs.Sights.{sight, sees_key}
 use Rattle.cx_cursor.proofs.Readers.{token}
-use Rattle.cx_expr.specs.Specifiers.{shows_spec, SpecsRead}
+use Rattle.cx_expr.specs.Specifiers.{SpecsRead}
+use Rattle.cx_words.specs.Beginnings.{shows_spec}
 use Rattle.cx_lex.specs.declared.token.Keyword.TheVariants as keywords
 use Rattle.cx_lex.specs.declared.token.Token.{Token}
 use Rattle.cx_lex.specs.declared.token.TokenKind.TheVariants as kind

@@ -6,8 +6,8 @@ use Rattle.cx_cursor.specs.Reading.{State, Reader, bind, ◌>>=◌, pure, refuse
 use Rattle.cx_cursor.specs.Sights.{sight, sight_behind, shows_mark, shows_word, sees_mark, mark}
 use Rattle.cx_expr.specs.Initialisers.{initialiser}
 use Rattle.cx_expr.specs.Knot.{readers}
-use Rattle.cx_expr.specs.Specifiers.{shows_spec, specs_from}
-use Rattle.cx_expr.specs.declared.form.Form.TheVariants.{Named}
+use Rattle.cx_expr.specs.Specifiers.{specs_from}
+use Rattle.cx_words.specs.declared.form.Form.TheVariants.{Named}
 use Rattle.cx_lex.specs.declared.token.Punct.TheVariants.{Semicolon, Equal, Colon}
 use Rattle.cx_tree.specs.Depth.{declarator_depth}
 use Rattle.cx_tree.specs.Names.{bound}
@@ -19,14 +19,6 @@ init_declarator_tree declarator init lines = record { declarator = declarator; i
 
 abbrev pub decl_tree : SpecTrees → List InitDeclaratorTree → List ℕ → DeclTree
 decl_tree specs list lines = record { specs = specs; list = list; lines = lines }
-
--- a label stands ahead (6.8.1)
-abbrev pub sees_label : State → Bool
-sees_label state = shows_word (sight state) && shows_mark Colon (sight_behind state)
-
--- a declaration stands ahead
-abbrev pub sees_decl : State → Bool
-sees_decl state = shows_spec true false (sight state) && not (sees_label state)
 
 -- the initialiser of a declarator
 unfoldable pub init : ℕ → DeclaratorTree → Reader InitDeclaratorTree

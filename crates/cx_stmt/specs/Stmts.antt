@@ -10,7 +10,8 @@ use Rattle.cx_lex.specs.declared.token.Keyword.{Keyword}
 use Rattle.cx_lex.specs.declared.token.Keyword.TheVariants as keywords
 use Rattle.cx_lex.specs.declared.token.Punct.{Punct}
 use Rattle.cx_lex.specs.declared.token.Punct.TheVariants.{LeftParenthesis, RightParenthesis, LeftBrace, RightBrace, Colon, Semicolon}
-use Rattle.cx_stmt.specs.Declarations.{sees_label, sees_decl, decl}
+use Rattle.cx_stmt.specs.Declarations.{decl}
+use Rattle.cx_words.specs.Beginnings.{sees_label, sees_decl}
 use Rattle.cx_tree.specs.Levels.{expression_level, conditional_level}
 use Rattle.cx_tree.specs.Trees.{ExprTree, OptionExprTree, no_expr, some_expr, ForFirstTree, FirstValue, FirstDeclared, StmtTree, Label, Case, Default, Block, ExprStmt, If, Switch, While, Do, For, Goto, Continue, Break, Return, OptionStmtTree, no_stmt, some_stmt, ItemTree, Statement, Declared}
 use Rattle.cx_tree.specs.Views.{items}

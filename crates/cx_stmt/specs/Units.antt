@@ -6,7 +6,7 @@ use Rattle.cx_cursor.specs.Sights.{sight, shows_end, sees_mark}
 use Rattle.cx_expr.specs.Below.{DeclaratorRead}
 use Rattle.cx_expr.specs.Knot.{readers}
 use Rattle.cx_expr.specs.Specifiers.{specs_from}
-use Rattle.cx_expr.specs.declared.form.Form.TheVariants.{Named}
+use Rattle.cx_words.specs.declared.form.Form.TheVariants.{Named}
 use Rattle.cx_lex.specs.declared.token.Punct.TheVariants.{LeftBrace, Semicolon}
 use Rattle.cx_stmt.specs.Declarations.{behind_first, no_declarators}
 use Rattle.cx_stmt.specs.Stmts.{stmt, block_from}

@@ -10,24 +10,12 @@ ghost use Rattle.cx_tree.specs.Views.{decl_view, declarator_view, init_declarato
 
 use cr_base::{Boxed, Items};
 use cx_cursor::{Cursor, Fault, Listed, Measured, one_line};
-use cx_expr::{Form, ReadDeclarator, declarator, declare, initialiser, shows_spec, specs_from};
+use cx_declare::{declarator, initialiser, specs_from};
+use cx_expr::ReadDeclarator;
 use cx_lex::Punct;
 use cx_tree::{Decl, Declarator, InitDeclarator, Spec};
+use cx_words::{Form, declare};
 use std::alloc::Global;
-
-/// Whether a label stands ahead (6.8.1).
-pub fn sees_label(cursor: &Cursor<'_>) -> bool
-    ensures { result ≡ reader.sees_label cursor.now }
-{
-    cursor.peek().shows_word() && cursor.peek_behind().shows_mark(Punct::Colon)
-}
-
-/// Whether a declaration stands ahead.
-pub fn sees_decl(cursor: &Cursor<'_>) -> bool
-    ensures { result ≡ reader.sees_decl cursor.now }
-{
-    shows_spec(true, false, cursor.peek()) && !sees_label(cursor)
-}
 
 // A declarator with its initialiser, where one is there.
 #[tactic(auto, unfolding(crate::specs::Declarations::init_or_none, crate::specs::Declarations::init, cx_cursor::specs::Reading::bind))]

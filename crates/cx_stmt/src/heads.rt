@@ -6,12 +6,13 @@ ghost use Rattle.cx_stmt.specs.Stmts as reader;
 ghost use Rattle.cx_stmt.specs.Stmts.{first_read, for_read, head_read};
 ghost use Rattle.cx_tree.specs.Views.{expr_view, first_view, option_expr};
 
-use crate::declarations::{decl, sees_decl};
+use crate::declarations::decl;
 use cr_base::{Boxed, Items};
 use cx_cursor::{Cursor, Fault, three_lines, two_lines};
-use cx_expr::{expr, level};
+use cx_declare::expr;
 use cx_lex::{Keyword, Punct};
 use cx_tree::{Expr, ForFirst};
+use cx_words::{level, sees_decl};
 use std::alloc::Global;
 
 /// Reads an expression at most `depth` nodes deep, or none where this mark stands ahead.

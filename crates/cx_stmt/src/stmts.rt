@@ -10,14 +10,15 @@ ghost use Rattle.cx_stmt.specs.Units as units;
 ghost use Rattle.cx_tree.specs.Trees as tree;
 ghost use Rattle.cx_tree.specs.Views.{expr_view, first_view, item_view, option_expr, option_stmt, stmt_view};
 
-use crate::declarations::{decl, sees_decl, sees_label};
+use crate::declarations::decl;
 use crate::heads::{Clauses, Head, for_clauses, keyword_head};
 use crate::simple::{break_stmt, continue_stmt, expr_stmt, goto_stmt, return_stmt};
 use cr_base::{Boxed, Items, Memory};
 use cx_cursor::{Cursor, Fault, Sight, one_line, two_lines};
-use cx_expr::{expr, level};
+use cx_declare::expr;
 use cx_lex::{Keyword, Punct};
 use cx_tree::{BlockItem, Stmt};
+use cx_words::{level, sees_decl, sees_else, sees_label};
 use std::alloc::Global;
 
 // What stands in a block: a declaration or a statement (6.8.2).
@@ -185,7 +186,7 @@ fn behind_branch(
     requires { depth < 2 ^ 31 }
     ensures { Answers (λ s. stmt_view s) result cursor.new (reader.behind_branch (reader.stmt depth) depth (head_read (expr_view head.expr) head.lines) (stmt_view branch) cursor.old) }
 {
-    if !cursor.sees_key(Keyword::Else) {
+    if !sees_else(cursor) {
         return Ok(if_of(alloc, head, branch, None)?);
     }
     let mut head = head;

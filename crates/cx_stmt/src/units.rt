@@ -13,9 +13,11 @@ use crate::declarations::{behind_first, no_declarators};
 use crate::stmts::block;
 use cr_base::{Boxed, Items, Memory};
 use cx_cursor::{Bound, Cursor, Fault};
-use cx_expr::{Form, ReadDeclarator, declarator, declare, specs_from};
+use cx_declare::{declarator, specs_from};
+use cx_expr::ReadDeclarator;
 use cx_lex::Punct;
 use cx_tree::{Definition, External, Spec, Stmt, Unit};
+use cx_words::{Form, declare};
 use std::alloc::Global;
 
 // Declares names again. Refused only for want of memory.

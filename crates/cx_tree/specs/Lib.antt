@@ -2,8 +2,6 @@ pub mod Depth
 pub mod Derives
 pub mod Levels
 pub mod Names
-pub mod Parts
-pub mod Printing
 pub mod Tokens
 pub mod Trees
 pub mod Valid

@@ -2,6 +2,7 @@
 
 mod bytes;
 mod copy;
+mod crates;
 mod files;
 mod host;
 mod job;
@@ -76,6 +77,16 @@ pub(crate) enum Inside {
     Sure,
     /// The translation of a unit.
     Transpile,
+    /// The crate that files read as.
+    Crate,
+    /// The crate of one module.
+    Module,
+    /// The modules that `main.rs` names.
+    Modules,
+    /// Whether a crate is well typed.
+    Check,
+    /// Whether the crate of one module is.
+    Typed,
 }
 
 #[derive(Clone, Copy)]
@@ -86,7 +97,7 @@ pub(crate) enum Outside {
     Disk,
 }
 
-const STAGES: [(&str, Stage); 23] = [
+const STAGES: [(&str, Stage); 28] = [
     ("rule", Stage::Inside(Inside::Rule)),
     ("value", Stage::Inside(Inside::Value)),
     ("copy", Stage::Inside(Inside::Copy)),
@@ -108,6 +119,11 @@ const STAGES: [(&str, Stage); 23] = [
     ("files", Stage::Inside(Inside::Files)),
     ("sure", Stage::Inside(Inside::Sure)),
     ("transpile", Stage::Inside(Inside::Transpile)),
+    ("crate", Stage::Inside(Inside::Crate)),
+    ("module", Stage::Inside(Inside::Module)),
+    ("modules", Stage::Inside(Inside::Modules)),
+    ("check", Stage::Inside(Inside::Check)),
+    ("typed", Stage::Inside(Inside::Typed)),
     ("stream", Stage::Outside(Outside::Stream)),
     ("disk", Stage::Outside(Outside::Disk)),
 ];
@@ -158,6 +174,11 @@ impl Inside {
             Inside::Files => files::answer(alloc, asked, out),
             Inside::Sure => files::answer_surely(alloc, asked, out),
             Inside::Transpile => transpile::answer(alloc, asked, out),
+            Inside::Crate => crates::answer(alloc, asked, out),
+            Inside::Module => crates::answer_module(alloc, asked, out),
+            Inside::Modules => crates::answer_modules(alloc, asked, out),
+            Inside::Check => crates::answer_check(alloc, asked, out),
+            Inside::Typed => crates::answer_typed(alloc, asked, out),
         }
     }
 }

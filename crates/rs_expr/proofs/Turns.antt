@@ -4,7 +4,7 @@ use Rattle.std.proofs.lemmas.Bool.{cond-true, cond-false}
 use Rattle.rs_expr.specs.Reading.{Toks, Reader, read_of, added, many}
 use Rattle.rs_expr.specs.Signs.{sign_at}
 use Rattle.rs_expr.specs.Exprs.{is_dot, tail, tails, expr, expr_from}
-use Rattle.rs_tree.specs.Tree.{Expr}
+use Rattle.rs_tree.specs.Tree.{Expr, NoFunction, Boolean}
 use Rattle.rs_expr.specs.Types.{ty, ty_from}
 use Rattle.rs_expr.specs.declared.sign.Sign.{Sign}
 
@@ -71,6 +71,16 @@ expr_some zero tokens some = absurd (omega (arith, some))
 expr_some (suc levels) tokens some =
     let e : levels ≡ suc levels - 1 = omega arith in
     ap (λ (n : ℕ). expr_from (expr n) tokens) e
+
+pub expr_none : (levels : ℕ) (tokens : Toks) → levels ≡ 0 → expr levels tokens ≡ read_of NoFunction tokens
+unfolding expr
+expr_none zero tokens none = refl
+expr_none (suc levels) tokens none = absurd (omega (arith, none))
+
+pub ty_none : (levels : ℕ) (tokens : Toks) → levels ≡ 0 → ty levels tokens ≡ read_of Boolean tokens
+unfolding ty
+ty_none zero tokens none = refl
+ty_none (suc levels) tokens none = absurd (omega (arith, none))
 
 pub ty_some : (levels : ℕ) (tokens : Toks) → 0 < levels → ty levels tokens ≡ ty_from (ty (levels - 1)) tokens
 unfolding ty

@@ -8,7 +8,7 @@ ghost use Rattle.rs_tree.specs.Views.{expr_view};
 
 use crate::atoms::number;
 use crate::cursor::Cursor;
-use crate::expr_nodes::{and, binary, cast_of, choice, neg, not, or, read_deref};
+use crate::expr_nodes::{and, binary, cast_of, choice, neg, no_function, not, or, read_deref};
 use crate::operands::operand;
 use crate::sign::Sign;
 use crate::types::ty;
@@ -214,12 +214,12 @@ fn expr_from(alloc: Global, cursor: &mut Cursor<'_>, levels: usize) -> Result<Bo
 
 /// Reads an expression of at most so many levels. Refused only for want of memory.
 #[cycle(expr)]
-#[tactic(auto, using(crate::proofs::Turns::expr_some))]
+#[tactic(auto, using(crate::proofs::Turns::expr_some, crate::proofs::Turns::expr_none))]
 pub fn expr(alloc: Global, cursor: &mut Cursor<'_>, levels: usize) -> Result<Boxed<RExpr>, Memory>
     ensures { Gives (λ e. expr_view e) result cursor.new (reader.expr levels cursor.old) }
 {
     if levels == 0 {
-        return Err(Memory);
+        return no_function(alloc);
     }
     cursor.enter()?;
     let read = expr_from(alloc, cursor, levels - 1)?;

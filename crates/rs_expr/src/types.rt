@@ -194,12 +194,12 @@ fn ty_from(alloc: Global, cursor: &mut Cursor<'_>, levels: usize) -> Result<Boxe
 
 /// Reads a type of at most so many levels. Refused only for want of memory.
 #[cycle(ty)]
-#[tactic(auto, using(crate::proofs::Turns::ty_some))]
+#[tactic(auto, using(crate::proofs::Turns::ty_some, crate::proofs::Turns::ty_none))]
 pub fn ty(alloc: Global, cursor: &mut Cursor<'_>, levels: usize) -> Result<Boxed<RTy>, Memory>
     ensures { Gives (λ t. ty_view t) result cursor.new (reader.ty levels cursor.old) }
 {
     if levels == 0 {
-        return Err(Memory);
+        return boolean(alloc);
     }
     cursor.enter()?;
     let read = ty_from(alloc, cursor, levels - 1)?;

@@ -261,7 +261,7 @@ fn stmts_from(alloc: Global, cursor: &mut Cursor<'_>, levels: usize) -> Result<I
 
 /// Reads statements of blocks of at most so many levels, up to a brace. Refused only for want of memory.
 #[cycle(stmts)]
-#[tactic(auto, using(crate::proofs::Levels::stmts_some))]
+#[tactic(auto, using(crate::proofs::Levels::stmts_some, crate::proofs::Levels::stmts_none))]
 pub(crate) fn read_stmts(
     alloc: Global,
     cursor: &mut Cursor<'_>,
@@ -270,7 +270,7 @@ pub(crate) fn read_stmts(
     ensures { Gives (λ l. map stmt_view l) result cursor.new (reader.read_stmts levels cursor.old) }
 {
     if levels == 0 {
-        return Err(Memory);
+        return Ok(Items::new(alloc));
     }
     cursor.enter()?;
     let read = stmts_from(alloc, cursor, levels - 1)?;

@@ -105,7 +105,7 @@ two_or_ends false ts us h = h
 abbrev ended : ℕ → Text → ℕ → Toks
 ended n x k = if nat_le 1 k && nat_le k n then replicate k Close else Mark x ∷ []
 
-no_end : (n : ℕ) (x : Text) → bytes_eq x (codes ">") ≡ false → bytes_eq x (codes ">>") ≡ false → closed_token n (Mark x) ≡ Mark x ∷ []
+pub no_end : (n : ℕ) (x : Text) → bytes_eq x (codes ">") ≡ false → bytes_eq x (codes ">>") ≡ false → closed_token n (Mark x) ≡ Mark x ∷ []
 no_end n x h k =
     ap (λ (b : Bool). ended n x (if b then 1 else if bytes_eq x (codes ">>") then 2 else 0)) h
     ∙ ap (λ (c : Bool). ended n x (if c then 2 else 0)) k

@@ -28,7 +28,7 @@ same_is (Mark x) (Mark y) h = ap Mark (same_text x y (sym h))
 same_is Close Close h = refl
 same_is _ _ h = cc
 
-all_same : (ts us : Toks) → same_tokens ts us ≡ true → ts ≡ us
+pub all_same : (ts us : Toks) → same_tokens ts us ≡ true → ts ≡ us
 all_same [] [] h = refl
 all_same [] (u ∷ us) h = cc
 all_same (t ∷ ts) [] h = cc
@@ -42,7 +42,7 @@ one_self (Quoted x) = same_self x
 one_self (Mark x) = same_self x
 one_self Close = refl
 
-all_self : (ts : Toks) → same_tokens ts ts ≡ true
+pub all_self : (ts : Toks) → same_tokens ts ts ≡ true
 all_self [] = refl
 all_self (t ∷ ts) = ap (λ b. b && same_tokens ts ts) (one_self t) ∙ all_self ts
 

@@ -19,13 +19,13 @@ use Rattle.rs_parse.proofs.NameSigns.{not_true}
 
 -- ---- what a valid crate is made of
 
-record Parts (whole : CrateTree) : Type 0 where
-  names : list_all is_module_name (module_names whole) ≡ true
-  differ : all_differ (module_names whole) ≡ true
-  items : list_all (λ unit. valid_items unit.items) whole.modules ≡ true
-  entry : has_entry (slice_get whole.modules whole.entry) ≡ true
+pub record Parts (whole : CrateTree) : Type 0 where
+  pub names : list_all is_module_name (module_names whole) ≡ true
+  pub differ : all_differ (module_names whole) ≡ true
+  pub items : list_all (λ unit. valid_items unit.items) whole.modules ≡ true
+  pub entry : has_entry (slice_get whole.modules whole.entry) ≡ true
 
-parts_of : (whole : CrateTree) → valid_crate whole ≡ true → Parts whole
+pub parts_of : (whole : CrateTree) → valid_crate whole ≡ true → Parts whole
 parts_of whole v =
     let parts = and_parts (valid_names (module_names whole) && list_all (λ unit. valid_items unit.items) whole.modules) (has_entry (slice_get whole.modules whole.entry)) v in
     let first = and_parts (valid_names (module_names whole)) (list_all (λ unit. valid_items unit.items) whole.modules) parts.0 in
@@ -51,7 +51,7 @@ both_hold (t ∷ u ∷ others) f g a b = cc
 
 -- ---- `main.rs`
 
-main_is : (text : Text) (names : List Text) (entry : Text) → list_all is_module_name names ≡ true → is_module_name entry ≡ true → spells_main text names entry ≡ true →
+pub main_is : (text : Text) (names : List Text) (entry : Text) → list_all is_module_name names ≡ true → is_module_name entry ≡ true → spells_main text names entry ≡ true →
     tokens_in text ≡ Some (main_tokens names entry)
 main_is text names entry v w h =
     plain_tokens (tokens_in text) (main_tokens names entry) (main_plain names entry) (ap (λ o. both_fit (tokens_in text) o) (sym (main_spelled names entry v w)) ∙ h)
@@ -71,7 +71,7 @@ some_same x y h = cc
 abbrev behind_declared : List Text → Text → Toks
 behind_declared names entry = (Word (codes "unsafe") ∷ Mark (codes "{") ∷ []) ++ (begun names ++ (left entry ++ ((Mark (codes "}") ∷ []) ++ (Mark (codes "}") ∷ []))))
 
-names_same : (ns ms : List Text) (e f : Text) → main_tokens ns e ≡ main_tokens ms f → ns ≡ ms
+pub names_same : (ns ms : List Text) (e f : Text) → main_tokens ns e ≡ main_tokens ms f → ns ≡ ms
 names_same ns ms e f h =
     sym (declarations_are ns (behind_declared ns e)) ∙ ap (λ (l : Toks). declarations (drop 10 l)) h ∙ declarations_are ms (behind_declared ms f)
 
@@ -87,7 +87,7 @@ abbrev word_at : Toks → Text
 word_at (Word w ∷ ts) = w
 word_at _ = []
 
-entry_same : (ns : List Text) (e f : Text) → main_tokens ns e ≡ main_tokens ns f → e ≡ f
+pub entry_same : (ns : List Text) (e f : Text) → main_tokens ns e ≡ main_tokens ns f → e ≡ f
 entry_same ns e f h =
     let one = cancel_left allowed _ _ h in
     let two = cancel_left (declared ns) _ _ one in
@@ -98,7 +98,7 @@ entry_same ns e f h =
 
 -- ---- the number of the entry
 
-abbrev name_at : List ModuleTree → ℕ → Text
+abbrev pub name_at : List ModuleTree → ℕ → Text
 name_at units k = name_or_empty (slice_get units k)
 
 not_among : (n : Text) (units : List ModuleTree) (k : ℕ) → list_any (λ other. bytes_eq other n) (map (λ unit. unit.name) units) ≡ false → has_entry (slice_get units k) ≡ true →
@@ -122,7 +122,7 @@ other_names (n ∷ ns) = ns
 head_name : (n m : Text) (ns ms : List Text) → n ∷ ns ≡ m ∷ ms → (n ≡ m) × (ns ≡ ms)
 head_name n m ns ms h = (ap (λ (l : List Text). first_of_names l) h, ap (λ (l : List Text). other_names l) h)
 
-number_same : (units others : List ModuleTree) (k l : ℕ) → map (λ unit. unit.name) units ≡ map (λ unit. unit.name) others → all_differ (map (λ unit. unit.name) units) ≡ true →
+pub number_same : (units others : List ModuleTree) (k l : ℕ) → map (λ unit. unit.name) units ≡ map (λ unit. unit.name) others → all_differ (map (λ unit. unit.name) units) ≡ true →
     has_entry (slice_get units k) ≡ true → has_entry (slice_get others l) ≡ true → name_at units k ≡ name_at others l → k ≡ l
 number_same [] others k l h d e f same = cc
 number_same (u ∷ units) [] k l h d e f same = cc

@@ -2,8 +2,8 @@
 use Rattle.std.specs.Prelude.{⊤, ℕ, Bool, ◌&&◌, List, map, Result, Ok, Err, IsTrue}
 use Rattle.std.specs.List.{flat_map}
 use Rattle.rs_lex.specs.Same.{same_tokens}
-use Rattle.rs_parse.specs.declared.module.ReadFault.{ReadFault}
-use Rattle.rs_parse.specs.declared.module.ReadFault.TheVariants.{NotRust, Memory}
+use Rattle.rs_parse.specs.declared.fault.ReadFault.{ReadFault}
+use Rattle.rs_parse.specs.declared.fault.ReadFault.TheVariants.{NotRust, Memory}
 use Rattle.rs_tree.specs.declared.item.Item.{Item}
 use Rattle.rs_tree.specs.Reads.{spells}
 use Rattle.rs_tree.specs.Spelling.{item_tokens}
@@ -24,7 +24,7 @@ pub record IsModule (text : List ℕ) (items : List ItemTree) : Type 0 where
 -- the answer is the items of the module whose text it is, or that it is that of none, want of memory aside
 abbrev pub IsRead : List ℕ → Result (List Item) ReadFault → Type 0
 IsRead text (Ok items) = IsModule text (map item_view items)
-IsRead text (Err (NotRust line)) = (items : List ItemTree) → IsModule text items → ⊥
+IsRead text (Err (NotRust file line)) = (items : List ItemTree) → IsModule text items → ⊥
 IsRead text (Err Memory) = ⊤
 
 -- items are valid, and these tokens are theirs

@@ -1,5 +1,6 @@
 //! Laws of reading.
 
+ghost use Rattle.rs_parse.specs.Crates.{OneMain};
 ghost use Rattle.rs_parse.specs.Laws.{ModulesAreRead, TextsAreClosed, OneModule, ModuleTextsSpell, TextReads, OneCrate};
 
 /// Law: the tokens of each valid module are read as its items.
@@ -31,4 +32,9 @@ pub fn text_reads()
 /// Law: files read as one crate at most.
 pub fn one_crate()
     ensures { OneCrate }
+{}
+
+/// Law: a text is that of `main.rs` for one list of names of modules at most.
+pub fn one_main()
+    ensures { OneMain }
 {}

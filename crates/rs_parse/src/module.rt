@@ -1,40 +1,20 @@
 //! Reading of a module's text.
 
-ghost use Rattle.std.specs.Prelude.{◌≡◌, map, IfOk, IsTrue};
+ghost use Rattle.std.specs.Prelude.{◌≡◌, IfOk, IsTrue};
 ghost use Rattle.std.specs.Option.{is_none};
 ghost use Rattle.rs_lex.specs.Views.{tokens_view};
 ghost use Rattle.rs_parse.specs.Module.{IsRead, tokens_of, are_theirs};
 ghost use Rattle.rs_tree.specs.Valid.{valid_items};
-ghost use Rattle.rs_tree.specs.Views.{item_view, module_view};
+ghost use Rattle.rs_tree.specs.Views.{module_view};
 
+use crate::fault::ReadFault;
 use cr_base::{Items, Memory, Name};
 use rs_item::items_of;
-use rs_lex::{LexFault, Token, first_other_line, lex, same_tokens};
+use rs_lex::{LexFault, Token, TokenKind, first_other_line, lex, same_tokens};
 use rs_print::bytes_of;
 use rs_tree::{Item, Module, module_lines};
-use rs_valid::are_valid_items;
+use rs_valid::{are_valid_items, valid_front};
 use std::alloc::Global;
-
-/// Why a text gives no module.
-#[derive(Drop)]
-pub enum ReadFault {
-    /// It is that of no module of the subset: the first token that isn't one of the module that was
-    /// read stands on this line, counted from 1.
-    NotRust { line: u32 },
-    /// Memory ran out.
-    Memory,
-}
-
-impl From<Memory> for ReadFault {
-    ghost use Rattle.std.specs.Prelude.{◌≡◌};
-    ghost use Rattle.rs_parse.specs.declared.module.ReadFault.TheVariants.{Memory};
-
-    ghost from_gives = { λ _ fault. fault ≡ Memory };
-
-    fn from(_memory: Memory) -> ReadFault {
-        ReadFault::Memory
-    }
-}
 
 /// The items of the module whose text it is. `NotRust` says that it is the text of no module.
 #[tactic(auto, using(crate::proofs::ModuleRead::found, crate::proofs::ModuleRead::refused, crate::proofs::ModuleRead::no_tokens))]
@@ -43,7 +23,7 @@ pub fn read_items(alloc: Global, text: &[u8]) -> Result<Items<Item>, ReadFault>
 {
     let tokens = match lex(alloc, text) {
         Err(LexFault::Memory) => return Err(ReadFault::Memory),
-        Err(LexFault::NotTokens { line }) => return Err(ReadFault::NotRust { line }),
+        Err(LexFault::NotTokens { line }) => return Err(ReadFault::NotRust { file: 0, line }),
         Ok(tokens) => tokens,
     };
     let items = items_of(alloc, tokens.as_slice())?;
@@ -53,7 +33,64 @@ pub fn read_items(alloc: Global, text: &[u8]) -> Result<Items<Item>, ReadFault>
     };
     match other_line(alloc, tokens.as_slice(), &module)? {
         None => Ok(module.items),
-        Some(line) => Err(ReadFault::NotRust { line }),
+        Some(line) => Err(ReadFault::NotRust { file: 0, line }),
+    }
+}
+
+// The tokens behind the first of an item that begins with them: behind a semicolon for a static object, and
+// otherwise behind the brace that closes the first one.
+fn behind_item<'t>(tokens: &'t [Token], item: &Item) -> &'t [Token] {
+    let last = match item {
+        Item::Static(_) => b";".as_slice(),
+        _ => b"}".as_slice(),
+    };
+    let mut depth: u32 = 0;
+    for index in 0..tokens.len() {
+        if let TokenKind::Mark(mark) = &tokens[index].kind {
+            depth = depth_behind(depth, mark.bytes());
+            if depth == 0 && mark.bytes() == last {
+                return &tokens[index + 1..];
+            }
+        }
+    }
+    &[]
+}
+
+// How many brackets are open behind a mark.
+fn depth_behind(depth: u32, mark: &[u8]) -> u32 {
+    match mark {
+        b"{" | b"[" | b"(" => depth.saturating_add(1),
+        b"}" | b"]" | b")" => depth.saturating_sub(1),
+        _ => depth,
+    }
+}
+
+// The line of the first item that isn't valid in its place, of items of these tokens, or the last line where
+// all are.
+fn invalid_line(tokens: &[Token], items: &[Item]) -> u32 {
+    let mut rest = tokens;
+    for index in 0..valid_front(items) {
+        if index < items.len() {
+            rest = behind_item(rest, &items[index]);
+        }
+    }
+    match (rest.first(), tokens.last()) {
+        (Some(token), _) | (None, Some(token)) => token.line,
+        (None, None) => 1,
+    }
+}
+
+// The line of the first token that isn't one of items that aren't those of a module, or the line of the first
+// item that isn't valid in its place where all tokens are theirs.
+fn wrong_line(alloc: Global, tokens: &[Token], module: &Module) -> Result<u32, Memory> {
+    let lines = module_lines(alloc, module)?;
+    let text = bytes_of(alloc, lines.as_slice())?;
+    match lex(alloc, text.as_slice()) {
+        Err(LexFault::Memory) => Err(Memory),
+        Ok(printed) if !same_tokens(tokens, printed.as_slice()) => {
+            Ok(first_other_line(tokens, printed.as_slice()))
+        }
+        _ => Ok(invalid_line(tokens, module.items.as_slice())),
     }
 }
 
@@ -63,7 +100,8 @@ fn other_line(alloc: Global, tokens: &[Token], module: &Module) -> Result<Option
     ensures { IfOk result (λ line. is_none line ≡ are_theirs (tokens_view tokens.now) (module_view «module».now).items) }
 {
     if !are_valid_items(module.items.as_slice()) {
-        return Ok(Some(1));
+        let line = wrong_line(alloc, tokens, module)?;
+        return Ok(Some(line));
     }
     let printed = printed_tokens(alloc, module)?;
     if same_tokens(tokens, printed.as_slice()) {

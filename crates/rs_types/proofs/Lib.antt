@@ -1,11 +1,4 @@
-pub mod Calls
-pub mod Common
-pub mod Found
-pub mod Layouts
-pub mod LayoutsAligned
-pub mod LayoutsExamples
-pub mod LayoutsFields
-pub mod LayoutsNames
-pub mod LayoutsTyped
-pub mod Locals
-pub mod Types
+pub mod Bodies
+pub mod Externals
+pub mod NameLemmas
+pub mod Walks

@@ -1,8 +1,4 @@
-pub mod Calls
-pub mod Forms
-pub mod Found
-pub mod Kinds
-pub mod Layouts
-pub mod LayoutsNumbered
-pub mod Scopes
-pub mod Signatures
+pub mod Bodies
+pub mod Checked
+pub mod KnownTypes
+pub mod Names

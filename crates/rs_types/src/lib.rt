@@ -2,16 +2,10 @@
 //! "Type system" and "Type layout").
 #![tactic(auto)]
 
-mod exprs;
-mod forms;
-mod kind;
-mod layout;
-mod lookup;
-mod operands;
-mod same;
-mod scope;
-mod signature;
-mod stands;
-mod stmts;
+mod checked;
+mod items;
+mod known;
+mod names;
 
-pub use layout::{field_at, repr_c};
+pub use checked::{TypeFault, check_crate};
+pub use rs_layout::{field_at, repr_c};

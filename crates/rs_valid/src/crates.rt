@@ -86,6 +86,28 @@ fn last_is_initialiser(items: &[Item]) -> bool
     ends
 }
 
+// Whether an item is valid, where one of this kind or a later one may stand.
+fn can_stand(first: u8, item: &Item) -> bool
+    ensures { result ≡ lists.can_stand first (item_view item.now) }
+{
+    first <= kind(item) && is_valid_item(item)
+}
+
+/// How many items come before the first one that isn't valid or is out of order; all, where there is none.
+pub fn valid_front(items: &[Item]) -> usize
+    ensures { result ≡ lists.valid_front 0 (map item_view items.now) }
+{
+    let mut first = 0;
+    for index in 0..items.len() {
+        let item = &items[index];
+        if !can_stand(first, item) {
+            return index;
+        }
+        first = next_kind(item);
+    }
+    items.len()
+}
+
 /// Whether items are valid, and in order, and the last is the initialiser.
 pub fn are_valid_items(items: &[Item]) -> bool
     ensures { result ≡ valid.valid_items (map item_view items.now) }
@@ -139,7 +161,8 @@ fn have_other_names(modules: &[Module]) -> bool
     true
 }
 
-fn have_valid_names(modules: &[Module]) -> bool
+/// Whether the names of modules are those of a crate's: from 1 to 64 names of modules, which differ.
+pub fn have_valid_names(modules: &[Module]) -> bool
     ensures { result ≡ valid.valid_names (lists.names_of modules.now) }
 {
     1 <= modules.len()
@@ -148,7 +171,8 @@ fn have_valid_names(modules: &[Module]) -> bool
         && have_other_names(modules)
 }
 
-fn have_entry(items: &[Item]) -> bool
+/// Whether a function with a body among these items is `main_0`.
+pub fn have_main(items: &[Item]) -> bool
     ensures { result ≡ list_any (valid.is_function (codes "main_0")) (map item_view items.now) }
 {
     for item in items {
@@ -165,7 +189,7 @@ fn has_entry(whole: &Crate) -> bool
 {
     match whole.modules.get(whole.entry as usize) {
         None => false,
-        Some(module) => have_entry(module.items.as_slice()),
+        Some(module) => have_main(module.items.as_slice()),
     }
 }
 

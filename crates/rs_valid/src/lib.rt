@@ -8,4 +8,4 @@ mod stmts;
 mod types;
 mod words;
 
-pub use crates::{are_valid_items, is_valid};
+pub use crates::{are_valid_items, have_main, have_valid_names, is_valid, valid_front};

@@ -1,0 +1,15 @@
+use Rattle.std.proofs.Common.{rules, ◌-◌, suc, length, ◌∙◌, arith}
+use Rattle.std.proofs.lemmas.Grind.{common_steps}
+use Rattle.cx_cursor.proofs.Turns.{many_next}
+use Rattle.cx_expr.specs.Declarators.{no_tail, tail}
+use Rattle.cx_expr.specs.Knot.{readers}
+use Rattle.cx_declare.proofs.declarators.tails.Goals as goal
+
+pub loop-turn-preserved : goal.loop-turn-preserved
+loop-turn-preserved g c = (
+  c.in_ok-of.ensures.within,
+  c.in_ok-of.ensures.depth,
+  many_next no_tail (tail (readers c.args.depth) c.args.depth) (suc (length c.args.cursor.now.tokens) - c.loop-turn._turn) _ _ _ _ _ (omega arith)
+      (first_of (search rules, grind (arith, common_steps))) c.in_ok-of.ensures.reads
+      ∙ c.loop-turn.invariant.2,
+)

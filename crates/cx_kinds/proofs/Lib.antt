@@ -1,0 +1,3 @@
+pub mod Extents
+pub mod Pairwise
+pub mod Qualifying

@@ -1,0 +1,14 @@
+pub mod NodesAgree
+pub mod TreesAgree
+pub mod UnitLaw
+pub mod UnitNodesAgree
+pub mod UnitsAgree
+pub mod Verdicts
+pub mod Worked
+pub mod WorkedDeclarations
+pub mod WorkedExpressions
+pub mod WorkedInitialisers
+pub mod WorkedMentions
+pub mod WorkedPuts
+pub mod WorkedTypes
+pub mod WorkedUnits

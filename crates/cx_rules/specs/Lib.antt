@@ -1,0 +1,17 @@
+pub mod Declare
+pub mod Initial
+pub mod Laws
+pub mod Lines
+pub mod Meanings
+pub mod Nodes
+pub mod Operands
+pub mod Pairs
+pub mod Pieces
+pub mod Readings
+pub mod Rules
+pub mod Scope
+pub mod Shapes
+pub mod Types
+pub mod UnitWalk
+pub mod Units
+pub mod Walk

@@ -1,0 +1,4 @@
+pub mod Calls
+pub mod Common
+pub mod Locals
+pub mod Types

@@ -1,0 +1,18 @@
+//! The kinds of the values of the written Rust, and which of its statements are well typed (the Rust Reference,
+//! "Type system" and "Statements and expressions").
+#![tactic(auto)]
+
+mod exprs;
+mod forms;
+mod kind;
+mod operands;
+mod same;
+mod scope;
+mod signature;
+mod stands;
+mod stmts;
+
+pub use same::{is_integer_of, same_results, same_type};
+pub use scope::{HeldScope, Labels};
+pub use stands::{is_scalar_type, object_stands, params_stand, result_stands, type_stands};
+pub use stmts::stmts_typed;

@@ -1,0 +1,4 @@
+pub mod Found
+pub mod Layouts
+pub mod LayoutsNumbered
+pub mod Places

@@ -1,0 +1,5 @@
+use Rattle.rs_machine.proofs.Rules.{pure_does}
+use Rattle.rs_scene.proofs.flow.continues.Goals as goal
+
+pub returns : goal.returns
+returns c = pure_does _

@@ -1,0 +1,10 @@
+use Rattle.std.proofs.Common.{◌≡◌, ◌++◌, map, drop, flat_map}
+use Rattle.rs_scene.specs.Scenes.{held_static}
+use Rattle.rs_mean.specs.Lookups.{statics_in}
+use Rattle.rs_tree.specs.Views.{item_view}
+use Rattle.rs_scene.proofs.scene.add_statics.Given as goal
+
+-- what is listed, and then those of the items that are left, are all
+abbrev pub invariant-loop-item : goal.invariant-loop-item
+invariant-loop-item l = map held_static l.list ++ flat_map (statics_in l.home) (map item_view (drop l.item-index l.items))
+    ≡ map held_static l.fn.list ++ flat_map (statics_in l.home) (map item_view l.items)

@@ -1,0 +1,4 @@
+pub mod Calls
+pub mod Flows
+pub mod Frames
+pub mod Scenes

@@ -1,8 +1,0 @@
-use Rattle.std.proofs.Common.{◌≡◌, map, drop}
-use Rattle.rs_tree.specs.Views.{item_view}
-use Rattle.rs_types.specs.Found.{function_among}
-use Rattle.rs_types.proofs.lookup.function_among.Given as goal
-
--- the function stands among the items that are left
-abbrev pub invariant-loop-item : goal.invariant-loop-item
-invariant-loop-item l = function_among l.home l.path.home l.path.name (map item_view (drop l.item-index l.items)) ≡ function_among l.home l.path.home l.path.name (map item_view l.items)

@@ -1,0 +1,3 @@
+pub mod Finds
+pub mod Operators
+pub mod Views
