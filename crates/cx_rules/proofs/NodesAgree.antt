@@ -631,7 +631,7 @@ pub on_whole_text : (x1 : ℕ) (x2 : CTarget) (x3 : List (List ℕ)) → Agree C
 on_whole_text line target parts = (on_chain _ _ _ _ _ _ on_here (λ scope. (on_either _ (fills_whole target) _ _ _ _ (on_whole_text_at line target (joined_bytes parts) scope (whole_at target)) (on_chain _ _ _ _ _ _ (on_text_seen parts line) (λ value. (on_whole_given line target value))))))
 
 pub on_list_begins : (x1 : CTarget) (x2 : EntryTrees) (x3 : List CStored) → Agree CFilling (c_list_begins x1 x2 x3) (s_list_begins x1 x2 x3)
-on_list_begins target entries stored = (on_chain _ _ _ _ _ _ on_here (λ scope. (on_gives _ _)))
+on_list_begins target _ stored = (on_chain _ _ _ _ _ _ on_here (λ scope. (on_gives _ _)))
 
 pub on_list_given : (x1 : CTarget) (x2 : Option CAt) (x3 : CFilling) (x4 : List CStored) → Agree CFilling (c_list_given x1 x2 x3 x4) (s_list_given x1 x2 x3 x4)
 on_list_given target at filling stored = (on_chain _ _ _ _ _ _ on_here (λ scope. (on_gives _ _)))

@@ -33,7 +33,7 @@ expr_line (Comma left right lines) = expr_line left
 abbrev pub spec_line : SpecTree → ℕ
 spec_line (Key word lines) = own_line lines
 spec_line (Typedef name lines) = own_line lines
-spec_line (Record is_union tag members lines) = own_line lines
+spec_line (Record is_union tag _ lines) = own_line lines
 spec_line (Enum tag list last_comma lines) = own_line lines
 
 -- specifiers, of which there is at least one
@@ -51,11 +51,11 @@ declarator_line missing (Identifier name lines) = own_line lines
 declarator_line missing (Group inner lines) = own_line lines
 declarator_line missing (Pointer qualifiers of lines) = own_line lines
 declarator_line missing (Array of brackets lines) = declarator_line (own_line lines) of
-declarator_line missing (Function of params variadic lines) = declarator_line (own_line lines) of
+declarator_line missing (Function of _ variadic lines) = declarator_line (own_line lines) of
 declarator_line missing (Identifiers of names lines) = declarator_line (own_line lines) of
 
 abbrev pub list_line : InitialiserListTree → ℕ
-list_line (InitialiserList entries last_comma lines) = own_line lines
+list_line (InitialiserList _ last_comma lines) = own_line lines
 
 abbrev pub initialiser_line : InitialiserTree → ℕ
 initialiser_line (Single value) = expr_line value
