@@ -14,9 +14,9 @@ ghost use Rattle.rs_value.specs.Views.{typed_view};
 use crate::scene::HeldLocal;
 use cr_base::Items;
 use mem_bytes::{Ptr, Store, Value};
+use rs_layout::laid_of;
 use rs_machine::{Halt, begin, end_block, store_at};
 use rs_tree::{Function, Local, Module};
-use rs_layout::laid_of;
 use rs_value::TypedValue;
 use std::alloc::Global;
 

@@ -15,8 +15,8 @@ ghost use Rattle.rs_value.specs.Views.{typed_view, value_ty_view};
 
 use crate::flow::Flow;
 use crate::values::Pointed;
-use rs_tree::{Function, Local, RTy};
 use rs_layout::HeldCallee;
+use rs_tree::{Function, Local, RTy};
 use rs_value::{TypedValue, alike, result_ty, value_ty};
 
 // Whether arguments are those of these parameters, and as many others as are asked for.

@@ -20,10 +20,10 @@ use crate::lookup::{local_home, static_home};
 use crate::scene::{HeldHome, Scene};
 use cr_base::{Int, Name};
 use mem_bytes::{Ptr, Store, Value, moved};
+use rs_layout::{PlacedField, field_place};
 use rs_machine::Halt;
 use rs_mean::Cause;
 use rs_tree::{Module, RPath, RTy};
-use rs_layout::{PlacedField, field_place};
 use rs_value::{TypedValue, ValueSpot, ValueTy, cause_of_pointer};
 
 fn settle_spot<'t>(found: Result<ValueSpot<'t>, Cause>) -> Result<ValueSpot<'t>, Halt<'t>>

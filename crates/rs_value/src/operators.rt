@@ -22,9 +22,9 @@ use crate::trouble::Trouble;
 use crate::typed::{TypedValue, ValueTy, result_ty};
 use cr_base::{Int, Laid};
 use mem_bytes::{PointerFault, Store, Value, difference, distance, moved};
+use rs_layout::laid_of;
 use rs_mean::Cause;
 use rs_tree::{IntegerTy, Module, Operator, RTy, Wrapping};
-use rs_layout::laid_of;
 
 /// A truth value.
 pub fn truth<'t>(test: bool) -> TypedValue<'t>
