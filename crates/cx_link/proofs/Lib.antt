@@ -1,0 +1,2 @@
+pub mod Mains
+mod Worked
