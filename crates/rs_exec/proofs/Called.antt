@@ -1,5 +1,5 @@
 -- Arguments, frames and calls, and what an engine does of them.
-use Rattle.std.proofs.Common.{◌≡◌, ◌∙◌, refl, sym, ap, subst, arith, ℕ, zero, suc, Bool, true, false, List, [], ◌∷◌, ◌++◌, length, map, Option, Some, None, option_map, Result, Ok, Bor}
+use Rattle.std.proofs.Common.{◌≡◌, ◌∙◌, refl, sym, ap, subst, arith, ℕ, Bool, true, false, List, [], ◌∷◌, ◌++◌, length, map, Option, Some, None, option_map, Ok, Bor}
 use Rattle.std.proofs.lemmas.List.{map-append}
 use Rattle.cr_runs.specs.Runs.{Ran, came, halted, bad, out, bind}
 use Rattle.cr_world.specs.Held.{Held, without_block, with_blocks}
@@ -33,7 +33,7 @@ use Rattle.rs_machine.specs.Does.{End, gives, stops, Stopped, no_units, went_wro
 use Rattle.rs_machine.specs.States.{State, Kept, state}
 use Rattle.rs_machine.specs.Moves.{TookUnit}
 use Rattle.rs_machine.proofs.Pieces.{then_does, stops_first, same_does, Quiet}
-use Rattle.rs_machine.proofs.Rules.{pure_does, pure_is, fails_does, true_does, false_does, local_does, TakesUnit, unit_does, no_unit_does}
+use Rattle.rs_machine.proofs.Rules.{pure_is, fails_does, true_does, false_does, local_does, TakesUnit, unit_does, no_unit_does}
 use Rattle.rs_scene.proofs.Sequences.{behind_none, joined_does, no_more, one_more}
 
 -- ---- arguments

@@ -1,10 +1,7 @@
 -- What variants of expressions are as trees, and that an expression runs as what it is.
-use Rattle.std.proofs.Common.{◌≡◌, ◌∙◌, sym, ap, subst, rules, map, ℕ, List, Option, option_map}
-use Rattle.rs_mean.specs.Calls.{load}
-use Rattle.rs_mean.specs.Run.{Frame, run_expr, run_exprs, run_place, call_at, the_value}
-use Rattle.rs_mean.specs.Layout.{laid_of}
-use Rattle.rs_mean.specs.Values.{Typed, typed, wrapping_of, offset_of, offset_from_of, binary_of, cast_of, transmuted}
-use Rattle.rs_mean.specs.World.{pure, seq, looks, or_fails}
+use Rattle.std.proofs.Common.{◌≡◌, ◌∙◌, sym, ap, subst, rules, map, List, Option, option_map}
+use Rattle.rs_mean.specs.Run.{Frame, run_expr}
+use Rattle.rs_mean.specs.Values.{Typed}
 use Rattle.rs_machine.specs.Does.{End, Does}
 use Rattle.rs_machine.specs.States.{State}
 use Rattle.rs_tree.specs.declared.expr.Operator.{Operator}

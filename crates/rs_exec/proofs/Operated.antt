@@ -1,5 +1,5 @@
 -- What operators find of values, as steps; and a call by a pointer whose value is used.
-use Rattle.std.proofs.Common.{◌≡◌, ◌∙◌, refl, sym, ap, subst, ℕ, Result, Ok, Err}
+use Rattle.std.proofs.Common.{◌≡◌, ◌∙◌, refl, sym, subst, Result, Ok, Err}
 use Rattle.cr_runs.specs.Runs.{Ran, came, halted, bad, out, bind}
 use Rattle.cr_world.specs.World.{World, Stop}
 use Rattle.rs_mean.specs.declared.cause.Cause.{Cause}

@@ -1,15 +1,14 @@
 -- What the run of a whole crate came to, in the words of its contract.
-use Rattle.std.proofs.Common.{◌≡◌, ◌∙◌, refl, sym, ap, subst, arith, ℤ, ℕ, ◌+◌, ◌<◌, ◌≤◌, true, false, List, [], ◌∷◌, ◌++◌, Option, option_map, append-nil, Result, Ok, Err, IfOk}
+use Rattle.std.proofs.Common.{◌≡◌, ◌∙◌, refl, sym, ap, subst, arith, ℤ, ℕ, ◌+◌, ◌<◌, ◌≤◌, true, false, List, [], ◌++◌, Option, option_map, append-nil}
 use Rattle.cr_base.specs.Count.{Rose}
 use Rattle.cr_runs.specs.Runs.{Ran, came, halted, bad, out, state_of}
 use Rattle.cr_world.specs.World.{World, Stop, wrong, full, asks, trail_of, first_world}
 use Rattle.ext_calls.specs.declared.call.Call.{Call}
-use Rattle.ext_calls.specs.declared.call.Made.{Made}
 use Rattle.ext_calls.specs.Host.{HostState}
 use Rattle.mem_bytes.specs.Counted.{Limit}
 use Rattle.rs_mean.specs.declared.cause.Cause.{Cause}
 use Rattle.rs_mean.specs.Laws.{bodies_of}
-use Rattle.rs_mean.specs.Run.{RProgress, going, ended as ended_with, stopped, RSeen, seen_of, ran, run_main, rs_run_on}
+use Rattle.rs_mean.specs.Run.{RProgress, going, seen_of, ran, run_main}
 use Rattle.rs_mean.specs.World.{Run}
 use Rattle.rs_mean.proofs.Unfolded.{main_unfolds}
 use Rattle.rs_tree.specs.Tree.{ModuleTree, CrateTree}
@@ -101,11 +100,13 @@ module _ (whole : CrateTree) (steps : ℕ) (limit : Option Limit) (host : HostSt
       (IsProgress outcome (seen_of (ran_of ending (world_at after breaks.between.calls []))).progress) →
       (taken ≤ steps) × IsLeast whole limit after.trail outcome taken
   least outcome taken sum is comes =
-      let same : taken ≡ breaks.between.taken = omega (arith, sum, breaks.between.units) in
-      (omega (arith, sum), record {
-        comes = subst (λ (progress : RProgress). IsProgress outcome progress) (sym (progress_at taken same is)) comes;
-        goes_on = λ fewer less. goes_on_within fewer (omega (arith, less, same));
-      })
+      let same : taken ≡ breaks.between.taken = omega (arith, sum, breaks.between.units) in (
+        omega (arith, sum),
+        record {
+          comes = subst (λ (progress : RProgress). IsProgress outcome progress) (sym (progress_at taken same is)) comes;
+          goes_on = λ fewer less. goes_on_within fewer (omega (arith, less, same));
+        },
+      )
 
 -- ---- by the way in which it stopped
 

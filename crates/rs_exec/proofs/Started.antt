@@ -1,5 +1,5 @@
 -- Static objects, initialisers and the end of a program, and what an engine does of them.
-use Rattle.std.proofs.Common.{◌≡◌, ◌∙◌, refl, sym, ap, subst, arith, ℕ, zero, suc, ◌+◌, ◌<◌, ◌≤◌, ℤ, List, [], ◌∷◌, map, length, drop, Option, Some, None, option_map, codes, rules, Bor, true, Result, Ok, Err, IfOk}
+use Rattle.std.proofs.Common.{◌≡◌, ◌∙◌, refl, sym, ap, subst, arith, ℕ, zero, suc, ◌+◌, ◌<◌, ◌≤◌, ℤ, List, [], ◌∷◌, map, length, drop, Option, None, option_map, codes, rules, Bor, true, Result, Ok, Err, IfOk}
 use Rattle.std.proofs.Math.ListN.{get_or}
 use Rattle.std.proofs.lemmas.List.{drop_more}
 use Rattle.std.specs.Option.{option_copied}
@@ -23,7 +23,7 @@ use Rattle.rs_mean.specs.Values.{Typed}
 use Rattle.rs_mean.specs.World.{Run, seq, ends}
 use Rattle.rs_tree.specs.declared.item.Module.{Module}
 use Rattle.rs_tree.specs.declared.ty.IntegerTy.TheVariants.{I8}
-use Rattle.rs_tree.specs.declared.ty.RTy.{RTy, fold_out-RTy}
+use Rattle.rs_tree.specs.declared.ty.RTy.{fold_out-RTy}
 use Rattle.rs_tree.specs.declared.ty.RTy.TheBlock as raw
 use Rattle.rs_tree.specs.declared.ty.RTy.TheViews.{the_lemmas}
 use Rattle.rs_tree.specs.Tree.{Ty, Integer, ModuleTree, CrateTree}

@@ -18,12 +18,11 @@ use Rattle.rs_tree.specs.Tree.{Ty, Stmt, Stmts, more_stmts, ArmTree, LiteralArm,
 use Rattle.rs_tree.specs.declared.stmt.RStmt.{RStmt}
 use Rattle.rs_tree.specs.declared.stmt.Arm.{Arm}
 use Rattle.rs_tree.specs.Views.{arm_view, stmt_view}
-use Rattle.rs_scene.specs.Flows.{behind_block, body_of, chosen, is_label, is_normal, is_number, turned}
+use Rattle.rs_scene.specs.Flows.{behind_block, chosen, is_normal, is_number, turned}
 use Rattle.rs_machine.specs.Does.{End, gives, stops, Stopped, no_units, Does}
 use Rattle.rs_machine.specs.States.{State}
 use Rattle.rs_machine.proofs.Pieces.{then_does, stops_first, same_does}
 use Rattle.rs_machine.proofs.Rules.{pure_does, TakesUnit, unit_does}
-use Rattle.rs_scene.proofs.Sequences.{parted_does}
 
 -- ---- blocks and turns
 

@@ -1,15 +1,13 @@
 -- What a run of a crate over a store and a host is to the meaning of the crate.
-use Rattle.std.specs.Prelude.{◌≡◌, ℕ, ◌<◌, ◌≤◌, ℤ, true, false, List, [], ◌++◌, Option, option_map}
+use Rattle.std.specs.Prelude.{◌≡◌, ℕ, ◌<◌, ◌≤◌, ℤ, true, false, List, Option}
 use Rattle.cr_base.specs.Count.{Rose}
-use Rattle.cr_runs.specs.Runs.{Ran, state_of}
-use Rattle.cr_world.specs.World.{World, Outside, trail_of, Stop, wrong, full, asks, first_world}
+use Rattle.cr_runs.specs.Runs.{state_of}
+use Rattle.cr_world.specs.World.{World, Outside, trail_of, wrong, full, asks, first_world}
 use Rattle.ext_calls.specs.declared.call.Call.{Call}
-use Rattle.ext_calls.specs.declared.call.Made.{Made}
 use Rattle.ext_calls.specs.Host.{HostState}
 use Rattle.mem_bytes.specs.Counted.{Limit}
-use Rattle.rs_mean.specs.Run.{RProgress, going, ended, stopped, RSeen, ran, rs_run_on}
+use Rattle.rs_mean.specs.Run.{RProgress, going, ended, stopped, ran, rs_run_on}
 use Rattle.rs_tree.specs.Tree.{CrateTree}
-use Rattle.rs_machine.specs.States.{AreGiven, AreTaken}
 use Rattle.rs_exec.specs.declared.outcome.ROutcome.{ROutcome}
 use Rattle.rs_exec.specs.declared.outcome.ROutcome.TheVariants.{Ended, Wrong, StepsUsed, StoreFull, HostRefused, HostFault}
 

@@ -18,18 +18,18 @@ ghost use Rattle.rs_tree.specs.Views.{expr_view, function_view};
 ghost use Rattle.rs_value.specs.Views.{typed_view};
 
 use crate::exprs::expr;
-use rs_scene::{begin_frame, end_locals};
-use rs_scene::{HeldLocal, Scene};
-use rs_scene::{accepts, called_as, given_by, retyped};
 use crate::stmts::stmts;
-use rs_scene::{Pointed, unwrapped};
 use cr_base::Items;
 use ext_calls::Host;
 use mem_bytes::Store;
+use rs_layout::{HeldCallee, callee_at};
 use rs_machine::{Halt, Machine, outer_call};
 use rs_mean::Cause;
+use rs_scene::{
+    HeldLocal, Pointed, Scene, accepts, begin_frame, called_as, end_locals, given_by, retyped,
+    unwrapped,
+};
 use rs_tree::{Function, RExpr, RPath};
-use rs_layout::{HeldCallee, callee_at};
 use rs_value::TypedValue;
 
 /// The values of arguments, from the left.
@@ -50,7 +50,15 @@ fn args<'t, S: Store, H: Host>(
         return Err(Halt::Memory);
     }
     let mut values = Items::new(machine.alloc());
-    if let Err(halt) = args_into(machine, store, host, scene, room - 1, list.as_slice(), &mut values) {
+    if let Err(halt) = args_into(
+        machine,
+        store,
+        host,
+        scene,
+        room - 1,
+        list.as_slice(),
+        &mut values,
+    ) {
         return Err(halt);
     }
     Ok(values)
@@ -110,7 +118,15 @@ pub(crate) fn called<'t, S: Store, H: Host>(
         Err(halt) => return Err(halt),
     };
     let callee = callee_at(scene.modules, path);
-    call_found(machine, store, host, scene, room - 1, callee, values.as_slice())
+    call_found(
+        machine,
+        store,
+        host,
+        scene,
+        room - 1,
+        callee,
+        values.as_slice(),
+    )
 }
 
 /// A call by a function pointer.
@@ -143,7 +159,15 @@ pub(crate) fn called_by<'t, S: Store, H: Host>(
         Ok(values) => values,
         Err(halt) => return Err(halt),
     };
-    call_pointed(machine, store, host, scene, room - 1, pointed, values.as_slice())
+    call_pointed(
+        machine,
+        store,
+        host,
+        scene,
+        room - 1,
+        pointed,
+        values.as_slice(),
+    )
 }
 
 /// A call of a function that was found.
@@ -222,7 +246,15 @@ fn function<'t, S: Store, H: Host>(
         Ok(locals) => locals,
         Err(halt) => return Err(halt),
     };
-    body(machine, store, host, scene, room - 1, fun, locals.as_slice())
+    body(
+        machine,
+        store,
+        host,
+        scene,
+        room - 1,
+        fun,
+        locals.as_slice(),
+    )
 }
 
 /// The statements of a body among its parameters and locals, which end behind them.
@@ -281,7 +313,15 @@ fn call_pointed<'t, S: Store, H: Host>(
     if !called_as(pointed, fun) {
         return Err(Halt::Wrong(Cause::WrongCall));
     }
-    let value = match call_found(machine, store, host, scene, room - 1, Some(HeldCallee::Own(fun)), list) {
+    let value = match call_found(
+        machine,
+        store,
+        host,
+        scene,
+        room - 1,
+        Some(HeldCallee::Own(fun)),
+        list,
+    ) {
         Ok(value) => value,
         Err(halt) => return Err(halt),
     };

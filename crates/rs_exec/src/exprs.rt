@@ -17,16 +17,15 @@ ghost use Rattle.rs_value.specs.Operators.{unary_of};
 ghost use Rattle.rs_value.specs.Views.{spot_view, typed_view};
 
 use crate::calls::{called, called_by};
-use crate::operations::{binary_value, offset_from_value, offset_value, unary_value, wrapping_value};
-use crate::places::place;
-use rs_scene::Scene;
-use rs_scene::{
-    literal, no_function, null_pointer, some_function, the_value, truth_value,
+use crate::operations::{
+    binary_value, offset_from_value, offset_value, unary_value, wrapping_value,
 };
+use crate::places::place;
 use cr_base::Items;
 use ext_calls::Host;
 use mem_bytes::Store;
 use rs_machine::{Halt, Machine, load};
+use rs_scene::{Scene, literal, no_function, null_pointer, some_function, the_value, truth_value};
 use rs_tree::{Operator, RExpr, RPath, RPlace, Wrapping};
 use rs_value::{TypedValue, Unary, ValueTy, test_of, truth};
 
@@ -53,33 +52,156 @@ pub(crate) fn expr<'t, S: Store, H: Host>(
         RExpr::NoFunction => no_function(),
         RExpr::Read(of) => read(machine, store, host, scene, room - 1, of.get()),
         RExpr::Call(path, args) => call_value(machine, store, host, scene, room - 1, path, args),
-        RExpr::CallBy(operand, args) => call_by_value(machine, store, host, scene, room - 1, operand.get(), args),
+        RExpr::CallBy(operand, args) => call_by_value(
+            machine,
+            store,
+            host,
+            scene,
+            room - 1,
+            operand.get(),
+            args,
+        ),
         RExpr::AddressOf(of) => address(machine, store, host, scene, room - 1, of.get()),
         RExpr::NullPointer(ty) => null_pointer(ty.get()),
         RExpr::SomeFunction(path, params, given) => some_function(scene, path, params, given),
-        RExpr::And(left, right) => both(machine, store, host, scene, room - 1, left.get(), right.get()),
-        RExpr::Or(left, right) => either(machine, store, host, scene, room - 1, left.get(), right.get()),
+        RExpr::And(left, right) => both(
+            machine,
+            store,
+            host,
+            scene,
+            room - 1,
+            left.get(),
+            right.get(),
+        ),
+        RExpr::Or(left, right) => either(
+            machine,
+            store,
+            host,
+            scene,
+            room - 1,
+            left.get(),
+            right.get(),
+        ),
         RExpr::Choose(condition, if_true, if_false) => {
-            choose(machine, store, host, scene, room - 1, condition.get(), if_true.get(), if_false.get())
+            choose(
+                machine,
+                store,
+                host,
+                scene,
+                room - 1,
+                condition.get(),
+                if_true.get(),
+                if_false.get(),
+            )
         }
         RExpr::Wrapping(left, operation, right) => {
-            wrapped(machine, store, host, scene, room - 1, left.get(), *operation, right.get())
+            wrapped(
+                machine,
+                store,
+                host,
+                scene,
+                room - 1,
+                left.get(),
+                *operation,
+                right.get(),
+            )
         }
-        RExpr::Offset(operand, count) => offset(machine, store, host, scene, room - 1, operand.get(), count.get()),
+        RExpr::Offset(operand, count) => offset(
+            machine,
+            store,
+            host,
+            scene,
+            room - 1,
+            operand.get(),
+            count.get(),
+        ),
         RExpr::OffsetFrom(operand, other) => {
-            offset_from(machine, store, host, scene, room - 1, operand.get(), other.get())
+            offset_from(
+                machine,
+                store,
+                host,
+                scene,
+                room - 1,
+                operand.get(),
+                other.get(),
+            )
         }
         RExpr::Binary(left, operator, right) => {
-            binary(machine, store, host, scene, room - 1, left.get(), *operator, right.get())
+            binary(
+                machine,
+                store,
+                host,
+                scene,
+                room - 1,
+                left.get(),
+                *operator,
+                right.get(),
+            )
         }
-        RExpr::WrappingNeg(operand) => one(machine, store, host, scene, room - 1, Unary::WrappingNeg, operand.get()),
-        RExpr::IsNull(operand) => one(machine, store, host, scene, room - 1, Unary::IsNull, operand.get()),
-        RExpr::IsNone(operand) => one(machine, store, host, scene, room - 1, Unary::IsNone, operand.get()),
-        RExpr::Neg(operand) => one(machine, store, host, scene, room - 1, Unary::Neg, operand.get()),
-        RExpr::Not(operand) => one(machine, store, host, scene, room - 1, Unary::Not, operand.get()),
-        RExpr::Cast(operand, ty) => one(machine, store, host, scene, room - 1, Unary::Cast(ty.get()), operand.get()),
+        RExpr::WrappingNeg(operand) => one(
+            machine,
+            store,
+            host,
+            scene,
+            room - 1,
+            Unary::WrappingNeg,
+            operand.get(),
+        ),
+        RExpr::IsNull(operand) => one(
+            machine,
+            store,
+            host,
+            scene,
+            room - 1,
+            Unary::IsNull,
+            operand.get(),
+        ),
+        RExpr::IsNone(operand) => one(
+            machine,
+            store,
+            host,
+            scene,
+            room - 1,
+            Unary::IsNone,
+            operand.get(),
+        ),
+        RExpr::Neg(operand) => one(
+            machine,
+            store,
+            host,
+            scene,
+            room - 1,
+            Unary::Neg,
+            operand.get(),
+        ),
+        RExpr::Not(operand) => one(
+            machine,
+            store,
+            host,
+            scene,
+            room - 1,
+            Unary::Not,
+            operand.get(),
+        ),
+        RExpr::Cast(operand, ty) => one(
+            machine,
+            store,
+            host,
+            scene,
+            room - 1,
+            Unary::Cast(ty.get()),
+            operand.get(),
+        ),
         RExpr::Transmute(_, to, operand) => {
-            one(machine, store, host, scene, room - 1, Unary::Transmute(to.get()), operand.get())
+            one(
+                machine,
+                store,
+                host,
+                scene,
+                room - 1,
+                Unary::Transmute(to.get()),
+                operand.get(),
+            )
         }
     }
 }

@@ -11,12 +11,11 @@ ghost use Rattle.rs_tree.specs.Views.{expr_view, place_view};
 ghost use Rattle.rs_value.specs.Views.{spot_view};
 
 use crate::exprs::expr;
-use rs_scene::Scene;
-use rs_scene::{field_spot, local_spot, static_spot, target_spot};
 use cr_base::Name;
 use ext_calls::Host;
 use mem_bytes::Store;
 use rs_machine::{Halt, Machine};
+use rs_scene::{Scene, field_spot, local_spot, static_spot, target_spot};
 use rs_tree::{RExpr, RPlace};
 use rs_value::ValueSpot;
 

@@ -88,7 +88,7 @@ pub fn run_rust<S: Store, H: Host>(
         (H.state host.old).made) }
     ensures given { IfOk result (λ run.
         AreGiven (world_within (crate_view whole.now) (S.limit store.old) run.trail steps).made
-            (H.state host.old).left (H.state host.new).left) }
+        (H.state host.old).left (H.state host.new).left) }
     ensures takes { IfOk result (λ run.
         AreTaken (H.state host.old).takes (world_within (crate_view whole.now) (S.limit store.old) run.trail steps).made) }
 

@@ -14,15 +14,15 @@ ghost use Rattle.rs_tree.specs.Views.{arm_view, expr_view, place_view, stmt_view
 
 use crate::calls::{called, called_by};
 use crate::exprs::expr;
-use rs_scene::{
-    Flow, Turn, after_block, after_turn, breaks, chosen, continues, is_normal, returns_nothing,
-};
 use crate::places::place;
-use rs_scene::Scene;
 use cr_base::{Items, Name};
 use ext_calls::Host;
 use mem_bytes::Store;
 use rs_machine::{Halt, Machine, copy_bytes, store_at};
+use rs_scene::{
+    Flow, Scene, Turn, after_block, after_turn, breaks, chosen, continues, is_normal,
+    returns_nothing,
+};
 use rs_tree::{Arm, RExpr, RPath, RPlace, RStmt};
 use rs_value::test_of;
 
@@ -44,20 +44,55 @@ fn stmt<'t, S: Store, H: Host>(
         return Err(Halt::Memory);
     }
     match tree {
-        RStmt::Assign(of, value) => assign(machine, store, host, scene, room - 1, of.get(), value.get()),
+        RStmt::Assign(of, value) => assign(
+            machine,
+            store,
+            host,
+            scene,
+            room - 1,
+            of.get(),
+            value.get(),
+        ),
         RStmt::Eval(value) => dropped(machine, store, host, scene, room - 1, value.get()),
         RStmt::CopyBytes(source, target, count) => {
-            copied(machine, store, host, scene, room - 1, source.get(), target.get(), count.get())
+            copied(
+                machine,
+                store,
+                host,
+                scene,
+                room - 1,
+                source.get(),
+                target.get(),
+                count.get(),
+            )
         }
         RStmt::If(condition, if_true, if_false) => {
-            branch(machine, store, host, scene, room - 1, condition.get(), if_true, if_false)
+            branch(
+                machine,
+                store,
+                host,
+                scene,
+                room - 1,
+                condition.get(),
+                if_true,
+                if_false,
+            )
         }
         RStmt::Loop(label, body) => turns(machine, store, host, scene, room - 1, label, body),
         RStmt::Block(label, body) => block(machine, store, host, scene, room - 1, label, body),
         RStmt::Break(label) => breaks(label),
         RStmt::Continue(label) => continues(label),
         RStmt::Match(value, cases, other) => {
-            matched(machine, store, host, scene, room - 1, value.get(), cases, other)
+            matched(
+                machine,
+                store,
+                host,
+                scene,
+                room - 1,
+                value.get(),
+                cases,
+                other,
+            )
         }
         RStmt::Return(None) => returns_nothing(),
         RStmt::Return(Some(value)) => returned(machine, store, host, scene, room - 1, value.get()),
@@ -144,7 +179,15 @@ fn dropped<'t, S: Store, H: Host>(
     }
     match value {
         RExpr::Call(path, args) => dropped_call(machine, store, host, scene, room - 1, path, args),
-        RExpr::CallBy(operand, args) => dropped_call_by(machine, store, host, scene, room - 1, operand.get(), args),
+        RExpr::CallBy(operand, args) => dropped_call_by(
+            machine,
+            store,
+            host,
+            scene,
+            room - 1,
+            operand.get(),
+            args,
+        ),
         RExpr::Literal(_, _)
         | RExpr::Truth(_)
         | RExpr::NoFunction

@@ -13,7 +13,7 @@ use Rattle.rs_scene.specs.Scenes.{frame_view, held_local}
 use Rattle.rs_tree.specs.Tree.{stmts}
 use Rattle.rs_tree.specs.Views.{function_view, module_view, stmt_view}
 use Rattle.rs_value.specs.Views.{typed_view}
-use Rattle.std.proofs.Common.{ap, map, option_map, sym, ◌∙◌}
+use Rattle.std.proofs.Common.{map, option_map, sym, ◌∙◌}
 use Rattle.rs_exec.proofs.+knot.Goals as goal
 
 pub exprs::call_by_value-returns-in-Err : goal.exprs::call_by_value-returns-in-Err

@@ -1,5 +1,5 @@
 use Rattle.std.proofs.Common.{◌∙◌, sym, ap, map, option_map, List}
-use Rattle.rs_layout.specs.Found.{callee_in_items, callee_view}
+use Rattle.rs_layout.specs.Found.{callee_view}
 use Rattle.rs_layout.proofs.Found.{callee_of_items}
 use Rattle.rs_mean.specs.Laws.{bodies_of}
 use Rattle.rs_tree.specs.declared.item.Item.{Item}
