@@ -4,15 +4,15 @@ use Rattle.cr_runs.specs.Runs.{Ran, came, halted, bad, out, bind}
 use Rattle.cr_world.specs.Held.{Held}
 use Rattle.cr_world.specs.World.{World, Stop}
 use Rattle.mem_bytes.specs.declared.value.Ptr.{Ptr}
-use Rattle.rs_tree.specs.Tree.{no_stmts, more_stmts, OuterTree, FunctionTree, ModuleTree}
+use Rattle.rs_tree.specs.Tree.{no_stmts, more_stmts, OuterTree, FunctionTree, ModuleTree, CrateTree}
 use Rattle.rs_mean.specs.declared.cause.Cause.{Cause}
 use Rattle.rs_mean.specs.Calls.{outer_call}
 use Rattle.rs_mean.specs.Laws.{LeavesWithin, ListsFollow, LoopsUnfold, BodiesUnfold, behind, frame_in, bodies_of}
-use Rattle.rs_mean.specs.Run.{Flow, normal, breaks, continues, returned, run_stmt, run_stmts, after_turn, then_on, bodies_within}
+use Rattle.rs_mean.specs.Run.{Flow, normal, breaks, continues, returned, run_stmt, run_stmts, after_turn, then_on, bodies_within, run_main, ran}
 use Rattle.rs_mean.specs.Values.{Typed}
 use Rattle.rs_mean.specs.World.{Run, pure, fails, ends, seq, takes_unit, either, Did, local, begins, Round, again, done, next_turn, turns_within, rounds}
 use Rattle.rs_mean.proofs.Bounded.{Leaves, bounded_pure, bounded_fails, bounded_ends, bounded_local, bounded_begins, bounded_seq, bounded_unit, bounded_rounds, bounded_outer, bodies_bounded, leaves_no_more}
-use Rattle.rs_mean.proofs.Pieces.{on_body}
+use Rattle.rs_mean.proofs.Pieces.{on_body, on_main}
 
 -- ---- statements behind others
 
@@ -198,3 +198,11 @@ bodies_unfold modules fun args world units =
     modules (bodies_within modules units) (bodies_of modules)
     (λ one given. agree_unit units (Option Typed) (bodies_within modules units one given) (bodies_of modules one given) (bodies_bounded modules units one given)
     (λ at left w. depth_agree modules units (suc left) one given at left w (omega arith))) fun args).same world units (omega arith)
+
+-- and it plays no part in a whole run
+pub main_unfolds : (whole : CrateTree) (world : World) (units : ℕ) → ran whole world units ≡ run_main whole (bodies_of whole.modules) world units
+main_unfolds whole world units =
+    (on_main (Agrees units) (agree_pure units) (agree_fails units) (agree_ends units) (agree_local units) (agree_begins units) (agree_outer units) (agree_seq units) (agree_rounds units)
+    whole (bodies_within whole.modules (suc units)) (bodies_of whole.modules)
+    (λ one given. agree_unit units (Option Typed) (bodies_within whole.modules (suc units) one given) (bodies_of whole.modules one given) (bodies_bounded whole.modules (suc units) one given)
+    (λ at left w. depth_agree whole.modules (suc units) (suc left) one given at left (omega (arith, w)) (omega arith)))).same world units (omega arith)

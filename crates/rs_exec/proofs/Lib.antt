@@ -1,0 +1,7 @@
+pub mod Called
+pub mod Opened
+pub mod OpenedExprs
+pub mod Operated
+pub mod Outcomes
+pub mod Started
+pub mod Turned

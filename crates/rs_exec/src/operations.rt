@@ -1,0 +1,92 @@
+//! What operators, methods and casts give of values, as steps of a run (the Rust Reference, "Operator
+//! expressions").
+
+ghost use Rattle.std.specs.Prelude.{map};
+ghost use Rattle.rs_layout.specs.Layouts.{ModulesAreAligned};
+ghost use Rattle.rs_machine.specs.Does.{Stays, end_of};
+ghost use Rattle.rs_machine.specs.Steps.{LookDoes};
+ghost use Rattle.rs_mean.specs.Layout.{laid_of};
+ghost use Rattle.rs_mean.specs.Values as meant;
+ghost use Rattle.rs_mean.specs.World.{looks, or_fails};
+ghost use Rattle.rs_tree.specs.Views.{module_view};
+ghost use Rattle.rs_value.specs.Operators.{unary_of};
+ghost use Rattle.rs_value.specs.Views.{typed_view};
+
+use mem_bytes::Store;
+use rs_machine::{Halt, halt_of};
+use rs_tree::{Module, Operator, Wrapping};
+use rs_value::{TypedValue, Unary, binary_of, offset_from_of, offset_of, unary_of, wrapping_of};
+
+/// What an operator, a method or a cast with one operand gives.
+pub(crate) fn unary_value<'t>(
+    operator: Unary<'t>,
+    operand: TypedValue<'t>,
+) -> Result<TypedValue<'t>, Halt<'t>>
+    ensures { Stays (or_fails (unary_of operator.entry (typed_view operand.entry))) (end_of typed_view result) }
+{
+    match unary_of(operator, operand) {
+        Ok(found) => Ok(found),
+        Err(trouble) => Err(halt_of(trouble)),
+    }
+}
+
+/// What an operation modulo 2 to the width gives.
+pub(crate) fn wrapping_value<'t>(
+    operation: Wrapping,
+    left: TypedValue<'t>,
+    right: TypedValue<'t>,
+) -> Result<TypedValue<'t>, Halt<'t>>
+    ensures { Stays (or_fails (meant.wrapping_of operation (typed_view left.entry) (typed_view right.entry))) (end_of typed_view result) }
+{
+    match wrapping_of(operation, left, right) {
+        Ok(found) => Ok(found),
+        Err(trouble) => Err(halt_of(trouble)),
+    }
+}
+
+/// What an operator between two operands gives.
+pub(crate) fn binary_value<'t, S: Store>(
+    store: &S,
+    operator: Operator,
+    left: TypedValue<'t>,
+    right: TypedValue<'t>,
+) -> Result<TypedValue<'t>, Halt<'t>>
+    ensures { LookDoes (looks (λ held. meant.binary_of held.blocks operator (typed_view left.entry) (typed_view right.entry))) (end_of typed_view result) (S.memory store.now) }
+{
+    match binary_of(store, operator, left, right) {
+        Ok(found) => Ok(found),
+        Err(trouble) => Err(halt_of(trouble)),
+    }
+}
+
+/// A pointer moved by so many values of its target.
+pub(crate) fn offset_value<'t, S: Store>(
+    store: &S,
+    modules: &[Module],
+    operand: TypedValue<'t>,
+    count: TypedValue<'t>,
+) -> Result<TypedValue<'t>, Halt<'t>>
+    requires { ModulesAreAligned (map module_view modules.now) }
+    ensures { LookDoes (looks (λ held. meant.offset_of (laid_of (map module_view modules.now)) held.blocks (typed_view operand.entry) (typed_view count.entry))) (end_of typed_view result) (S.memory store.now) }
+{
+    match offset_of(store, modules, operand, count) {
+        Ok(found) => Ok(found),
+        Err(trouble) => Err(halt_of(trouble)),
+    }
+}
+
+/// How many values of its target a pointer is behind another.
+pub(crate) fn offset_from_value<'t, S: Store>(
+    store: &S,
+    modules: &[Module],
+    operand: TypedValue<'t>,
+    other: TypedValue<'t>,
+) -> Result<TypedValue<'t>, Halt<'t>>
+    requires { ModulesAreAligned (map module_view modules.now) }
+    ensures { LookDoes (looks (λ held. meant.offset_from_of (laid_of (map module_view modules.now)) held.blocks (typed_view operand.entry) (typed_view other.entry))) (end_of typed_view result) (S.memory store.now) }
+{
+    match offset_from_of(store, modules, operand, other) {
+        Ok(found) => Ok(found),
+        Err(trouble) => Err(halt_of(trouble)),
+    }
+}

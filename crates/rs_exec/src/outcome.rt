@@ -1,0 +1,58 @@
+ghost use Rattle.std.specs.Prelude.{◌≡◌, IfOk};
+ghost use Rattle.rs_exec.specs.Ends.{IsOutcome};
+ghost use Rattle.rs_machine.specs.Does.{stopped_by};
+
+use cr_base::{Items, Memory, Name};
+use rs_machine::Halt;
+use rs_mean::Cause;
+use std::alloc::Global;
+
+/// How a run of a crate came out.
+#[derive(Drop)]
+pub enum ROutcome {
+    /// The program ended with this status.
+    Ended(i32),
+    /// Its next step has no meaning in Rust.
+    Wrong(Cause),
+    /// A unit of the budget was asked for after all were taken.
+    StepsUsed,
+    /// An object goes past the store's limit: the bytes that it needs, and those that are left.
+    StoreFull { need: u64, left: u64 },
+    /// The host doesn't take a call of the function with this symbol.
+    HostRefused(Name),
+    /// The outside failed at a call.
+    HostFault,
+}
+
+/// A run of a crate.
+#[derive(Drop)]
+pub struct RRun {
+    pub outcome: ROutcome,
+    /// The answers that the run took, in order: of each call of a function whose effect isn't known what
+    /// the host answered, and of each allocation 0 where the store refused the block and 1 otherwise.
+    pub trail: Items<i64>,
+    /// How many units of the budget it took.
+    pub steps: u64,
+}
+
+fn refused(alloc: Global, name: &[u8]) -> Result<ROutcome, Memory>
+    ensures { IfOk result (λ outcome. outcome ≡ ROutcome.HostRefused name.now) }
+{
+    let name = Vec::from_slice(alloc, name)?;
+    Ok(ROutcome::HostRefused(Name::of(name)))
+}
+
+/// Why a run went no further, as its outcome; want of memory has none.
+pub(crate) fn outcome_of(alloc: Global, halt: Halt<'_>) -> Result<ROutcome, Memory>
+    ensures { IfOk result (λ outcome. IsOutcome (stopped_by halt.entry) outcome) }
+{
+    match halt {
+        Halt::Ended(status) => Ok(ROutcome::Ended(status)),
+        Halt::Wrong(why) => Ok(ROutcome::Wrong(why)),
+        Halt::Units => Ok(ROutcome::StepsUsed),
+        Halt::Full { need, left } => Ok(ROutcome::StoreFull { need, left }),
+        Halt::Refused(name) => refused(alloc, name),
+        Halt::Failed => Ok(ROutcome::HostFault),
+        Halt::Memory => Err(Memory),
+    }
+}

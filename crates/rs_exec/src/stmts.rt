@@ -1,0 +1,466 @@
+//! Statements (the Rust Reference, "Statements" and "Loops").
+
+ghost use Rattle.std.specs.Prelude.{◌≡◌, map, Some};
+ghost use Rattle.rs_scene.specs.Scenes.{IsScene, frame_view};
+ghost use Rattle.rs_machine.specs.Does.{Does, end_of};
+ghost use Rattle.rs_machine.specs.States.{state};
+ghost use Rattle.rs_tree.specs.Views.{module_view};
+ghost use Rattle.rs_scene.specs.Flows.{flow_view};
+ghost use Rattle.rs_mean.specs.Run.{goes_on, run_dropped, run_expr, run_stmt, run_stmts};
+ghost use Rattle.rs_mean.specs.World.{seq};
+ghost use Rattle.rs_tree.specs.Tree as tree;
+ghost use Rattle.rs_tree.specs.Tree.{arms, exprs, stmts};
+ghost use Rattle.rs_tree.specs.Views.{arm_view, expr_view, place_view, stmt_view};
+
+use crate::calls::{called, called_by};
+use crate::exprs::expr;
+use crate::places::place;
+use cr_base::{Items, Name};
+use ext_calls::Host;
+use mem_bytes::Store;
+use rs_machine::{Halt, Machine, copy_bytes, store_at};
+use rs_scene::{
+    Flow, Scene, Turn, after_block, after_turn, breaks, chosen, continues, is_normal,
+    returns_nothing,
+};
+use rs_tree::{Arm, RExpr, RPath, RPlace, RStmt};
+use rs_value::test_of;
+
+/// What a statement does.
+#[cycle(knot)]
+fn stmt<'t, S: Store, H: Host>(
+    machine: &mut Machine,
+    store: &mut S,
+    host: &mut H,
+    scene: Scene<'t, '_>,
+    room: u32,
+    tree: &'t RStmt,
+) -> Result<Flow<'t>, Halt<'t>>
+    requires { IsScene scene }
+    ensures { Does (run_stmt (frame_view scene.entry) (stmt_view tree.now)) (end_of flow_view result)
+        (state machine.old (S.memory store.old) (S.limit store.old) (H.state host.old)) (state machine.new (S.memory store.new) (S.limit store.new) (H.state host.new)) }
+{
+    if room == 0 {
+        return Err(Halt::Memory);
+    }
+    match tree {
+        RStmt::Assign(of, value) => assign(
+            machine,
+            store,
+            host,
+            scene,
+            room - 1,
+            of.get(),
+            value.get(),
+        ),
+        RStmt::Eval(value) => dropped(machine, store, host, scene, room - 1, value.get()),
+        RStmt::CopyBytes(source, target, count) => {
+            copied(
+                machine,
+                store,
+                host,
+                scene,
+                room - 1,
+                source.get(),
+                target.get(),
+                count.get(),
+            )
+        }
+        RStmt::If(condition, if_true, if_false) => {
+            branch(
+                machine,
+                store,
+                host,
+                scene,
+                room - 1,
+                condition.get(),
+                if_true,
+                if_false,
+            )
+        }
+        RStmt::Loop(label, body) => turns(machine, store, host, scene, room - 1, label, body),
+        RStmt::Block(label, body) => block(machine, store, host, scene, room - 1, label, body),
+        RStmt::Break(label) => breaks(label),
+        RStmt::Continue(label) => continues(label),
+        RStmt::Match(value, cases, other) => {
+            matched(
+                machine,
+                store,
+                host,
+                scene,
+                room - 1,
+                value.get(),
+                cases,
+                other,
+            )
+        }
+        RStmt::Return(None) => returns_nothing(),
+        RStmt::Return(Some(value)) => returned(machine, store, host, scene, room - 1, value.get()),
+    }
+}
+
+/// What statements do, one behind the other.
+#[cycle(knot)]
+pub(crate) fn stmts<'t, S: Store, H: Host>(
+    machine: &mut Machine,
+    store: &mut S,
+    host: &mut H,
+    scene: Scene<'t, '_>,
+    room: u32,
+    list: &'t [RStmt],
+) -> Result<Flow<'t>, Halt<'t>>
+    requires { IsScene scene }
+    ensures { Does (run_stmts (frame_view scene.entry) (stmts (map stmt_view list.now))) (end_of flow_view result)
+        (state machine.old (S.memory store.old) (S.limit store.old) (H.state host.old)) (state machine.new (S.memory store.new) (S.limit store.new) (H.state host.new)) }
+{
+    if room == 0 {
+        return Err(Halt::Memory);
+    }
+    for one in list {
+        let flow = match stmt(machine, store, host, scene, room - 1, one) {
+            Ok(flow) => flow,
+            Err(halt) => return Err(halt),
+        };
+        if !is_normal(flow) {
+            return Ok(flow);
+        }
+    }
+    Ok(Flow::Normal)
+}
+
+/// The value goes first, then the place.
+#[cycle(knot)]
+fn assign<'t, S: Store, H: Host>(
+    machine: &mut Machine,
+    store: &mut S,
+    host: &mut H,
+    scene: Scene<'t, '_>,
+    room: u32,
+    of: &'t RPlace,
+    value: &'t RExpr,
+) -> Result<Flow<'t>, Halt<'t>>
+    requires { IsScene scene }
+    ensures { Does (run_stmt (frame_view scene.entry) (tree.Assign (place_view of.now) (expr_view value.now))) (end_of flow_view result)
+        (state machine.old (S.memory store.old) (S.limit store.old) (H.state host.old)) (state machine.new (S.memory store.new) (S.limit store.new) (H.state host.new)) }
+{
+    if room == 0 {
+        return Err(Halt::Memory);
+    }
+    let stored = match expr(machine, store, host, scene, room - 1, value) {
+        Ok(stored) => stored,
+        Err(halt) => return Err(halt),
+    };
+    let spot = match place(machine, store, host, scene, room - 1, of) {
+        Ok(spot) => spot,
+        Err(halt) => return Err(halt),
+    };
+    match store_at(store, spot.ty, spot.at, stored.value) {
+        Ok(()) => Ok(Flow::Normal),
+        Err(halt) => Err(halt),
+    }
+}
+
+/// A call whose result is dropped.
+#[cycle(knot)]
+fn dropped<'t, S: Store, H: Host>(
+    machine: &mut Machine,
+    store: &mut S,
+    host: &mut H,
+    scene: Scene<'t, '_>,
+    room: u32,
+    value: &'t RExpr,
+) -> Result<Flow<'t>, Halt<'t>>
+    requires { IsScene scene }
+    ensures { Does (run_stmt (frame_view scene.entry) (tree.Eval (expr_view value.now))) (end_of flow_view result)
+        (state machine.old (S.memory store.old) (S.limit store.old) (H.state host.old)) (state machine.new (S.memory store.new) (S.limit store.new) (H.state host.new)) }
+{
+    if room == 0 {
+        return Err(Halt::Memory);
+    }
+    match value {
+        RExpr::Call(path, args) => dropped_call(machine, store, host, scene, room - 1, path, args),
+        RExpr::CallBy(operand, args) => dropped_call_by(
+            machine,
+            store,
+            host,
+            scene,
+            room - 1,
+            operand.get(),
+            args,
+        ),
+        RExpr::Literal(_, _)
+        | RExpr::Truth(_)
+        | RExpr::NoFunction
+        | RExpr::Read(_)
+        | RExpr::Wrapping(_, _, _)
+        | RExpr::WrappingNeg(_)
+        | RExpr::Offset(_, _)
+        | RExpr::OffsetFrom(_, _)
+        | RExpr::IsNull(_)
+        | RExpr::IsNone(_)
+        | RExpr::AddressOf(_)
+        | RExpr::NullPointer(_)
+        | RExpr::SomeFunction(_, _, _)
+        | RExpr::Transmute(_, _, _)
+        | RExpr::Neg(_)
+        | RExpr::Not(_)
+        | RExpr::Cast(_, _)
+        | RExpr::Binary(_, _, _)
+        | RExpr::And(_, _)
+        | RExpr::Or(_, _)
+        | RExpr::Choose(_, _, _) => dropped_value(machine, store, host, scene, room - 1, value),
+    }
+}
+
+/// A call whose result is dropped.
+#[cycle(knot)]
+fn dropped_call<'t, S: Store, H: Host>(
+    machine: &mut Machine,
+    store: &mut S,
+    host: &mut H,
+    scene: Scene<'t, '_>,
+    room: u32,
+    path: &'t RPath,
+    args: &'t Items<RExpr>,
+) -> Result<Flow<'t>, Halt<'t>>
+    requires { IsScene scene }
+    ensures { Does (run_dropped (frame_view scene.entry) (tree.Call path.now.home path.now.name (exprs (map expr_view args.now)))) (end_of flow_view result)
+        (state machine.old (S.memory store.old) (S.limit store.old) (H.state host.old)) (state machine.new (S.memory store.new) (S.limit store.new) (H.state host.new)) }
+{
+    if room == 0 {
+        return Err(Halt::Memory);
+    }
+    let _given = match called(machine, store, host, scene, room - 1, path, args) {
+        Ok(given) => given,
+        Err(halt) => return Err(halt),
+    };
+    Ok(Flow::Normal)
+}
+
+/// A call by pointer whose result is dropped.
+#[cycle(knot)]
+fn dropped_call_by<'t, S: Store, H: Host>(
+    machine: &mut Machine,
+    store: &mut S,
+    host: &mut H,
+    scene: Scene<'t, '_>,
+    room: u32,
+    operand: &'t RExpr,
+    args: &'t Items<RExpr>,
+) -> Result<Flow<'t>, Halt<'t>>
+    requires { IsScene scene }
+    ensures { Does (run_dropped (frame_view scene.entry) (tree.CallBy (expr_view operand.now) (exprs (map expr_view args.now)))) (end_of flow_view result)
+        (state machine.old (S.memory store.old) (S.limit store.old) (H.state host.old)) (state machine.new (S.memory store.new) (S.limit store.new) (H.state host.new)) }
+{
+    if room == 0 {
+        return Err(Halt::Memory);
+    }
+    let _given = match called_by(machine, store, host, scene, room - 1, operand, args) {
+        Ok(given) => given,
+        Err(halt) => return Err(halt),
+    };
+    Ok(Flow::Normal)
+}
+
+/// A value that is dropped.
+#[cycle(knot)]
+fn dropped_value<'t, S: Store, H: Host>(
+    machine: &mut Machine,
+    store: &mut S,
+    host: &mut H,
+    scene: Scene<'t, '_>,
+    room: u32,
+    value: &'t RExpr,
+) -> Result<Flow<'t>, Halt<'t>>
+    requires { IsScene scene }
+    ensures { Does (seq (run_expr (frame_view scene.entry) (expr_view value.now)) goes_on) (end_of flow_view result)
+        (state machine.old (S.memory store.old) (S.limit store.old) (H.state host.old)) (state machine.new (S.memory store.new) (S.limit store.new) (H.state host.new)) }
+{
+    if room == 0 {
+        return Err(Halt::Memory);
+    }
+    let _given = match expr(machine, store, host, scene, room - 1, value) {
+        Ok(given) => given,
+        Err(halt) => return Err(halt),
+    };
+    Ok(Flow::Normal)
+}
+
+/// Bytes are copied.
+#[cycle(knot)]
+fn copied<'t, S: Store, H: Host>(
+    machine: &mut Machine,
+    store: &mut S,
+    host: &mut H,
+    scene: Scene<'t, '_>,
+    room: u32,
+    source: &'t RExpr,
+    target: &'t RExpr,
+    count: &'t RExpr,
+) -> Result<Flow<'t>, Halt<'t>>
+    requires { IsScene scene }
+    ensures { Does (run_stmt (frame_view scene.entry) (tree.CopyBytes (expr_view source.now) (expr_view target.now) (expr_view count.now))) (end_of flow_view result)
+        (state machine.old (S.memory store.old) (S.limit store.old) (H.state host.old)) (state machine.new (S.memory store.new) (S.limit store.new) (H.state host.new)) }
+{
+    if room == 0 {
+        return Err(Halt::Memory);
+    }
+    let from = match expr(machine, store, host, scene, room - 1, source) {
+        Ok(from) => from,
+        Err(halt) => return Err(halt),
+    };
+    let to = match expr(machine, store, host, scene, room - 1, target) {
+        Ok(to) => to,
+        Err(halt) => return Err(halt),
+    };
+    let bytes = match expr(machine, store, host, scene, room - 1, count) {
+        Ok(bytes) => bytes,
+        Err(halt) => return Err(halt),
+    };
+    match copy_bytes(store, from, to, bytes) {
+        Ok(()) => Ok(Flow::Normal),
+        Err(halt) => Err(halt),
+    }
+}
+
+/// One of two lists of statements.
+#[cycle(knot)]
+fn branch<'t, S: Store, H: Host>(
+    machine: &mut Machine,
+    store: &mut S,
+    host: &mut H,
+    scene: Scene<'t, '_>,
+    room: u32,
+    condition: &'t RExpr,
+    if_true: &'t Items<RStmt>,
+    if_false: &'t Items<RStmt>,
+) -> Result<Flow<'t>, Halt<'t>>
+    requires { IsScene scene }
+    ensures { Does (run_stmt (frame_view scene.entry) (tree.If (expr_view condition.now) (stmts (map stmt_view if_true.now)) (stmts (map stmt_view if_false.now)))) (end_of flow_view result)
+        (state machine.old (S.memory store.old) (S.limit store.old) (H.state host.old)) (state machine.new (S.memory store.new) (S.limit store.new) (H.state host.new)) }
+{
+    if room == 0 {
+        return Err(Halt::Memory);
+    }
+    let value = match expr(machine, store, host, scene, room - 1, condition) {
+        Ok(value) => value,
+        Err(halt) => return Err(halt),
+    };
+    let test = match test_of(value) {
+        Ok(test) => test,
+        Err(why) => return Err(Halt::Wrong(why)),
+    };
+    if test {
+        return stmts(machine, store, host, scene, room - 1, if_true.as_slice());
+    }
+    stmts(machine, store, host, scene, room - 1, if_false.as_slice())
+}
+
+/// Turns, each of which takes a unit first. No budget has 2^64 of them.
+#[cycle(knot)]
+fn turns<'t, S: Store, H: Host>(
+    machine: &mut Machine,
+    store: &mut S,
+    host: &mut H,
+    scene: Scene<'t, '_>,
+    room: u32,
+    label: &'t Option<Name>,
+    body: &'t Items<RStmt>,
+) -> Result<Flow<'t>, Halt<'t>>
+    requires { IsScene scene }
+    ensures { Does (run_stmt (frame_view scene.entry) (tree.Loop label.now (stmts (map stmt_view body.now)))) (end_of flow_view result)
+        (state machine.old (S.memory store.old) (S.limit store.old) (H.state host.old)) (state machine.new (S.memory store.new) (S.limit store.new) (H.state host.new)) }
+{
+    if room == 0 {
+        return Err(Halt::Memory);
+    }
+    for _turn in 0..u64::MAX {
+        if !machine.take_unit() {
+            return Err(Halt::Units);
+        }
+        let flow = match stmts(machine, store, host, scene, room - 1, body.as_slice()) {
+            Ok(flow) => flow,
+            Err(halt) => return Err(halt),
+        };
+        if let Turn::Done(flow) = after_turn(label, flow) {
+            return Ok(flow);
+        }
+    }
+    Err(Halt::Memory)
+}
+
+/// The statements of a block, which is left by its label.
+#[cycle(knot)]
+fn block<'t, S: Store, H: Host>(
+    machine: &mut Machine,
+    store: &mut S,
+    host: &mut H,
+    scene: Scene<'t, '_>,
+    room: u32,
+    label: &'t Name,
+    body: &'t Items<RStmt>,
+) -> Result<Flow<'t>, Halt<'t>>
+    requires { IsScene scene }
+    ensures { Does (run_stmt (frame_view scene.entry) (tree.Block label.now (stmts (map stmt_view body.now)))) (end_of flow_view result)
+        (state machine.old (S.memory store.old) (S.limit store.old) (H.state host.old)) (state machine.new (S.memory store.new) (S.limit store.new) (H.state host.new)) }
+{
+    if room == 0 {
+        return Err(Halt::Memory);
+    }
+    let flow = match stmts(machine, store, host, scene, room - 1, body.as_slice()) {
+        Ok(flow) => flow,
+        Err(halt) => return Err(halt),
+    };
+    Ok(after_block(label, flow))
+}
+
+/// The statements of the first arm whose literal is the value, or the others.
+#[cycle(knot)]
+fn matched<'t, S: Store, H: Host>(
+    machine: &mut Machine,
+    store: &mut S,
+    host: &mut H,
+    scene: Scene<'t, '_>,
+    room: u32,
+    value: &'t RExpr,
+    cases: &'t Items<Arm>,
+    other: &'t Items<RStmt>,
+) -> Result<Flow<'t>, Halt<'t>>
+    requires { IsScene scene }
+    ensures { Does (run_stmt (frame_view scene.entry) (tree.Match (expr_view value.now) (arms (map arm_view cases.now)) (stmts (map stmt_view other.now)))) (end_of flow_view result)
+        (state machine.old (S.memory store.old) (S.limit store.old) (H.state host.old)) (state machine.new (S.memory store.new) (S.limit store.new) (H.state host.new)) }
+{
+    if room == 0 {
+        return Err(Halt::Memory);
+    }
+    let operand = match expr(machine, store, host, scene, room - 1, value) {
+        Ok(operand) => operand,
+        Err(halt) => return Err(halt),
+    };
+    let body = chosen(cases.as_slice(), operand, other.as_slice());
+    stmts(machine, store, host, scene, room - 1, body)
+}
+
+/// The function gives back a value.
+#[cycle(knot)]
+fn returned<'t, S: Store, H: Host>(
+    machine: &mut Machine,
+    store: &mut S,
+    host: &mut H,
+    scene: Scene<'t, '_>,
+    room: u32,
+    value: &'t RExpr,
+) -> Result<Flow<'t>, Halt<'t>>
+    requires { IsScene scene }
+    ensures { Does (run_stmt (frame_view scene.entry) (tree.Return (Some (expr_view value.now)))) (end_of flow_view result)
+        (state machine.old (S.memory store.old) (S.limit store.old) (H.state host.old)) (state machine.new (S.memory store.new) (S.limit store.new) (H.state host.new)) }
+{
+    if room == 0 {
+        return Err(Halt::Memory);
+    }
+    let given = match expr(machine, store, host, scene, room - 1, value) {
+        Ok(given) => given,
+        Err(halt) => return Err(halt),
+    };
+    Ok(Flow::Returned(Some(given)))
+}
