@@ -1,5 +1,5 @@
 -- What variants of expressions are as trees, and that an expression runs as its form does.
-use Rattle.std.proofs.Common.{◌≡◌, ◌∙◌, refl, sym, ap, rules, map, ℕ, ℤ, Bool, List, Option, option_map}
+use Rattle.std.proofs.Common.{◌≡◌, ◌∙◌, refl, sym, ap, rules, map, ℤ, Bool, List, Option, option_map}
 use Rattle.cr_runs.specs.Runs.{Ran, came, halted, bad, out, bind}
 use Rattle.cr_world.specs.World.{World, Stop}
 use Rattle.rs_mean.specs.declared.cause.Cause.{Cause}

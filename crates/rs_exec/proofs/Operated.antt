@@ -1,12 +1,11 @@
 -- What operators find of values, as steps.
-use Rattle.std.proofs.Common.{◌≡◌, ◌∙◌, refl, sym, subst, Result, Ok, Err}
+use Rattle.std.proofs.Common.{◌≡◌, sym, subst, Result, Ok, Err}
 use Rattle.rs_mean.specs.declared.cause.Cause.{Cause}
 use Rattle.rs_mean.specs.World.{or_fails}
 use Rattle.rs_value.specs.Finds.{Finds}
 use Rattle.rs_value.specs.declared.trouble.Trouble.{Trouble}
 use Rattle.rs_value.specs.declared.trouble.Trouble.TheVariants as trouble
-use Rattle.rs_machine.specs.Does.{End, gives, stops, Stopped, stopped_of, went_wrong, Does, Stays}
-use Rattle.rs_machine.specs.States.{State}
+use Rattle.rs_machine.specs.Does.{gives, stops, Stopped, stopped_of, went_wrong, Does, Stays}
 use Rattle.rs_machine.proofs.Rules.{pure_does, fails_does, memory_does}
 
 pub value_found : {A B : Type 0} (view : A → B) (found : Result B Cause) (value : A) → Finds view (Ok value) found → Stays (or_fails found) (gives (view value))

@@ -1,5 +1,5 @@
 -- How expressions and statements run, by their forms.
-use Rattle.std.specs.Prelude.{Bool, List, map, Option, Some, option_map}
+use Rattle.std.specs.Prelude.{List, map, Option, Some, option_map}
 use Rattle.mem_bytes.specs.declared.value.Value.TheVariants.{Whole, Null}
 use Rattle.rs_mean.specs.Calls.{Spot, load}
 use Rattle.rs_mean.specs.Layout.{laid_of}

@@ -53,7 +53,15 @@ pub(crate) fn call<'t, S: Store, H: Host>(
     }
     match form {
         CallForm::Named(path, list) => called(machine, store, host, scene, room - 1, path, list),
-        CallForm::Pointed(operand, list) => called_by(machine, store, host, scene, room - 1, operand, list),
+        CallForm::Pointed(operand, list) => called_by(
+            machine,
+            store,
+            host,
+            scene,
+            room - 1,
+            operand,
+            list,
+        ),
     }
 }
 

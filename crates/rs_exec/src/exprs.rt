@@ -43,9 +43,35 @@ pub(crate) fn expr<'t, S: Store, H: Host>(
         Form::Alone(plain) => plain_value(scene, plain),
         Form::Place(what, of) => placed(machine, store, host, scene, room - 1, what, of),
         Form::Call(form) => call_value(machine, store, host, scene, room - 1, form),
-        Form::One(operator, operand) => one(machine, store, host, scene, room - 1, operator, operand),
-        Form::Two(operation, left, right) => two(machine, store, host, scene, room - 1, operation, left, right),
-        Form::Test(condition, if_true, if_false) => tested(machine, store, host, scene, room - 1, condition, if_true, if_false),
+        Form::One(operator, operand) => one(
+            machine,
+            store,
+            host,
+            scene,
+            room - 1,
+            operator,
+            operand,
+        ),
+        Form::Two(operation, left, right) => two(
+            machine,
+            store,
+            host,
+            scene,
+            room - 1,
+            operation,
+            left,
+            right,
+        ),
+        Form::Test(condition, if_true, if_false) => tested(
+            machine,
+            store,
+            host,
+            scene,
+            room - 1,
+            condition,
+            if_true,
+            if_false,
+        ),
     }
 }
 

@@ -100,7 +100,9 @@ pub(crate) fn form_of<'t>(tree: &'t RExpr) -> Form<'t>
         RExpr::Truth(value) => Form::Alone(Plain::Truth(*value)),
         RExpr::NoFunction => Form::Alone(Plain::NoFunction),
         RExpr::NullPointer(ty) => Form::Alone(Plain::NullPointer(ty.get())),
-        RExpr::SomeFunction(path, params, given) => Form::Alone(Plain::SomeFunction(path, params, given)),
+        RExpr::SomeFunction(path, params, given) => Form::Alone(Plain::SomeFunction(
+            path, params, given,
+        )),
         RExpr::Read(of) => Form::Place(PlaceUse::Value, of.get()),
         RExpr::AddressOf(of) => Form::Place(PlaceUse::Address, of.get()),
         RExpr::Call(path, args) => Form::Call(CallForm::Named(path, args)),
@@ -116,7 +118,11 @@ pub(crate) fn form_of<'t>(tree: &'t RExpr) -> Form<'t>
             Form::Two(Pair::Wrapping(*operation), left.get(), right.get())
         }
         RExpr::Offset(operand, count) => Form::Two(Pair::Offset, operand.get(), count.get()),
-        RExpr::OffsetFrom(operand, other) => Form::Two(Pair::OffsetFrom, operand.get(), other.get()),
+        RExpr::OffsetFrom(operand, other) => Form::Two(
+            Pair::OffsetFrom,
+            operand.get(),
+            other.get(),
+        ),
         RExpr::Binary(left, operator, right) => {
             Form::Two(Pair::Binary(*operator), left.get(), right.get())
         }
@@ -127,7 +133,11 @@ pub(crate) fn form_of<'t>(tree: &'t RExpr) -> Form<'t>
             Form::Test(left.get(), Side::Known(true), Side::Operand(right.get()))
         }
         RExpr::Choose(condition, if_true, if_false) => {
-            Form::Test(condition.get(), Side::Operand(if_true.get()), Side::Operand(if_false.get()))
+            Form::Test(
+                condition.get(),
+                Side::Operand(if_true.get()),
+                Side::Operand(if_false.get()),
+            )
         }
     }
 }

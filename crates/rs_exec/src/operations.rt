@@ -15,13 +15,14 @@ ghost use Rattle.rs_tree.specs.Views.{module_view};
 ghost use Rattle.rs_value.specs.Operators.{unary_of};
 ghost use Rattle.rs_value.specs.Views.{spot_view, typed_view};
 
-use crate::forms::{Pair, Plain, PlaceUse};
+use crate::forms::{Pair, PlaceUse, Plain};
 use mem_bytes::Store;
 use rs_machine::{Halt, halt_of, load};
 use rs_scene::{Scene, literal, no_function, null_pointer, some_function, truth_value};
 use rs_tree::{Module, Operator, Wrapping};
 use rs_value::{
-    TypedValue, Unary, ValueSpot, ValueTy, binary_of, offset_from_of, offset_of, unary_of, wrapping_of,
+    TypedValue, Unary, ValueSpot, ValueTy, binary_of, offset_from_of, offset_of, unary_of,
+    wrapping_of,
 };
 
 /// What an operator, a method or a cast with one operand gives.

@@ -54,7 +54,16 @@ fn stmt<'t, S: Store, H: Host>(
         StmtForm::Assign(of, value) => assign(machine, store, host, scene, room - 1, of, value),
         StmtForm::Call(form) => dropped_call(machine, store, host, scene, room - 1, form),
         StmtForm::Value(value) => dropped_value(machine, store, host, scene, room - 1, value),
-        StmtForm::Copy(source, target, count) => copied(machine, store, host, scene, room - 1, source, target, count),
+        StmtForm::Copy(source, target, count) => copied(
+            machine,
+            store,
+            host,
+            scene,
+            room - 1,
+            source,
+            target,
+            count,
+        ),
         StmtForm::Return(value) => returned(machine, store, host, scene, room - 1, value),
         StmtForm::Within(form) => nested(machine, store, host, scene, room - 1, form),
     }
@@ -78,10 +87,28 @@ fn nested<'t, S: Store, H: Host>(
         return Err(Halt::Memory);
     }
     match form {
-        Nested::If(condition, if_true, if_false) => branch(machine, store, host, scene, room - 1, condition, if_true, if_false),
+        Nested::If(condition, if_true, if_false) => branch(
+            machine,
+            store,
+            host,
+            scene,
+            room - 1,
+            condition,
+            if_true,
+            if_false,
+        ),
         Nested::Loop(label, body) => turns(machine, store, host, scene, room - 1, label, body),
         Nested::Block(label, body) => block(machine, store, host, scene, room - 1, label, body),
-        Nested::Match(value, cases, other) => matched(machine, store, host, scene, room - 1, value, cases, other),
+        Nested::Match(value, cases, other) => matched(
+            machine,
+            store,
+            host,
+            scene,
+            room - 1,
+            value,
+            cases,
+            other,
+        ),
     }
 }
 

@@ -1,5 +1,5 @@
 use Rattle.std.proofs.Common.{◌∙◌}
-use Rattle.rs_exec.proofs.Opened.{assign_runs, block_runs, break_runs, continue_runs, copy_runs, eval_runs, if_runs, leave_runs, loop_runs, match_runs, return_runs}
+use Rattle.rs_exec.proofs.Opened.{assign_runs, block_runs, break_runs, continue_runs, copy_runs, eval_runs, if_runs, loop_runs, match_runs}
 use Rattle.rs_exec.proofs.forms.stmt_form.Goals as goal
 
 pub returns-in-Assign : goal.returns-in-Assign
