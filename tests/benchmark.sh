@@ -17,6 +17,8 @@
 #    64 MiB take.
 # 6. How long a crate of one module of 64 KiB, 256 KiB and 1 MiB of statements takes to be read and printed, by the rows: nanoseconds
 #    a byte; the time of a row without statements is taken off.
+# 7. How many units a second a run of a crate takes, by the rows: of a loop of 5,000,000 turns with one comparison and one addition
+#    each, over a list store; the time of a row of one turn is taken off.
 set -u
 top=$(cd "$(dirname "$0")/.." && pwd)
 work=$(mktemp -d) || exit 1
@@ -252,6 +254,19 @@ for size in 65536 262144 1048576; do
     printf "a module of %d bytes of statements, read and printed: %.0f ns a byte\n", size, (ours - none) / size
   }'
 done
+
+# run_row TURNS: a row of a run whose loop adds so many times.
+run_row() {
+  printf '%s%s%s\n' 'run 1000000000 list  | pub unsafe extern "C" fn main_0() -> i32 {$n    let mut i: i32 = core::mem::zeroed();$n    loop {$n        if i == ' \
+    "$1" 'i32 {$n            return 0i32;$n        }$n        i = i + 1i32;$n    }$n    return 0i32;$n}$npub unsafe extern "C" fn run_static_initializers() {$n}$n'
+}
+
+run_row 1 >"$work/one_turn.row"
+run_row 5000000 >"$work/turns.row"
+[ "$(on_row "$work/turns.row")" = "ended 0 (5000003 units)" ] || { echo "the crate isn't run"; exit 1; }
+awk -v none="$(least_of 5 on_row one_turn.row)" -v ours="$(least_of 5 on_row turns.row)" 'BEGIN {
+  printf "a run of a loop of additions: %.2f million units a second\n", 5000 / ((ours - none) / 1e6)
+}'
 
 # full NAME ROW: the memory that the program takes where a row fills a region.
 full() {

@@ -1,4 +1,5 @@
 pub mod Called
+pub mod Formed
 pub mod Opened
 pub mod OpenedExprs
 pub mod Operated

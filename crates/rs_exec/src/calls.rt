@@ -1,6 +1,7 @@
 //! Calls (the Rust Reference, "Call expressions" and "Functions").
 
 ghost use Rattle.std.specs.Prelude.{◌≡◌, ◌++◌, map, option_map, Some};
+ghost use Rattle.rs_exec.specs.Forms.{call_run};
 ghost use Rattle.rs_scene.specs.Scenes.{IsScene, frame_view};
 ghost use Rattle.rs_machine.specs.Does.{Does, end_of};
 ghost use Rattle.rs_machine.specs.States.{state};
@@ -18,6 +19,7 @@ ghost use Rattle.rs_tree.specs.Views.{expr_view, function_view};
 ghost use Rattle.rs_value.specs.Views.{typed_view};
 
 use crate::exprs::expr;
+use crate::forms::CallForm;
 use crate::stmts::stmts;
 use cr_base::Items;
 use ext_calls::Host;
@@ -31,6 +33,37 @@ use rs_scene::{
 };
 use rs_tree::{Function, RExpr, RPath};
 use rs_value::TypedValue;
+
+/// A call.
+#[cycle(knot)]
+pub(crate) fn call<'t, S: Store, H: Host>(
+    machine: &mut Machine,
+    store: &mut S,
+    host: &mut H,
+    scene: Scene<'t, '_>,
+    room: u32,
+    form: CallForm<'t>,
+) -> Result<Option<TypedValue<'t>>, Halt<'t>>
+    requires { IsScene scene }
+    ensures { Does (call_run (frame_view scene.entry) form.entry) (end_of (option_map typed_view) result)
+        (state machine.old (S.memory store.old) (S.limit store.old) (H.state host.old)) (state machine.new (S.memory store.new) (S.limit store.new) (H.state host.new)) }
+{
+    if room == 0 {
+        return Err(Halt::Memory);
+    }
+    match form {
+        CallForm::Named(path, list) => called(machine, store, host, scene, room - 1, path, list),
+        CallForm::Pointed(operand, list) => called_by(
+            machine,
+            store,
+            host,
+            scene,
+            room - 1,
+            operand,
+            list,
+        ),
+    }
+}
 
 /// The values of arguments, from the left.
 #[cycle(knot)]
@@ -97,7 +130,7 @@ fn args_into<'t, S: Store, H: Host>(
 
 /// A call of the function that a path names.
 #[cycle(knot)]
-pub(crate) fn called<'t, S: Store, H: Host>(
+fn called<'t, S: Store, H: Host>(
     machine: &mut Machine,
     store: &mut S,
     host: &mut H,
@@ -131,7 +164,7 @@ pub(crate) fn called<'t, S: Store, H: Host>(
 
 /// A call by a function pointer.
 #[cycle(knot)]
-pub(crate) fn called_by<'t, S: Store, H: Host>(
+fn called_by<'t, S: Store, H: Host>(
     machine: &mut Machine,
     store: &mut S,
     host: &mut H,

@@ -4,6 +4,7 @@
 mod begins;
 mod calls;
 mod exprs;
+mod forms;
 mod operations;
 mod outcome;
 mod places;

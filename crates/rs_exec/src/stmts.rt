@@ -1,30 +1,36 @@
 //! Statements (the Rust Reference, "Statements" and "Loops").
 
 ghost use Rattle.std.specs.Prelude.{◌≡◌, map, Some};
+ghost use Rattle.rs_exec.specs.Forms.{call_run, nested_run};
 ghost use Rattle.rs_scene.specs.Scenes.{IsScene, frame_view};
-ghost use Rattle.rs_machine.specs.Does.{Does, end_of};
+ghost use Rattle.rs_machine.specs.Does.{Does, Stays, end_of};
 ghost use Rattle.rs_machine.specs.States.{state};
 ghost use Rattle.rs_tree.specs.Views.{module_view};
 ghost use Rattle.rs_scene.specs.Flows.{flow_view};
-ghost use Rattle.rs_mean.specs.Run.{goes_on, run_dropped, run_expr, run_stmt, run_stmts};
-ghost use Rattle.rs_mean.specs.World.{seq};
+ghost use Rattle.rs_mean.specs.Run.{goes_on, run_expr, run_stmt, run_stmts};
+ghost use Rattle.rs_mean.specs.World.{pure, seq};
 ghost use Rattle.rs_tree.specs.Tree as tree;
-ghost use Rattle.rs_tree.specs.Tree.{arms, exprs, stmts};
+ghost use Rattle.rs_tree.specs.Tree.{arms, stmts};
 ghost use Rattle.rs_tree.specs.Views.{arm_view, expr_view, place_view, stmt_view};
 
-use crate::calls::{called, called_by};
+use crate::calls::call;
 use crate::exprs::expr;
+use crate::forms::{CallForm, Nested, StmtForm, stmt_form};
 use crate::places::place;
 use cr_base::{Items, Name};
 use ext_calls::Host;
 use mem_bytes::Store;
 use rs_machine::{Halt, Machine, copy_bytes, store_at};
-use rs_scene::{
-    Flow, Scene, Turn, after_block, after_turn, breaks, chosen, continues, is_normal,
-    returns_nothing,
-};
-use rs_tree::{Arm, RExpr, RPath, RPlace, RStmt};
+use rs_scene::{Flow, Scene, Turn, after_block, after_turn, chosen, is_normal};
+use rs_tree::{Arm, RExpr, RPlace, RStmt};
 use rs_value::test_of;
+
+/// Control leaves by a flow.
+fn leaves<'t>(flow: Flow<'t>) -> Result<Flow<'t>, Halt<'t>>
+    ensures { Stays (pure (flow_view flow.entry)) (end_of flow_view result) }
+{
+    Ok(flow)
+}
 
 /// What a statement does.
 #[cycle(knot)]
@@ -43,60 +49,91 @@ fn stmt<'t, S: Store, H: Host>(
     if room == 0 {
         return Err(Halt::Memory);
     }
-    match tree {
-        RStmt::Assign(of, value) => assign(
+    match stmt_form(tree) {
+        StmtForm::Leaves(flow) => leaves(flow),
+        StmtForm::Assign(of, value) => assign(machine, store, host, scene, room - 1, of, value),
+        StmtForm::Call(form) => dropped_call(machine, store, host, scene, room - 1, form),
+        StmtForm::Value(value) => dropped_value(machine, store, host, scene, room - 1, value),
+        StmtForm::Copy(source, target, count) => copied(
             machine,
             store,
             host,
             scene,
             room - 1,
-            of.get(),
-            value.get(),
+            source,
+            target,
+            count,
         ),
-        RStmt::Eval(value) => dropped(machine, store, host, scene, room - 1, value.get()),
-        RStmt::CopyBytes(source, target, count) => {
-            copied(
-                machine,
-                store,
-                host,
-                scene,
-                room - 1,
-                source.get(),
-                target.get(),
-                count.get(),
-            )
-        }
-        RStmt::If(condition, if_true, if_false) => {
-            branch(
-                machine,
-                store,
-                host,
-                scene,
-                room - 1,
-                condition.get(),
-                if_true,
-                if_false,
-            )
-        }
-        RStmt::Loop(label, body) => turns(machine, store, host, scene, room - 1, label, body),
-        RStmt::Block(label, body) => block(machine, store, host, scene, room - 1, label, body),
-        RStmt::Break(label) => breaks(label),
-        RStmt::Continue(label) => continues(label),
-        RStmt::Match(value, cases, other) => {
-            matched(
-                machine,
-                store,
-                host,
-                scene,
-                room - 1,
-                value.get(),
-                cases,
-                other,
-            )
-        }
-        RStmt::Return(None) => returns_nothing(),
-        RStmt::Return(Some(value)) => returned(machine, store, host, scene, room - 1, value.get()),
+        StmtForm::Return(value) => returned(machine, store, host, scene, room - 1, value),
+        StmtForm::Within(form) => nested(machine, store, host, scene, room - 1, form),
     }
+}
+
+/// What a statement with statements in it does.
+#[cycle(knot)]
+fn nested<'t, S: Store, H: Host>(
+    machine: &mut Machine,
+    store: &mut S,
+    host: &mut H,
+    scene: Scene<'t, '_>,
+    room: u32,
+    form: Nested<'t>,
+) -> Result<Flow<'t>, Halt<'t>>
+    requires { IsScene scene }
+    ensures { Does (nested_run (frame_view scene.entry) form.entry) (end_of flow_view result)
+        (state machine.old (S.memory store.old) (S.limit store.old) (H.state host.old)) (state machine.new (S.memory store.new) (S.limit store.new) (H.state host.new)) }
+{
+    if room == 0 {
+        return Err(Halt::Memory);
+    }
+    match form {
+        Nested::If(condition, if_true, if_false) => branch(
+            machine,
+            store,
+            host,
+            scene,
+            room - 1,
+            condition,
+            if_true,
+            if_false,
+        ),
+        Nested::Loop(label, body) => turns(machine, store, host, scene, room - 1, label, body),
+        Nested::Block(label, body) => block(machine, store, host, scene, room - 1, label, body),
+        Nested::Match(value, cases, other) => matched(
+            machine,
+            store,
+            host,
+            scene,
+            room - 1,
+            value,
+            cases,
+            other,
+        ),
+    }
+}
+
+/// A call whose result is dropped.
+#[cycle(knot)]
+fn dropped_call<'t, S: Store, H: Host>(
+    machine: &mut Machine,
+    store: &mut S,
+    host: &mut H,
+    scene: Scene<'t, '_>,
+    room: u32,
+    form: CallForm<'t>,
+) -> Result<Flow<'t>, Halt<'t>>
+    requires { IsScene scene }
+    ensures { Does (seq (call_run (frame_view scene.entry) form.entry) goes_on) (end_of flow_view result)
+        (state machine.old (S.memory store.old) (S.limit store.old) (H.state host.old)) (state machine.new (S.memory store.new) (S.limit store.new) (H.state host.new)) }
+{
+    if room == 0 {
+        return Err(Halt::Memory);
+    }
+    let _given = match call(machine, store, host, scene, room - 1, form) {
+        Ok(given) => given,
+        Err(halt) => return Err(halt),
+    };
+    Ok(Flow::Normal)
 }
 
 /// What statements do, one behind the other.
@@ -158,108 +195,6 @@ fn assign<'t, S: Store, H: Host>(
         Ok(()) => Ok(Flow::Normal),
         Err(halt) => Err(halt),
     }
-}
-
-/// A call whose result is dropped.
-#[cycle(knot)]
-fn dropped<'t, S: Store, H: Host>(
-    machine: &mut Machine,
-    store: &mut S,
-    host: &mut H,
-    scene: Scene<'t, '_>,
-    room: u32,
-    value: &'t RExpr,
-) -> Result<Flow<'t>, Halt<'t>>
-    requires { IsScene scene }
-    ensures { Does (run_stmt (frame_view scene.entry) (tree.Eval (expr_view value.now))) (end_of flow_view result)
-        (state machine.old (S.memory store.old) (S.limit store.old) (H.state host.old)) (state machine.new (S.memory store.new) (S.limit store.new) (H.state host.new)) }
-{
-    if room == 0 {
-        return Err(Halt::Memory);
-    }
-    match value {
-        RExpr::Call(path, args) => dropped_call(machine, store, host, scene, room - 1, path, args),
-        RExpr::CallBy(operand, args) => dropped_call_by(
-            machine,
-            store,
-            host,
-            scene,
-            room - 1,
-            operand.get(),
-            args,
-        ),
-        RExpr::Literal(_, _)
-        | RExpr::Truth(_)
-        | RExpr::NoFunction
-        | RExpr::Read(_)
-        | RExpr::Wrapping(_, _, _)
-        | RExpr::WrappingNeg(_)
-        | RExpr::Offset(_, _)
-        | RExpr::OffsetFrom(_, _)
-        | RExpr::IsNull(_)
-        | RExpr::IsNone(_)
-        | RExpr::AddressOf(_)
-        | RExpr::NullPointer(_)
-        | RExpr::SomeFunction(_, _, _)
-        | RExpr::Transmute(_, _, _)
-        | RExpr::Neg(_)
-        | RExpr::Not(_)
-        | RExpr::Cast(_, _)
-        | RExpr::Binary(_, _, _)
-        | RExpr::And(_, _)
-        | RExpr::Or(_, _)
-        | RExpr::Choose(_, _, _) => dropped_value(machine, store, host, scene, room - 1, value),
-    }
-}
-
-/// A call whose result is dropped.
-#[cycle(knot)]
-fn dropped_call<'t, S: Store, H: Host>(
-    machine: &mut Machine,
-    store: &mut S,
-    host: &mut H,
-    scene: Scene<'t, '_>,
-    room: u32,
-    path: &'t RPath,
-    args: &'t Items<RExpr>,
-) -> Result<Flow<'t>, Halt<'t>>
-    requires { IsScene scene }
-    ensures { Does (run_dropped (frame_view scene.entry) (tree.Call path.now.home path.now.name (exprs (map expr_view args.now)))) (end_of flow_view result)
-        (state machine.old (S.memory store.old) (S.limit store.old) (H.state host.old)) (state machine.new (S.memory store.new) (S.limit store.new) (H.state host.new)) }
-{
-    if room == 0 {
-        return Err(Halt::Memory);
-    }
-    let _given = match called(machine, store, host, scene, room - 1, path, args) {
-        Ok(given) => given,
-        Err(halt) => return Err(halt),
-    };
-    Ok(Flow::Normal)
-}
-
-/// A call by pointer whose result is dropped.
-#[cycle(knot)]
-fn dropped_call_by<'t, S: Store, H: Host>(
-    machine: &mut Machine,
-    store: &mut S,
-    host: &mut H,
-    scene: Scene<'t, '_>,
-    room: u32,
-    operand: &'t RExpr,
-    args: &'t Items<RExpr>,
-) -> Result<Flow<'t>, Halt<'t>>
-    requires { IsScene scene }
-    ensures { Does (run_dropped (frame_view scene.entry) (tree.CallBy (expr_view operand.now) (exprs (map expr_view args.now)))) (end_of flow_view result)
-        (state machine.old (S.memory store.old) (S.limit store.old) (H.state host.old)) (state machine.new (S.memory store.new) (S.limit store.new) (H.state host.new)) }
-{
-    if room == 0 {
-        return Err(Halt::Memory);
-    }
-    let _given = match called_by(machine, store, host, scene, room - 1, operand, args) {
-        Ok(given) => given,
-        Err(halt) => return Err(halt),
-    };
-    Ok(Flow::Normal)
 }
 
 /// A value that is dropped.

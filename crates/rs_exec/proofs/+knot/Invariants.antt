@@ -49,45 +49,6 @@ decreases-calls::function g l = l.room
 abbrev pub decreases-calls::run_callee : goal.decreases-calls::run_callee
 decreases-calls::run_callee g l = l.room
 
-abbrev pub decreases-exprs::address : goal.decreases-exprs::address
-decreases-exprs::address g l = l.room
-
-abbrev pub decreases-exprs::binary : goal.decreases-exprs::binary
-decreases-exprs::binary g l = l.room
-
-abbrev pub decreases-exprs::both : goal.decreases-exprs::both
-decreases-exprs::both g l = l.room
-
-abbrev pub decreases-exprs::call_by_value : goal.decreases-exprs::call_by_value
-decreases-exprs::call_by_value g l = l.room
-
-abbrev pub decreases-exprs::call_value : goal.decreases-exprs::call_value
-decreases-exprs::call_value g l = l.room
-
-abbrev pub decreases-exprs::choose : goal.decreases-exprs::choose
-decreases-exprs::choose g l = l.room
-
-abbrev pub decreases-exprs::either : goal.decreases-exprs::either
-decreases-exprs::either g l = l.room
-
-abbrev pub decreases-exprs::expr : goal.decreases-exprs::expr
-decreases-exprs::expr g l = l.room
-
-abbrev pub decreases-exprs::offset : goal.decreases-exprs::offset
-decreases-exprs::offset g l = l.room
-
-abbrev pub decreases-exprs::offset_from : goal.decreases-exprs::offset_from
-decreases-exprs::offset_from g l = l.room
-
-abbrev pub decreases-exprs::one : goal.decreases-exprs::one
-decreases-exprs::one g l = l.room
-
-abbrev pub decreases-exprs::read : goal.decreases-exprs::read
-decreases-exprs::read g l = l.room
-
-abbrev pub decreases-exprs::wrapped : goal.decreases-exprs::wrapped
-decreases-exprs::wrapped g l = l.room
-
 abbrev pub decreases-places::deref : goal.decreases-places::deref
 decreases-places::deref g l = l.room
 
@@ -109,15 +70,6 @@ decreases-stmts::branch g l = l.room
 abbrev pub decreases-stmts::copied : goal.decreases-stmts::copied
 decreases-stmts::copied g l = l.room
 
-abbrev pub decreases-stmts::dropped : goal.decreases-stmts::dropped
-decreases-stmts::dropped g l = l.room
-
-abbrev pub decreases-stmts::dropped_call : goal.decreases-stmts::dropped_call
-decreases-stmts::dropped_call g l = l.room
-
-abbrev pub decreases-stmts::dropped_call_by : goal.decreases-stmts::dropped_call_by
-decreases-stmts::dropped_call_by g l = l.room
-
 abbrev pub decreases-stmts::dropped_value : goal.decreases-stmts::dropped_value
 decreases-stmts::dropped_value g l = l.room
 
@@ -127,11 +79,41 @@ decreases-stmts::matched g l = l.room
 abbrev pub decreases-stmts::returned : goal.decreases-stmts::returned
 decreases-stmts::returned g l = l.room
 
-abbrev pub decreases-stmts::stmt : goal.decreases-stmts::stmt
-decreases-stmts::stmt g l = l.room
-
 abbrev pub decreases-stmts::stmts : goal.decreases-stmts::stmts
 decreases-stmts::stmts g l = l.room
 
 abbrev pub decreases-stmts::turns : goal.decreases-stmts::turns
 decreases-stmts::turns g l = l.room
+
+abbrev pub decreases-exprs::expr : goal.decreases-exprs::expr
+decreases-exprs::expr g l = l.room
+
+abbrev pub decreases-exprs::placed : goal.decreases-exprs::placed
+decreases-exprs::placed g l = l.room
+
+abbrev pub decreases-exprs::call_value : goal.decreases-exprs::call_value
+decreases-exprs::call_value g l = l.room
+
+abbrev pub decreases-exprs::one : goal.decreases-exprs::one
+decreases-exprs::one g l = l.room
+
+abbrev pub decreases-exprs::two : goal.decreases-exprs::two
+decreases-exprs::two g l = l.room
+
+abbrev pub decreases-exprs::side : goal.decreases-exprs::side
+decreases-exprs::side g l = l.room
+
+abbrev pub decreases-exprs::tested : goal.decreases-exprs::tested
+decreases-exprs::tested g l = l.room
+
+abbrev pub decreases-calls::call : goal.decreases-calls::call
+decreases-calls::call g l = l.room
+
+abbrev pub decreases-stmts::stmt : goal.decreases-stmts::stmt
+decreases-stmts::stmt g l = l.room
+
+abbrev pub decreases-stmts::nested : goal.decreases-stmts::nested
+decreases-stmts::nested g l = l.room
+
+abbrev pub decreases-stmts::dropped_call : goal.decreases-stmts::dropped_call
+decreases-stmts::dropped_call g l = l.room
