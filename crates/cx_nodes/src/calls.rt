@@ -7,19 +7,19 @@ ghost use Rattle.cx_nodes.specs.Calls.{arg_for, called_number};
 ghost use Rattle.cx_operands.specs.Views.{view_operand};
 ghost use Rattle.cx_rules.specs.Meanings.{args_for, args_of, call_form, call_meaning, trailing_value};
 
-use crate::arithmetic::{fitted_value, promoted_value};
 use crate::constants::no_meaning;
-use crate::operands::a_value;
 use cr_base::{Boxed, Items, Memory, Place};
 use cx_core::{CoreExpr, Form, Params, Ty, Types};
 use cx_forms::{call_by_node, call_node};
 use cx_operands::{Operand, value_type};
+use cx_operators::{a_value, fitted_value, promoted_value};
 use cx_pairs::callee_of;
 use cx_values::{unqualified_copy, value_of};
 use std::alloc::Global;
 
 /// What a call means of a function, which is called by its name or isn't, with arguments from the left (ISO C99, 6.5.2.2).
 /// Refused only for want of memory.
+#[tactic(auto, using(crate::proofs::Callees::by_callee, crate::proofs::Callees::function_view))]
 pub fn call_meaning(
     alloc: Global,
     types: &Types,
@@ -41,6 +41,7 @@ pub fn call_meaning(
     Ok(a_value(core))
 }
 
+#[tactic(auto, using(crate::proofs::Callees::by_number))]
 fn call_of(
     alloc: Global,
     ty: Boxed<Ty>,
@@ -108,7 +109,7 @@ fn arg_for(
     param: Option<&Ty>,
     arg: Operand,
 ) -> Result<Boxed<CoreExpr>, Memory>
-    ensures { IfOk result (λ made. view_expr made ≡ arg_for (view_types types.now) (option_map (λ t. view_type t.now) param) (view_operand arg)) }
+    ensures { IfOk result (λ made. view_expr made ≡ arg_for (view_types types.now) (option_map (λ t. view_type t.now) param.entry) (view_operand arg)) }
 {
     match param {
         Some(t) => fitted_value(alloc, types, t, arg),

@@ -7,12 +7,12 @@ ghost use Rattle.cx_operands.specs.Views.{view_operand};
 ghost use Rattle.cx_rules.specs.Meanings.{cast_meaning, makes_null};
 ghost use Rattle.cx_rules.specs.Types.{is_integer, is_function_pointer};
 
-use crate::operands::a_value;
 use cr_base::{Boxed, Memory, Place};
 use cx_core::{CoreExpr, Ty, Types};
 use cx_forms::{convert_node, null_node};
 use cx_kinds::{is_function_pointer, is_pointer};
 use cx_operands::{Operand, ValueTy, is_null_constant};
+use cx_operators::a_value;
 use cx_values::{unqualified_copy, value_of};
 use std::alloc::Global;
 

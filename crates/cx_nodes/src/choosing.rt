@@ -7,14 +7,12 @@ ghost use Rattle.cx_pairs.specs.Choices.{choice_as};
 ghost use Rattle.cx_rules.specs.Meanings.{cond_meaning, chosen_as, choice_type, pointer_to_both, unqualified_composite};
 ghost use Rattle.cx_rules.specs.Types.{target_of, void_type};
 
-use crate::arithmetic::fitted_value;
 use crate::constants::no_meaning;
-use crate::operands::a_value;
-use crate::types::{common_ty, ty_of};
 use cr_base::{Boxed, Memory, Place};
 use cx_core::{Ty, Types};
 use cx_forms::{cond_node, void_ty};
 use cx_operands::{Operand, ValueTy, value_type};
+use cx_operators::{a_value, common_ty, fitted_value, ty_of};
 use cx_pairs::{Choice, choice_of};
 use cx_types::{qualified, unqualified_composite};
 use cx_values::value_of;

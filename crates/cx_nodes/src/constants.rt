@@ -7,13 +7,13 @@ ghost use Rattle.cx_operands.specs.Views.{view_operand};
 ghost use Rattle.cx_rules.specs.Meanings.{basic_of_constant, int_meaning, no_meaning, number_meaning, size_meaning};
 ghost use Rattle.cx_rules.specs.Types.{size_of};
 
-use crate::operands::a_value;
 use cr_base::{Int, Memory, Place};
 use cx_core::{Basic, Ty};
 use cx_forms::{basic_ty, whole_node};
 use cx_kinds::{Known, size_of};
 use cx_lex::Ty0;
 use cx_operands::Operand;
+use cx_operators::a_value;
 use std::alloc::Global;
 
 /// What an integer constant means (ISO C99, 6.4.4.1p5). Refused only for want of memory.

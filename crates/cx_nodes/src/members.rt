@@ -10,13 +10,13 @@ ghost use Rattle.cx_operands.specs.Views.{view_operand};
 ghost use Rattle.cx_rules.specs.Meanings.{arrow_meaning, dot_meaning};
 
 use crate::constants::no_meaning;
-use crate::operands::{a_place, a_value};
 use crate::pointers::deref_meaning;
 use cr_base::{Boxed, Memory, Place, Spot};
 use cx_core::{CoreExpr, Ty};
 use cx_forms::member_node;
 use cx_kinds::Known;
 use cx_operands::{Operand, is_place};
+use cx_operators::{a_place, a_value};
 use cx_pairs::find_member;
 use cx_types::with_const;
 use cx_values::{unqualified_copy, value_of};
@@ -36,25 +36,30 @@ pub fn dot_meaning(
 {
     match find_member(known, &of.core.get().ty, name) {
         None => no_meaning(alloc, at),
-        Some(found) => member_of(alloc, at, of, found.ty, found.spot),
+        Some(found) => {
+            let is_place = is_place(&of);
+            member_of(alloc, at, is_place, of.is_register, of.core, found.ty, found.spot)
+        }
     }
 }
 
 fn member_of(
     alloc: Global,
     at: Place,
-    of: Operand,
+    is_place: bool,
+    is_register: bool,
+    of: Boxed<CoreExpr>,
     t: &Ty,
     spot: Spot,
 ) -> Result<Operand, Memory>
-    ensures { IfOk result (λ made. view_operand made ≡ member_of at (view_operand of) (view_type t.now) spot) }
+    ensures { IfOk result (λ made. view_operand made ≡ member_of at is_place is_register (view_expr of) (view_type t.now) spot) }
 {
-    if is_place(&of) {
-        let core = member_place(alloc, at, of.core, t, spot)?;
-        Ok(a_place(of.is_register, core))
+    if is_place {
+        let core = member_place(alloc, at, of, t, spot)?;
+        Ok(a_place(is_register, core))
     } else {
         let ty = unqualified_copy(alloc, t)?;
-        let core = member_node(alloc, ty, at, of.core, spot)?;
+        let core = member_node(alloc, ty, at, of, spot)?;
         Ok(a_value(core))
     }
 }

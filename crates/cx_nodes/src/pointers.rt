@@ -1,26 +1,28 @@
-//! What pointers point to, and addresses (ISO C99, 6.5.3.2).
+//! What pointers point to, elements of arrays, and addresses (ISO C99, 6.5.2.1 and 6.5.3.2).
 
 ghost use Rattle.std.specs.Prelude.{◌≡◌, IsTrue, IfOk, option_map, true};
 ghost use Rattle.cx_core.specs.Trees.{expr, deref, type_of};
 ghost use Rattle.cx_core.specs.Views.{view_expr, view_type};
+ghost use Rattle.cx_kinds.specs.Known.{IsKnown, types_in};
 ghost use Rattle.cx_nodes.specs.Pointers.{is_deref, pointer_in, deref_plain};
 ghost use Rattle.cx_operands.specs.Views.{view_operand};
-ghost use Rattle.cx_rules.specs.Meanings.{deref_meaning, address_meaning, address_of_place};
+ghost use Rattle.cx_rules.specs.Meanings.{deref_meaning, index_meaning, address_meaning, address_of_place};
 ghost use Rattle.cx_rules.specs.Types.{target_of};
 
 use crate::constants::no_meaning;
-use crate::operands::{a_place, a_value, of_kind};
 use cr_base::{Boxed, Memory, Place};
-use cx_core::{CoreExpr, Form, Ty};
+use cx_core::{CoreExpr, Form, Op2, Ty};
 use cx_forms::{address_node, deref_node, pointer_to};
-use cx_kinds::{is_function_pointer, is_void_pointer, target_of};
+use cx_kinds::{Known, is_function_pointer, is_void_pointer, target_of};
 use cx_operands::{Operand, is_place};
+use cx_operators::{a_place, a_value, by_pairing, of_kind};
+use cx_pairs::pairing_of;
 use cx_rules::OperandKind;
 use std::alloc::Global;
 
 /// What unary `*` means of a value: the object or the function to which it points (ISO C99, 6.5.3.2p4). Refused only for
 /// want of memory.
-#[tactic(auto, using(crate::proofs::Opened::type_of_view, crate::proofs::Pointers::by_target))]
+#[tactic(auto, using(crate::proofs::Opened::type_of_view, crate::proofs::Addresses::by_target))]
 pub fn deref_meaning(alloc: Global, at: Place, from: Boxed<CoreExpr>) -> Result<Operand, Memory>
     ensures { IfOk result (λ made. view_operand made ≡ deref_meaning at (view_expr from)) }
 {
@@ -70,7 +72,7 @@ pub fn address_meaning(alloc: Global, at: Place, of: Operand) -> Result<Operand,
     }
 }
 
-#[tactic(auto, using(crate::proofs::Opened::type_of_view, crate::proofs::Pointers::by_deref))]
+#[tactic(auto, using(crate::proofs::Opened::type_of_view, crate::proofs::Addresses::by_deref))]
 fn address_of_place(
     alloc: Global,
     at: Place,
@@ -96,8 +98,29 @@ fn pointer_of(core: Boxed<CoreExpr>) -> Boxed<CoreExpr>
     requires { IsTrue (is_deref (view_expr core)) }
     ensures { view_expr result ≡ pointer_in (view_expr core) }
 {
-    match core.into_inner().form {
+    let CoreExpr {
+        ty: _ty,
+        place: _place,
+        form,
+    } = core.into_inner();
+    match form {
         Form::Deref(from) => from,
         _ => unreachable!(),
     }
+}
+
+/// What an element of an array means: `a[i]` is `*(a + i)` (ISO C99, 6.5.2.1p2). Refused only for want of memory.
+pub fn index_meaning(
+    alloc: Global,
+    known: Known,
+    at: Place,
+    of: Operand,
+    index: Operand,
+) -> Result<Operand, Memory>
+    requires { IsKnown known }
+    ensures { IfOk result (λ made. view_operand made ≡ index_meaning at (types_in known.entry) (view_operand of) (view_operand index)) }
+{
+    let pairing = pairing_of(known, Op2::Add, &of, &index);
+    let moved = by_pairing(alloc, known.types, at, Op2::Add, of, index, pairing)?;
+    deref_meaning(alloc, at, moved)
 }

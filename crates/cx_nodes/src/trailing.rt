@@ -1,21 +1,22 @@
 //! The types of arguments that no parameter takes (ISO C99, 6.5.2.2p6).
 
-ghost use Rattle.std.specs.Prelude.{◌≡◌, drop, map, IfOk};
+ghost use Rattle.std.specs.Prelude.{◌≡◌, map, IfOk};
 ghost use Rattle.cx_core.specs.Trees.{type_of};
-ghost use Rattle.cx_core.specs.Views.{view_type, view_types, view_params};
+ghost use Rattle.cx_core.specs.Views.{view_type, view_types, view_params, types_of};
 ghost use Rattle.cx_nodes.specs.Trailing.{trailing_in};
 ghost use Rattle.cx_operands.specs.Views.{view_operand};
-ghost use Rattle.cx_rules.specs.Meanings.{trailing_types, trailing_value};
+ghost use Rattle.cx_rules.specs.Meanings.{trailing_types, trailing_from, trailing_value};
 
-use crate::types::{promoted_ty, ty_of};
 use cr_base::{Boxed, Items, Memory};
 use cx_core::{Params, Ty, Types};
 use cx_operands::{Operand, value_type};
+use cx_operators::{promoted_ty, ty_of};
 use cx_pairs::callee_of;
 use std::alloc::Global;
 
 /// The types of the arguments of a call behind those that parameters take, after the default promotions (ISO C99,
 /// 6.5.2.2p6, p7); none where the function has no parameter list. Refused only for want of memory.
+#[tactic(auto, using(crate::proofs::Callees::by_called, crate::proofs::Callees::function_view))]
 pub fn trailing_types(
     alloc: Global,
     types: &Types,
@@ -40,28 +41,27 @@ fn trailing_in(
 {
     match params {
         Params::Unlisted => Ok(Items::new(alloc)),
-        Params::Listed(list) => trailing_from(alloc, types, list.len(), args),
+        Params::Listed(list) => trailing_from(alloc, types, list.as_slice(), args),
     }
 }
 
-// The types of the arguments from an index on.
+// The types of the arguments behind so many as there are parameters.
 fn trailing_from(
     alloc: Global,
     types: &Types,
-    first: usize,
+    params: &[Ty],
     args: &[Operand],
 ) -> Result<Items<Ty>, Memory>
-    ensures { IfOk result (λ made. map view_type made ≡ map (λ arg. type_of (trailing_value (view_types types.now) (view_operand arg))) (drop first args.now)) }
+    ensures { IfOk result (λ made. map view_type made ≡ trailing_from (view_types types.now) (types_of (map view_type params.now)) (map view_operand args.now)) }
 {
     let mut made = Items::new(alloc);
-    for index in first..args.len() {
+    for index in params.len()..args.len() {
         let ty = trailing_ty(alloc, types, &args[index])?;
         made.push(ty.into_inner())?;
     }
     Ok(made)
 }
 
-#[tactic(auto, using(crate::proofs::Trailing::by_promotion))]
 fn trailing_ty(alloc: Global, types: &Types, arg: &Operand) -> Result<Boxed<Ty>, Memory>
     ensures { IfOk result (λ made. view_type made ≡ type_of (trailing_value (view_types types.now) (view_operand arg.now))) }
 {

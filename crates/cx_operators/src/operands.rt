@@ -10,13 +10,15 @@ use cx_core::CoreExpr;
 use cx_operands::Operand;
 use cx_rules::OperandKind;
 
-pub(crate) fn a_value(core: Boxed<CoreExpr>) -> Operand
+/// A value.
+pub fn a_value(core: Boxed<CoreExpr>) -> Operand
     ensures { view_operand result ≡ a_value (view_expr core) }
 {
     of_kind(OperandKind::Value, core)
 }
 
-pub(crate) fn a_place(is_register: bool, core: Boxed<CoreExpr>) -> Operand
+/// An lvalue, and whether the object that it names is declared `register` (ISO C99, 6.3.2.1p1).
+pub fn a_place(is_register: bool, core: Boxed<CoreExpr>) -> Operand
     ensures { view_operand result ≡ a_place is_register (view_expr core) }
 {
     Operand {
@@ -26,8 +28,8 @@ pub(crate) fn a_place(is_register: bool, core: Boxed<CoreExpr>) -> Operand
     }
 }
 
-// An operand that names no object.
-pub(crate) fn of_kind(kind: OperandKind, core: Boxed<CoreExpr>) -> Operand
+/// An operand that names no object.
+pub fn of_kind(kind: OperandKind, core: Boxed<CoreExpr>) -> Operand
     ensures { view_operand result ≡ record { kind = kind; is_register = false; core = view_expr core } }
 {
     Operand {

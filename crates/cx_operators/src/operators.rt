@@ -1,15 +1,14 @@
-//! Operators with one operand and with two (ISO C99, 6.5.2.1, 6.5.3.3, 6.5.5 to 6.5.12).
+//! Operators with one operand and with two (ISO C99, 6.5.3.3, 6.5.5 to 6.5.12).
 
 ghost use Rattle.std.specs.Prelude.{◌≡◌, IfOk};
 ghost use Rattle.cx_core.specs.Views.{view_expr, view_types};
 ghost use Rattle.cx_kinds.specs.Known.{IsKnown, types_in};
 ghost use Rattle.cx_operands.specs.Views.{view_operand};
-ghost use Rattle.cx_rules.specs.Meanings.{by_pairing, binary_meaning, index_meaning, unary_meaning};
+ghost use Rattle.cx_rules.specs.Meanings.{by_pairing, binary_meaning, unary_meaning};
 ghost use Rattle.cx_rules.specs.declared.kinds.Pairing.TheVariants.{Arithmetic, Shift, PointerInteger, IntegerPointer, Pointers, LeftConverted, RightConverted};
 
 use crate::arithmetic::{fitted_value, promoted_value, value_in};
 use crate::operands::a_value;
-use crate::pointers::deref_meaning;
 use crate::types::{common_ty, pointers_ty, promoted_ty, result_ty};
 use cr_base::{Boxed, Memory, Place};
 use cx_core::{Basic, CoreExpr, Op1, Op2, Types};
@@ -188,22 +187,6 @@ pub fn binary_meaning(
     let pairing = pairing_of(known, op, &left, &right);
     let core = by_pairing(alloc, known.types, at, op, left, right, pairing)?;
     Ok(a_value(core))
-}
-
-/// What an element of an array means: `a[i]` is `*(a + i)` (ISO C99, 6.5.2.1p2). Refused only for want of memory.
-pub fn index_meaning(
-    alloc: Global,
-    known: Known,
-    at: Place,
-    of: Operand,
-    index: Operand,
-) -> Result<Operand, Memory>
-    requires { IsKnown known }
-    ensures { IfOk result (λ made. view_operand made ≡ index_meaning at (types_in known.entry) (view_operand of) (view_operand index)) }
-{
-    let pairing = pairing_of(known, Op2::Add, &of, &index);
-    let moved = by_pairing(alloc, known.types, at, Op2::Add, of, index, pairing)?;
-    deref_meaning(alloc, at, moved)
 }
 
 /// What a unary arithmetic operator means (ISO C99, 6.5.3.3). Refused only for want of memory.

@@ -15,8 +15,8 @@ use cx_operands::{Operand, ValueTy, value_type, width_of};
 use cx_values::unqualified_copy;
 use std::alloc::Global;
 
-// The type of a value, made.
-pub(crate) fn ty_of(alloc: Global, v: ValueTy<'_>) -> Result<Boxed<Ty>, Memory>
+/// The type of a value, made (ISO C99, 6.3.2.1). Refused only for want of memory.
+pub fn ty_of(alloc: Global, v: ValueTy<'_>) -> Result<Boxed<Ty>, Memory>
     ensures { IfOk result (λ made. view_type made ≡ view_value_type v.entry) }
 {
     match v {
@@ -40,8 +40,9 @@ fn unqualified_ty_of(alloc: Global, v: ValueTy<'_>) -> Result<Boxed<Ty>, Memory>
     }
 }
 
-// The promoted type of an operand (6.3.1.1p2); another type than an integer type stays, without its qualifier.
-pub(crate) fn promoted_ty(
+/// The promoted type of an operand; another type than an integer type stays, without its qualifier (ISO C99, 6.3.1.1p2).
+/// Refused only for want of memory.
+pub fn promoted_ty(
     alloc: Global,
     types: &Types,
     operand: &Operand,
@@ -55,8 +56,8 @@ pub(crate) fn promoted_ty(
     }
 }
 
-// The common type of two operands (6.3.1.8).
-pub(crate) fn common_ty(
+/// The common type of two operands (ISO C99, 6.3.1.8). Refused only for want of memory.
+pub fn common_ty(
     alloc: Global,
     types: &Types,
     left: &Operand,

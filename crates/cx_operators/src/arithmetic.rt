@@ -25,8 +25,9 @@ pub(crate) fn value_in(
     converted_to(alloc, ty, value)
 }
 
-// The promoted value of an operand; another value than an integer stays.
-pub(crate) fn promoted_value(
+/// The promoted value of an operand; another value than an integer stays (ISO C99, 6.3.1.1p2). Refused only for want of
+/// memory.
+pub fn promoted_value(
     alloc: Global,
     types: &Types,
     operand: Operand,
@@ -38,8 +39,8 @@ pub(crate) fn promoted_value(
     converted_to(alloc, ty, value)
 }
 
-// The value of an operand, as it is stored where a type stands.
-pub(crate) fn fitted_value(
+/// The value of an operand, as it is stored where a type stands (ISO C99, 6.5.16.1p2). Refused only for want of memory.
+pub fn fitted_value(
     alloc: Global,
     types: &Types,
     target: &Ty,
