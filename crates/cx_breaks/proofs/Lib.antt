@@ -1,2 +1,4 @@
+pub mod Chains
+pub mod NodeRules
 pub mod Opened
 pub mod Tests
