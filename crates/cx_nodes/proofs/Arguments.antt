@@ -27,6 +27,19 @@ values_count types params [] = refl
 values_count types [] (arg ∷ args) = ap suc (values_count types [] args)
 values_count types (param ∷ params) (arg ∷ args) = ap suc (values_count types params args)
 
+-- the values so far, and that of the next argument
+pub next_value : (types : CTypes) (params : List CTy) (args : List COperand) (made : List CExpr) (value : CExpr) (arg : COperand) (count : ℕ)
+    → made ≡ values_for types params args → count ≡ length made → value ≡ arg_for types (slice_get params count) arg
+    → made ++ value ∷ [] ≡ values_for types params (args ++ arg ∷ [])
+next_value types params args made value arg count made_is count_is value_is =
+    let n : count ≡ length args = count_is ∙ (ap length made_is ∙ values_count types params args) in
+    ap (λ others. others ++ value ∷ []) made_is
+    ∙ (ap (λ one. values_for types params args ++ one ∷ []) (value_is ∙ ap (λ k. arg_for types (slice_get params k) arg) n)
+    ∙ sym (values_more types params args arg))
+
+pub nothing_behind : {A : Type 0} (all others whole : List A) → others ≡ [] → all ++ others ≡ whole → all ≡ whole
+nothing_behind all others whole none left = sym (append-nil all) ∙ (ap (λ q. all ++ q) (sym none) ∙ left)
+
 module _ {X : Type 0} (view : X → COperand) (types : CTypes) where
   -- the types of arguments that no parameter takes
   abbrev pub promoted_types : List X → List CTy
