@@ -1,3 +1,4 @@
+pub mod CallRules
 pub mod Chains
 pub mod NodeRules
 pub mod Opened

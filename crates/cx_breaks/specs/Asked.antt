@@ -1,12 +1,13 @@
 -- What rules ask of operands, each by a word that proofs open only where it is answered. Named by the contracts of parts alone.
-use Rattle.std.specs.Prelude.{ℕ, Bool, ◌||◌, List, Option, is_none}
+use Rattle.std.specs.Prelude.{ℕ, Bool, false, not, ◌||◌, List, [], ◌∷◌, Option, option_map, is_none}
 use Rattle.cx_core.specs.declared.expr.Op2.{Op2}
-use Rattle.cx_core.specs.Trees.{CTy, CTypes, type_of}
+use Rattle.cx_core.specs.Trees.{CTy, CTyForm, CTypes, form_of_type, type_of}
+use Rattle.cx_pairs.specs.Callees.{callee_form}
 use Rattle.cx_rules.specs.declared.kinds.Pairing.{Pairing}
-use Rattle.cx_rules.specs.Meanings.{CFoundMember, choice_type, find_member}
+use Rattle.cx_rules.specs.Meanings.{CFoundMember, callee_type, choice_type, find_member}
 use Rattle.cx_rules.specs.Operands.{COperand, gives_nothing, holds_nothing, is_null_constant, is_place, is_register_array, value_of, value_type}
 use Rattle.cx_rules.specs.Pairs.{is_assignable, pairing}
-use Rattle.cx_rules.specs.Rules.{has_address, has_no_size, is_modifiable, is_record_operand, lacks_member_behind}
+use Rattle.cx_rules.specs.Rules.{args_unassignable, has_address, has_no_size, is_modifiable, is_record_operand, lacks_member_behind, not_callable, not_listed}
 use Rattle.cx_rules.specs.Types.{target_of}
 
 -- ---- values
@@ -63,3 +64,28 @@ member_named types of name = find_member types (type_of of.core) name
 -- what stands behind `->` is no member of what the pointer points to
 unfoldable pub lacks_behind : CTypes → COperand → List ℕ → Bool
 lacks_behind types of name = lacks_member_behind types (target_of (value_type of)) name
+
+-- ---- calls
+
+-- the function type of what is called, where that is a function
+unfoldable pub called_as : COperand → Option CTyForm
+called_as callee = callee_form (option_map form_of_type (callee_type callee))
+
+-- it has no parameter list
+unfoldable pub lacks_list : Option CTyForm → Bool
+lacks_list form = not_listed form
+
+unfoldable pub cannot_be_called : CTypes → ℕ → Option CTyForm → Bool
+cannot_be_called types count form = not_callable types count form
+
+unfoldable pub takes_no_such : CTypes → List COperand → Option CTyForm → Bool
+takes_no_such types args form = args_unassignable types args form
+
+unfoldable pub may_be_given : CTypes → CTy → COperand → Bool
+may_be_given types param arg = is_assignable types param (value_of arg)
+
+-- some argument may not be assigned to its parameter
+abbrev pub some_unfit : CTypes → List CTy → List COperand → Bool
+some_unfit types [] args = false
+some_unfit types (param ∷ params) [] = false
+some_unfit types (param ∷ params) (arg ∷ args) = not (may_be_given types param arg) || some_unfit types params args

@@ -1,23 +1,25 @@
 //! What rules ask of operands (ISO C99, 6.3.2).
 
 ghost use Rattle.std.specs.Prelude.{◌≡◌, ◌&&◌, ◌||◌, Bool, true, false, is_some, not, option_map};
-ghost use Rattle.cx_breaks.specs.Asked.{lacks_value, lacks_object, is_fixed, type_taken, is_null, pairing_taken, may_be_stored, is_unchosen, names_object, may_change, has_place, is_sizeless, is_no_pointee, member_named, lacks_behind};
+ghost use Rattle.cx_breaks.specs.Asked.{lacks_value, lacks_object, is_fixed, type_taken, is_null, pairing_taken, may_be_stored, is_unchosen, names_object, may_change, has_place, is_sizeless, is_no_pointee, member_named, lacks_behind, called_as, may_be_given};
 ghost use Rattle.cx_core.specs.Trees.{type_of};
 ghost use Rattle.cx_core.specs.ValidTypes.{holds_const};
-ghost use Rattle.cx_core.specs.Views.{view_type, view_types};
+ghost use Rattle.cx_core.specs.Views.{view_function_type, view_type, view_types};
 ghost use Rattle.cx_kinds.specs.Known.{IsKnown, types_in};
 ghost use Rattle.cx_operands.specs.Views.{view_operand, view_value_type};
 ghost use Rattle.cx_pairs.specs.Members.{view_found};
 ghost use Rattle.cx_rules.specs.Types.{is_array, is_complete};
 ghost use Rattle.cx_rules.specs.declared.kinds.OperandKind.TheVariants.{Value, Place, Function, VoidPlace};
 
-use cx_core::{Op2, Ty, Types};
+use cx_core::{FunctionTy, Op2, Ty, Types};
 use cx_kinds::{Known, holds_const, is_array, is_complete};
 use cx_operands::{
     Operand, ValueTy, gives_nothing, holds_nothing, is_null_operand, is_place, is_register_array,
     value_type, width_of,
 };
-use cx_pairs::{Choice, FoundMember, choice_of, find_member, may_be_assigned, pairing_of};
+use cx_pairs::{
+    Choice, FoundMember, callee_of, choice_of, find_member, may_be_assigned, pairing_of,
+};
 use cx_rules::{OperandKind, Pairing};
 
 // Whether the value of an operand can't be taken.
@@ -191,4 +193,19 @@ pub(crate) fn lacks_behind(known: Known, of: &Operand, name: &[u8]) -> bool
         None => true,
         Some(to) => find_member(known, to, name).is_none(),
     }
+}
+
+// The type of the function that is called.
+#[tactic(auto, unfolding(crate::specs::Asked::called_as))]
+pub(crate) fn called_as(callee: &Operand) -> Option<&FunctionTy>
+    ensures { option_map (λ one. view_function_type one.now) result ≡ called_as (view_operand callee.now) }
+{
+    callee_of(callee)
+}
+
+#[tactic(auto, unfolding(crate::specs::Asked::may_be_given))]
+pub(crate) fn may_be_given(types: &Types, param: &Ty, arg: &Operand) -> bool
+    ensures { result ≡ may_be_given (view_types types.now) (view_type param.now) (view_operand arg.now) }
+{
+    may_be_assigned(types, param, arg)
 }
