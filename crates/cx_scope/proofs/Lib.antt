@@ -1,0 +1,3 @@
+pub mod Calls
+pub mod Newest
+pub mod Uses

@@ -1,0 +1,18 @@
+//! What is known at a place in a unit: the declarations whose scope holds it (ISO C99, 6.2.1), the types and objects so
+//! far, and what the unit did with names that have linkage.
+#![tactic(auto)]
+
+mod lists;
+mod lookup;
+mod made;
+mod meant;
+mod mentions;
+mod scope;
+mod tags;
+mod thing;
+mod types;
+
+pub use made::Made;
+pub use meant::{Declared, Meant, Tag};
+pub use scope::Scope;
+pub use thing::{Labels, Thing};
