@@ -1,6 +1,6 @@
 -- Lists that are kept with the oldest first, and seen with the newest first.
 use Rattle.std.proofs.Common.{arith, ◌≡◌, refl, sym, ap, ◌∙◌, ℕ, ◌-◌, List, [], ◌∷◌, ◌++◌, length, take, drop, map, reverse}
-use Rattle.std.proofs.lemmas.List.{take-append-drop, reverse-append, length-reverse, length-drop, length-map, drop_at, take_at, take-map, drop-map}
+use Rattle.std.proofs.lemmas.List.{take-append-drop, map-append, reverse-append, length-reverse, length-drop, length-map, drop_at, take_at, take-map, drop-map}
 
 reversed_cut : {A : Type 0} (n : ℕ) (xs : List A) → reverse xs ≡ reverse (drop n xs) ++ reverse (take n xs)
 reversed_cut n xs = ap reverse (sym (take-append-drop n xs)) ∙ reverse-append (take n xs) (drop n xs)
@@ -32,3 +32,12 @@ but_one (x ∷ xs) = drop_newest 1 (length (x ∷ xs) - 1) (x ∷ xs) (omega ari
 pub drop_one : {A B : Type 0} (f : A → B) (xs : List A) → drop 1 (reverse (map f xs)) ≡ reverse (map f (take (length xs - 1) xs))
 drop_one f xs =
     but_one (map f xs) ∙ ap (λ n. reverse (take (n - 1) (map f xs))) (length-map xs f) ∙ ap reverse (take-map f (length xs - 1) xs)
+
+-- what stands for a list backwards
+pub reversed_map : {A B : Type 0} (f : A → B) (xs : List A) → map f (reverse xs) ≡ reverse (map f xs)
+reversed_map f [] = refl
+reversed_map f (x ∷ xs) =
+    ap (map f) (reverse-append (x ∷ []) xs)
+    ∙ map-append f (reverse xs) (x ∷ [])
+    ∙ ap (λ ys. ys ++ f x ∷ []) (reversed_map f xs)
+    ∙ sym (reverse-append (f x ∷ []) (map f xs))

@@ -7,6 +7,8 @@ use Rattle.cx_scope.specs.declared.meant.Declared.{Declared}
 use Rattle.cx_scope.specs.declared.meant.Meant.{Meant}
 use Rattle.cx_scope.specs.declared.meant.Meant.TheVariants as meant
 use Rattle.cx_scope.specs.declared.meant.Tag.{Tag}
+use Rattle.cx_rules.specs.Shapes.{CParam}
+use Rattle.cx_scope.specs.declared.param.Param.{Param}
 use Rattle.cx_scope.specs.declared.scope.Scope.{Scope}
 use Rattle.cx_scope.specs.declared.thing.Labels.{Labels}
 use Rattle.cx_scope.specs.declared.thing.Thing.{Thing}
@@ -26,6 +28,9 @@ view_tag one = record { is_record = one.is_record; is_open = one.is_open; number
 
 abbrev pub view_made : Made → CMade
 view_made one = record { object = one.object; type = view_type one.ty; is_text = one.is_text; fixed = option_map view_puts one.fixed }
+
+abbrev pub view_param : Param → CParam
+view_param one = record { name = one.name; object = one.object; type = view_type one.ty; is_register = one.is_register }
 
 abbrev pub view_thing : Thing → CThing
 view_thing one = record {

@@ -3,16 +3,20 @@
 #![tactic(auto)]
 
 mod lists;
+mod literals;
 mod lookup;
 mod made;
 mod meant;
 mod mentions;
+mod param;
 mod scope;
 mod tags;
 mod thing;
 mod types;
 
+pub use literals::literal_made;
 pub use made::Made;
 pub use meant::{Declared, Meant, Tag};
+pub use param::Param;
 pub use scope::Scope;
 pub use thing::{Labels, Thing};

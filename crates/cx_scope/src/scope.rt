@@ -1,12 +1,14 @@
 //! The scope at a place, and what declarations change of it.
 #![tactic(auto, unfolding(crate::specs::Views::view_scope))]
 
-ghost use Rattle.std.specs.Prelude.{◌≡◌, ◌≤◌, ◌<◌, map, length, take, OnOk, OnErr};
+ghost use Rattle.std.specs.Prelude.{◌≡◌, ◌≤◌, ◌<◌, map, length, IfOk, OnOk, OnErr};
 ghost use Rattle.cx_core.specs.Views.{view_types};
-ghost use Rattle.cx_rules.specs.Scope.{new_scope, no_labels, with_declared, with_object_number};
-ghost use Rattle.cx_scope.specs.Changes.{begun_at, dropped_to, inside};
-ghost use Rattle.cx_scope.specs.Views.{view_scope, view_meant, view_made, view_labels};
+ghost use Rattle.cx_rules.specs.Scope.{new_scope, no_labels, with_declared, with_object_number, left};
+ghost use Rattle.cx_rules.specs.Pieces.{declared_since};
+ghost use Rattle.cx_scope.specs.Changes.{begun_at, dropped_to, inside, without_newest};
+ghost use Rattle.cx_scope.specs.Views.{view_scope, view_declared, view_meant, view_made, view_labels};
 
+use crate::lists::{shorten, split_newest};
 use crate::made::Made;
 use crate::meant::Declared;
 use crate::thing::{Labels, Thing};
@@ -79,7 +81,7 @@ impl Scope {
         requires { mark ≤ length (view_scope self.old).declared }
         ensures { view_scope self.new ≡ dropped_to mark (view_scope self.old) }
     {
-        drop_to(&mut self.declared, mark as usize);
+        shorten(&mut self.declared, mark as usize);
         self.begins = self.begins.min(mark);
     }
 
@@ -119,6 +121,59 @@ impl Scope {
         self.literals.as_slice()
     }
 
+    /// The number of the unit.
+    pub fn unit(&self) -> u32
+        ensures { result ≡ (view_scope self.now).unit }
+    {
+        self.unit
+    }
+
+    /// Where the innermost scope begins: behind so many of the oldest declarations.
+    pub fn begins(&self) -> u64
+        ensures { result ≡ (view_scope self.now).begins }
+    {
+        self.begins
+    }
+
+    /// Whether the place stands inside a function.
+    pub fn is_inside(&self) -> bool
+        ensures { result ≡ (view_scope self.now).in_function }
+    {
+        self.in_function
+    }
+
+    /// The number of the next object.
+    pub fn next_object(&self) -> u32
+        ensures { result ≡ (view_scope self.now).next_object }
+    {
+        self.next_object
+    }
+
+    /// How much of what has linkage the unit named so far.
+    pub fn mention_count(&self) -> u64
+        ensures { result ≡ length (view_scope self.now).mentions }
+    {
+        self.mentions.len() as u64
+    }
+
+    /// A scope ends that began with so many declarations; the one around it began with so many.
+    pub fn leave(&mut self, count: u64, begins: u64)
+        ensures { view_scope self.new ≡ left count begins (view_scope self.old) }
+    {
+        shorten(&mut self.declared, count as usize);
+        self.begins = begins;
+    }
+
+    /// The newest declarations, down to so many, are taken out of scope: the newest first. Refused only for want of
+    /// memory, and then nothing is said of the scope.
+    pub fn take_since(&mut self, count: u64) -> Result<Items<Declared>, Memory>
+        ensures taken { IfOk result (λ newest. map view_declared newest ≡ declared_since count (view_scope self.old)) }
+        ensures left { OnOk result (view_scope self.new ≡ without_newest count (view_scope self.old)) }
+    {
+        let newest = split_newest(self.alloc, &mut self.declared, count as usize)?;
+        Ok(newest)
+    }
+
     /// The types of the unit so far.
     pub fn types(&self) -> &Types
         ensures { view_types result.now ≡ (view_scope self.now).types }
@@ -134,14 +189,5 @@ fn no_labels(alloc: Global) -> Labels
         labels: Items::new(alloc),
         cases: Items::new(alloc),
         has_default: false,
-    }
-}
-
-// Drops the newest declarations, down to so many.
-fn drop_to(declared: &mut Items<Declared>, count: usize)
-    ensures { declared.new ≡ take count declared.old }
-{
-    while count < declared.len() {
-        let _newest = declared.pop();
     }
 }

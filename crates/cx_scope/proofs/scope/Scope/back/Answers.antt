@@ -5,4 +5,4 @@ use Rattle.cx_scope.proofs.scope.Scope.back.Goals as goal
 
 pub returns : goal.returns
 unfolding view_scope
-returns c = rw (c.drop_to.ensures, c.min-self.ensures) (rw (down_to_oldest view_declared c.args.mark c.args.self.now.declared) (search rules))
+returns c = rw (c.shorten.ensures, c.min-self.ensures) (rw (down_to_oldest view_declared c.args.mark c.args.self.now.declared) (search rules))
