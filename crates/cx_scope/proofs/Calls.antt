@@ -18,7 +18,7 @@ pub called : (scope : CScope) (mentions : List Mention) (index : ℕ) (types : L
     → record scope { mentions = map view_mention (slice_set mentions index (record one { does = does.Calls types })) } ≡ with_call index (map view_type types) scope
 called scope mentions index types one held found =
     sym (called_at scope index (map view_type types) (view_mention one)
-            (ap (λ all. slice_get all index) held ∙ slice_get-map view_mention mentions index ∙ ap (option_map view_mention) found)
-        ∙ ap (λ all. record scope { mentions = all })
-            (ap (λ all. slice_set all index (record (view_mention one) { does = calls (map view_type types) })) held
-            ∙ sym (map-set view_mention mentions index (record one { does = does.Calls types }))))
+    (ap (λ all. slice_get all index) held ∙ slice_get-map view_mention mentions index ∙ ap (option_map view_mention) found)
+    ∙ ap (λ all. record scope { mentions = all })
+    (ap (λ all. slice_set all index (record (view_mention one) { does = calls (map view_type types) })) held
+    ∙ sym (map-set view_mention mentions index (record one { does = does.Calls types }))))

@@ -2,6 +2,7 @@
 //! far, and what the unit did with names that have linkage.
 #![tactic(auto)]
 
+mod laws;
 mod lists;
 mod literals;
 mod lookup;
@@ -14,6 +15,7 @@ mod tags;
 mod thing;
 mod types;
 
+pub use laws::scopes_begin_and_end;
 pub use literals::literal_made;
 pub use made::Made;
 pub use meant::{Declared, Meant, Tag};

@@ -47,12 +47,7 @@ impl Scope {
     }
 }
 
-fn put_record(
-    types: &mut Types,
-    tag: Option<Name>,
-    is_union: bool,
-    unit: u32,
-) -> Result<(), Memory>
+fn put_record(types: &mut Types, tag: Option<Name>, is_union: bool, unit: u32) -> Result<(), Memory>
     ensures added { OnOk result (view_types types.new ≡ with_record_types tag is_union unit (view_types types.old)) }
     ensures refused { OnErr result (types.new ≡ types.old) }
 {

@@ -8,4 +8,4 @@ pub returns-in-Some : goal.returns-in-Some
 unfolding view_scope
 returns-in-Some c =
     rw c.set_types.ensures (called (view_scope c.args.self.now) c.args.self.now.mentions.items c.args.index c.args.types c.in-Some.one.now refl
-        (slice_get_read _ _ _ _ refl c.in-Some.ensures.item.3.0 c.in-Some.ensures.item.1))
+    (slice_get_read _ _ _ _ refl c.in-Some.ensures.item.3.0 c.in-Some.ensures.item.1))
