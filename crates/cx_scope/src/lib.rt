@@ -12,6 +12,7 @@ mod mentions;
 mod param;
 mod scope;
 mod tags;
+mod texts;
 mod thing;
 mod types;
 
@@ -21,4 +22,5 @@ pub use made::Made;
 pub use meant::{Declared, Meant, Tag};
 pub use param::Param;
 pub use scope::Scope;
+pub use texts::{joined_bytes, text_ty};
 pub use thing::{Labels, Thing};
