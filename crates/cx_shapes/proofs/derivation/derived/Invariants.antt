@@ -2,7 +2,7 @@ use Rattle.std.proofs.Common.{◌≡◌, map, reverse, length}
 use Rattle.cx_core.specs.Views.{view_type}
 use Rattle.cx_rules.specs.Shapes.{derived}
 use Rattle.cx_shapes.specs.Views.{view_step}
-use Rattle.cx_shapes.proofs.derived.derived.Given as goal
+use Rattle.cx_shapes.proofs.derivation.derived.Given as goal
 
 -- the steps that are left lead from what was made to the same type
 abbrev pub invariant-loop-first : goal.invariant-loop-first
