@@ -165,10 +165,11 @@ impl Scope {
     }
 
     /// The newest declarations, down to so many, are taken out of scope: the newest first. Refused only for want of
-    /// memory, and then nothing is said of the scope.
+    /// memory, and then nothing is said of the declarations.
     pub fn take_since(&mut self, count: u64) -> Result<Items<Declared>, Memory>
         ensures taken { IfOk result (λ newest. map view_declared newest ≡ declared_since count (view_scope self.old)) }
         ensures left { OnOk result (view_scope self.new ≡ without_newest count (view_scope self.old)) }
+        ensures types { (view_scope self.new).types ≡ (view_scope self.old).types }
     {
         let newest = split_newest(self.alloc, &mut self.declared, count as usize)?;
         Ok(newest)
