@@ -22,9 +22,10 @@ use cx_pairs::{
 };
 use cx_rules::{OperandKind, Pairing};
 
-// Whether the value of an operand can't be taken.
+/// Whether the value of an operand can't be taken: it gives nothing, or it is an lvalue that holds no value (ISO C99, 6.3.2.1p2,
+/// 6.3.2.2).
 #[tactic(auto, unfolding(crate::specs::Asked::lacks_value))]
-pub(crate) fn lacks_value(known: Known, one: &Operand) -> bool
+pub fn lacks_value(known: Known, one: &Operand) -> bool
     requires { IsKnown known }
     ensures { result ≡ lacks_value (types_in known.entry) (view_operand one.now) }
 {
@@ -40,9 +41,9 @@ pub(crate) fn lacks_object(known: Known, one: &Operand) -> bool
     holds_nothing(known, one)
 }
 
-// Whether it is an array whose address can't be taken.
+/// Whether it is an array whose address can't be taken (ISO C99, 6.7.1, footnote 101).
 #[tactic(auto, unfolding(crate::specs::Asked::is_fixed))]
-pub(crate) fn is_fixed(one: &Operand) -> bool
+pub fn is_fixed(one: &Operand) -> bool
     ensures { result ≡ is_fixed (view_operand one.now) }
 {
     is_register_array(one)

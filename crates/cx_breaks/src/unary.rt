@@ -2,6 +2,7 @@
 
 ghost use Rattle.std.specs.Prelude.{◌≡◌, ℕ};
 ghost use Rattle.cx_breaks.specs.Placed.{placed};
+ghost use Rattle.cx_core.specs.Trees.{CTypes};
 ghost use Rattle.cx_core.specs.Views.{view_type};
 ghost use Rattle.cx_kinds.specs.Known.{IsKnown, types_in};
 ghost use Rattle.cx_operands.specs.Views.{view_operand, view_value_type};
@@ -30,8 +31,8 @@ pub fn literal_rule(known: Known, t: &Ty) -> Option<Rule>
 
 /// The rule that unary `&` breaks: K15 where the operand has no address (ISO C99, 6.5.3.2p1).
 #[tactic(auto, using(crate::proofs::NodeRules::address))]
-pub fn address_rule(_known: Known, of: &Operand) -> Option<Rule>
-    ensures { (scope : CScope) (line : ℕ) → result ≡ rule_at (placed (types_in _known.entry) scope line (address_node (view_operand of.now))) }
+pub fn address_rule(of: &Operand) -> Option<Rule>
+    ensures { (types : CTypes) (scope : CScope) (line : ℕ) → result ≡ rule_at (placed types scope line (address_node (view_operand of.now))) }
 {
     if !has_place(of) {
         return Some(Rule::K15);
