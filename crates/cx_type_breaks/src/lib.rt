@@ -3,6 +3,7 @@
 #![tactic(auto)]
 
 mod arrays;
+mod derivation;
 mod members;
 mod names;
 mod params;
@@ -11,6 +12,7 @@ mod tags;
 mod written;
 
 pub use arrays::{array_rule, identifiers_rule};
+pub use derivation::derives_rule;
 pub use members::member_rule;
 pub use names::{enumerator_rule, name_rule};
 pub use params::param_rule;
