@@ -100,8 +100,16 @@ impl Layouts {
     pub fn member(&self, r: u32, k: u32) -> Option<Spot>
         ensures { result ≡ spot_at self.now r k }
     {
-        let row = self.row(r)?;
-        row.spots().get(k as usize).copied()
+        self.spot(r, k as usize)
+    }
+
+    /// Where the member with an index in the list of a record's members stands, or None where there is none
+    /// (ISO C99, 6.7.2.1p10 to p14).
+    pub fn spot(&self, number: u32, index: usize) -> Option<Spot>
+        ensures { result ≡ spot_at self.now number index }
+    {
+        let row = self.row(number)?;
+        row.spots().get(index).copied()
     }
 
     /// Adds a record whose members are complete. Refused where it has more than 16,777,216 bytes, and for

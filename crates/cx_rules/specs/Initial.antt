@@ -206,32 +206,32 @@ is_union_type types (ty form is_const) = false
 
 -- a later value takes an earlier one away: it is stored in the whole part in which the earlier one was, or in another member of a
 -- union of which the earlier one was in a member
-abbrev takes_away : CTypes → Option CTy → (later earlier : List ℕ) → Bool
+abbrev pub takes_away : CTypes → Option CTy → (later earlier : List ℕ) → Bool
 takes_away types None later earlier = false
 takes_away types (Some type) [] earlier = true
 takes_away types (Some type) (index ∷ later) [] = false
 takes_away types (Some type) (index ∷ later) (other ∷ earlier) =
     if index == other then takes_away types (part_type types type index) later earlier else is_union_type types type
 
-abbrev kept_by : CTypes → CTy → List CStored → CStored → Bool
+abbrev pub kept_by : CTypes → CTy → List CStored → CStored → Bool
 kept_by types type [] one = true
 kept_by types type (later ∷ others) one = not (takes_away types (Some type) later.path one.path) && kept_by types type others one
 
-abbrev kept : CTypes → CTy → List CStored → List CStored
+abbrev pub kept : CTypes → CTy → List CStored → List CStored
 kept types type [] = []
 kept types type (one ∷ others) = if kept_by types type others one then one ∷ kept types type others else kept types type others
 
 -- by their places; a whole part stands before what is stored in it
-abbrev comes_before : List ℕ → List ℕ → Bool
+abbrev pub comes_before : List ℕ → List ℕ → Bool
 comes_before [] other = true
 comes_before (index ∷ path) [] = false
 comes_before (index ∷ path) (other ∷ others) = if index == other then comes_before path others else nat_lt index other
 
-abbrev put_in_order : CStored → List CStored → List CStored
+abbrev pub put_in_order : CStored → List CStored → List CStored
 put_in_order one [] = one ∷ []
 put_in_order one (first ∷ others) = if comes_before first.path one.path then first ∷ put_in_order one others else one ∷ first ∷ others
 
-abbrev in_order : List CStored → List CStored
+abbrev pub in_order : List CStored → List CStored
 in_order [] = []
 in_order (one ∷ others) = put_in_order one (in_order others)
 
@@ -251,7 +251,7 @@ abbrev put_at : CStored → Option CPart → CPuts → CPuts
 put_at one None others = others
 put_at one (Some part) others = more_puts (put part.spot part.type one.value) others
 
-abbrev puts_from : CTypes → CTy → List CStored → CPuts
+abbrev pub puts_from : CTypes → CTy → List CStored → CPuts
 puts_from types type [] = no_puts
 puts_from types type (one ∷ others) = put_at one (part_at types one.path type) (puts_from types type others)
 
@@ -272,7 +272,7 @@ as_scalar (Some kind) byte = wrapped kind (pos byte)
 abbrev pub byte_value : CTypes → TextPlace → CTy → ℕ → CExpr
 byte_value types at type byte = expr (unqualified type) at (whole (as_scalar (scalar_of types (form_of_type type)) byte))
 
-abbrev bytes_from : CTypes → TextPlace → CAt → CTy → Option ℕ → ℕ → List ℕ → List CStored
+abbrev pub bytes_from : CTypes → TextPlace → CAt → CTy → Option ℕ → ℕ → List ℕ → List CStored
 bytes_from types at where_is element length index [] = []
 bytes_from types at where_is element length index (byte ∷ bytes) =
     if has_element types element length index

@@ -53,7 +53,7 @@ name_meaning at None = no_meaning at
 -- ---- pointers (6.5.2.1, 6.5.3.2)
 
 -- what a pointer points to
-abbrev deref_as : TextPlace → CExpr → Option CTy → COperand
+abbrev pub deref_as : TextPlace → CExpr → Option CTy → COperand
 deref_as at from None = no_meaning at
 deref_as at from (Some to) =
     if is_function to then record { kind = Function; is_register = false; core = from }
@@ -64,7 +64,7 @@ abbrev pub deref_meaning : TextPlace → CExpr → COperand
 deref_meaning at from = deref_as at from (target_of (type_of from))
 
 -- the address of what a pointer points to is the pointer
-abbrev address_of_place : TextPlace → CExpr → CExpr
+abbrev pub address_of_place : TextPlace → CExpr → CExpr
 address_of_place at (expr type place (deref from)) = from
 address_of_place at (expr type place form) = expr (ty (pointer type) false) at (address (expr type place form))
 
@@ -83,13 +83,13 @@ is_comparison op2.NotEqual = true
 is_comparison _ = false
 
 -- the type of what an operator gives that computes in a type
-abbrev result_of : Op2 → CTy → CTy
+abbrev pub result_of : Op2 → CTy → CTy
 result_of op computes = if is_comparison op then int_type else computes
 
-abbrev pointers_result : Op2 → CTy
+abbrev pub pointers_result : Op2 → CTy
 pointers_result op = if is_comparison op then int_type else difference_type
 
-abbrev by_pairing : TextPlace → CTypes → Op2 → COperand → COperand → Pairing → CExpr
+abbrev pub by_pairing : TextPlace → CTypes → Op2 → COperand → COperand → Pairing → CExpr
 by_pairing at types op left right Arithmetic =
     expr (result_of op (common_of types left right)) at
     (binary op (converted_to (common_of types left right) (value_of left)) (converted_to (common_of types left right) (value_of right)))
@@ -132,7 +132,7 @@ size_meaning at types type = a_value (expr size_type at (whole (elim (size_of ty
 -- ---- casts (6.5.4)
 
 -- a null pointer constant becomes a null pointer: that of type `void *` by its conversion, unless the type points to functions
-abbrev makes_null : CTypes → CTy → CExpr → Bool
+abbrev pub makes_null : CTypes → CTy → CExpr → Bool
 makes_null types type value =
     is_pointer type && (is_null_constant types value && (is_integer types (type_of value) || is_function_pointer type))
 
@@ -143,16 +143,16 @@ cast_meaning at types type on =
 -- ---- `?:` (6.5.15p5, p6)
 
 -- a pointer to what both point to, with the qualifiers of both
-abbrev pointer_to_both : (CTy → CTy → CTy) → Option CTy → Option CTy → Option CTy
+abbrev pub pointer_to_both : (CTy → CTy → CTy) → Option CTy → Option CTy → Option CTy
 pointer_to_both join (Some first) (Some second) =
     Some (ty (pointer (qualified (is_const_type first || is_const_type second) (join first second))) false)
 pointer_to_both join (Some first) None = None
 pointer_to_both join None second = None
 
-abbrev unqualified_composite : CTy → CTy → CTy
+abbrev pub unqualified_composite : CTy → CTy → CTy
 unqualified_composite first second = composite (unqualified first) (unqualified second)
 
-abbrev pointer_choice : CTypes → CTy → CTy → Option CTy
+abbrev pub pointer_choice : CTypes → CTy → CTy → Option CTy
 pointer_choice types first second =
     if point_alike types first second then pointer_to_both unqualified_composite (target_of first) (target_of second)
     else if void_beside first second || void_beside second first then pointer_to_both (λ _ _. void_type) (target_of first) (target_of second)
@@ -168,7 +168,7 @@ choice_type types first second =
     else if is_pointer (value_type second) && is_null_constant types (value_of first) then Some (value_type second)
     else pointer_choice types (value_type first) (value_type second)
 
-abbrev chosen_as : TextPlace → CTypes → COperand → COperand → COperand → Option CTy → COperand
+abbrev pub chosen_as : TextPlace → CTypes → COperand → COperand → COperand → Option CTy → COperand
 chosen_as at types test first second None = no_meaning at
 chosen_as at types test first second (Some type) =
     a_value (expr type at (cond (value_of test) (fitted types type (value_of first)) (fitted types type (value_of second))))
@@ -183,7 +183,7 @@ assign_meaning at types target value =
     a_value (expr (unqualified (type_of target.core)) at (assign target.core (fitted types (type_of target.core) (value_of value))))
 
 -- the type in which a compound assignment computes, and its value in that type (6.5.16.2p3)
-abbrev assigned_by : TextPlace → CTypes → Op2 → COperand → COperand → Pairing → CForm
+abbrev pub assigned_by : TextPlace → CTypes → Op2 → COperand → COperand → Pairing → CForm
 assigned_by at types op target value Shift = assign_by op (promoted_type types target) target.core (promoted_value types value)
 assigned_by at types op target value PointerInteger = assign_by op (value_type target) target.core (value_of value)
 assigned_by at types op target value _ =
@@ -198,16 +198,16 @@ step_meaning at up post on = a_value (expr (unqualified (type_of on.core)) at (s
 
 -- ---- members (6.5.2.3)
 
-abbrev is_named : List ℕ → Option (List ℕ) → Bool
+abbrev pub is_named : List ℕ → Option (List ℕ) → Bool
 is_named name None = false
 is_named name (Some other) = bytes_eq other name
 
 -- the number of the first member with a name
-abbrev named_from : ℕ → List ℕ → List CMember → Option ℕ
+abbrev pub named_from : ℕ → List ℕ → List CMember → Option ℕ
 named_from from name [] = None
 named_from from name (one ∷ others) = if is_named name one.name then Some from else named_from (from + 1) name others
 
-abbrev members_of : Option CRecord → List CMember
+abbrev pub members_of : Option CRecord → List CMember
 members_of None = []
 members_of (Some one) = one.members
 
@@ -221,19 +221,19 @@ pub record CFoundMember : Type 0 where
   pub type : CTy
   pub spot : Spot
 
-abbrev found_as : ℕ → Option CMember → Option Spot → Option CFoundMember
+abbrev pub found_as : ℕ → Option CMember → Option Spot → Option CFoundMember
 found_as index (Some one) (Some spot) = Some (record { index = index; type = one.type; spot = spot })
 found_as index (Some one) None = None
 found_as index None spot = None
 
-abbrev found_at : CTypes → CTyForm → Option ℕ → Option CFoundMember
+abbrev pub found_at : CTypes → CTyForm → Option ℕ → Option CFoundMember
 found_at types form None = None
 found_at types form (Some index) = found_as index (member_of types form index) (spot_of types form index)
 
 abbrev pub find_member : CTypes → CTy → List ℕ → Option CFoundMember
 find_member types type name = found_at types (form_of_type type) (named_from 0 name (members_in types (record_of type)))
 
-abbrev dot_as : TextPlace → COperand → Option CFoundMember → COperand
+abbrev pub dot_as : TextPlace → COperand → Option CFoundMember → COperand
 dot_as at of None = no_meaning at
 dot_as at of (Some one) =
     if is_place of
@@ -254,24 +254,24 @@ abbrev pub callee_type : COperand → Option CTy
 callee_type callee = target_of (value_type callee)
 
 -- an argument behind those that parameters take, with the default promotions (6.5.2.2p6)
-abbrev trailing_value : CTypes → COperand → CExpr
+abbrev pub trailing_value : CTypes → COperand → CExpr
 trailing_value types arg = if is_integer types (value_type arg) then promoted_value types arg else value_of arg
 
-abbrev args_for : CTypes → CTys → List COperand → CExprs
+abbrev pub args_for : CTypes → CTys → List COperand → CExprs
 args_for types params [] = no_exprs
 args_for types no_types (arg ∷ args) = more_exprs (trailing_value types arg) (args_for types no_types args)
 args_for types (more_types param params) (arg ∷ args) = more_exprs (fitted types param (value_of arg)) (args_for types params args)
 
-abbrev args_of : CTypes → CParams → List COperand → CExprs
+abbrev pub args_of : CTypes → CParams → List COperand → CExprs
 args_of types unlisted args = args_for types no_types args
 args_of types (listed params) args = args_for types params args
 
 -- a function that is called by its name; the truth value says that a name stands there
-abbrev call_form : Bool → CExpr → CExprs → CForm
+abbrev pub call_form : Bool → CExpr → CExprs → CForm
 call_form true (expr type place (code number)) args = call number args
 call_form by_name callee args = call_by callee args
 
-abbrev call_as : TextPlace → CTypes → Bool → COperand → List COperand → Option CTyForm → COperand
+abbrev pub call_as : TextPlace → CTypes → Bool → COperand → List COperand → Option CTyForm → COperand
 call_as at types by_name callee args (Some (function result params variadic)) =
     a_value (expr (unqualified result) at (call_form by_name (value_of callee) (args_of types params args)))
 call_as at types by_name callee args _ = no_meaning at
@@ -280,12 +280,12 @@ abbrev pub call_meaning : TextPlace → CTypes → Bool → COperand → List CO
 call_meaning at types by_name callee args = call_as at types by_name callee args (option_map form_of_type (callee_type callee))
 
 -- the types of the arguments behind those that parameters take
-abbrev trailing_from : CTypes → CTys → List COperand → List CTy
+abbrev pub trailing_from : CTypes → CTys → List COperand → List CTy
 trailing_from types params [] = []
 trailing_from types no_types (arg ∷ args) = type_of (trailing_value types arg) ∷ trailing_from types no_types args
 trailing_from types (more_types param params) (arg ∷ args) = trailing_from types params args
 
-abbrev trailing_as : CTypes → List COperand → Option CTyForm → List CTy
+abbrev pub trailing_as : CTypes → List COperand → Option CTyForm → List CTy
 trailing_as types args (Some (function result (listed params) variadic)) = trailing_from types params args
 trailing_as types args _ = []
 

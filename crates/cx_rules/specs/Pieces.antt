@@ -124,7 +124,7 @@ assignment_of _ = None
 
 -- ---- literals (6.4.5, 6.5.2.5)
 
-abbrev made_text : CScope → ℕ → List ℕ → CMade
+abbrev pub made_text : CScope → ℕ → List ℕ → CMade
 made_text scope line bytes = record {
   object = scope.next_object;
   type = text_type bytes;

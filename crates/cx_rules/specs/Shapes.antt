@@ -50,38 +50,38 @@ has_storage word specs = list_any (same_key word) specs.storage
 
 -- ---- type specifiers that are keywords (6.7.2p2)
 
-abbrev count_of : Keyword → List Keyword → ℕ
+abbrev pub count_of : Keyword → List Keyword → ℕ
 count_of word words = count_by (same_key word) words
 
 -- all but these many words are of this kind
-abbrev at_most_once : Keyword → List Keyword → Bool
+abbrev pub at_most_once : Keyword → List Keyword → Bool
 at_most_once word words = nat_le (count_of word words) 1
 
 -- a sign, or none
-abbrev one_sign : List Keyword → Bool
+abbrev pub one_sign : List Keyword → Bool
 one_sign words = nat_le (count_of keyword.Signed words + count_of keyword.Unsigned words) 1
 
-abbrev is_unsigned : List Keyword → Bool
+abbrev pub is_unsigned : List Keyword → Bool
 is_unsigned words = not (count_of keyword.Unsigned words == 0)
 
-abbrev by_sign : List Keyword → (signed unsigned : Basic) → CTyForm
+abbrev pub by_sign : List Keyword → (signed unsigned : Basic) → CTyForm
 by_sign words signed unsigned = if is_unsigned words then basic unsigned else basic signed
 
 -- `char`, by itself or with a sign
-abbrev char_form : List Keyword → CTyForm
+abbrev pub char_form : List Keyword → CTyForm
 char_form words =
     if count_of keyword.Signed words == 1 then basic basics.SignedChar
     else if is_unsigned words then basic basics.UnsignedChar
     else basic basics.Char
 
 -- how many of the words are `void`, `_Bool` or `char`, which stand with a sign at most
-abbrev alone_count : List Keyword → ℕ
+abbrev pub alone_count : List Keyword → ℕ
 alone_count words = count_of keyword.Void words + (count_of keyword.Bool words + count_of keyword.Char words)
 
-abbrev sign_count : List Keyword → ℕ
+abbrev pub sign_count : List Keyword → ℕ
 sign_count words = count_of keyword.Signed words + count_of keyword.Unsigned words
 
-abbrev alone_form : List Keyword → Option CTyForm
+abbrev pub alone_form : List Keyword → Option CTyForm
 alone_form words =
     if count_of keyword.Char words == 1
     then (if one_sign words && (length words == 1 + sign_count words) then Some (char_form words) else None)
@@ -90,7 +90,7 @@ alone_form words =
     else Some (basic basics.Truth)
 
 -- `short`, `long` and `long long`, with `int` or without
-abbrev integer_form : List Keyword → CTyForm
+abbrev pub integer_form : List Keyword → CTyForm
 integer_form words =
     if count_of keyword.Short words == 1 then by_sign words basics.Short basics.UnsignedShort
     else if count_of keyword.Long words == 1 then by_sign words basics.Long basics.UnsignedLong
@@ -98,26 +98,26 @@ integer_form words =
     else by_sign words basics.Int basics.Unsigned
 
 -- one of `short`, `long` and `long long`
-abbrev one_size : List Keyword → Bool
+abbrev pub one_size : List Keyword → Bool
 one_size words =
     (at_most_once keyword.Short words && (count_of keyword.Long words == 0))
     || (nat_le (count_of keyword.Long words) 2 && (count_of keyword.Short words == 0))
 
 -- all words are of the integer types
-abbrev integer_count : List Keyword → ℕ
+abbrev pub integer_count : List Keyword → ℕ
 integer_count words = sign_count words + (count_of keyword.Short words + (count_of keyword.Long words + count_of keyword.Int words))
 
-abbrev sized_form : List Keyword → Option CTyForm
+abbrev pub sized_form : List Keyword → Option CTyForm
 sized_form words =
     if one_sign words && (one_size words && (at_most_once keyword.Int words && (length words == integer_count words)))
     then Some (integer_form words) else None
 
-abbrev form_of_words : List Keyword → Option CTyForm
+abbrev pub form_of_words : List Keyword → Option CTyForm
 form_of_words [] = None
 form_of_words (word ∷ words) = if alone_count (word ∷ words) == 0 then sized_form (word ∷ words) else alone_form (word ∷ words)
 
 -- the type of type specifiers: keywords of the list in 6.7.2p2, or one other specifier by itself
-abbrev unqualified_of : List CTy → List Keyword → Option CTy
+abbrev pub unqualified_of : List CTy → List Keyword → Option CTy
 unqualified_of [] words = option_map (λ form. ty form false) (form_of_words words)
 unqualified_of (type ∷ []) [] = Some type
 unqualified_of types words = None
@@ -125,7 +125,7 @@ unqualified_of types words = None
 unfoldable pub specs_type : CSpecs → Option CTy
 specs_type specs = option_map (qualified specs.is_const) (unqualified_of specs.types specs.words)
 
-abbrev or_int : Option CTy → CTy
+abbrev pub or_int : Option CTy → CTy
 or_int None = int_type
 or_int (Some type) = type
 
@@ -165,7 +165,7 @@ abbrev pub param_types : List CParam → CTys
 param_types [] = no_types
 param_types (param ∷ params) = more_types param.type (param_types params)
 
-abbrev params_of : Option (List CParam) → CParams
+abbrev pub params_of : Option (List CParam) → CParams
 params_of None = unlisted
 params_of (Some params) = listed (param_types params)
 
@@ -182,12 +182,12 @@ derived type (step ∷ steps) = derived (step_on type step) steps
 -- ---- steps that no type has
 
 -- some step isn't allowed from the type in front of it
-abbrev some_step : (CTy → CStep → Bool) → CTy → List CStep → Bool
+abbrev pub some_step : (CTy → CStep → Bool) → CTy → List CStep → Bool
 some_step test type [] = false
 some_step test type (step ∷ steps) = test type step || some_step test (step_on type step) steps
 
 -- an array of elements of incomplete type (6.7.5.2p1)
-abbrev of_incomplete : CTypes → CTy → CStep → Bool
+abbrev pub of_incomplete : CTypes → CTy → CStep → Bool
 of_incomplete types type (to_array length) = is_incomplete types type
 of_incomplete types type _ = false
 
@@ -195,7 +195,7 @@ abbrev pub has_incomplete_elements : CTypes → CTy → List CStep → Bool
 has_incomplete_elements types type steps = some_step (of_incomplete types) type steps
 
 -- a function that gives an array or a function (6.7.5.3p1), or an array of functions (6.7.5.2p1)
-abbrev of_function : CTy → CStep → Bool
+abbrev pub of_function : CTy → CStep → Bool
 of_function type (to_array length) = is_function type
 of_function type (to_function params variadic within) = is_function type || is_array type
 of_function type (to_pointer is_const is_restrict) = false
@@ -204,7 +204,7 @@ abbrev pub has_function_fault : CTy → List CStep → Bool
 has_function_fault type steps = some_step of_function type steps
 
 -- `restrict` on a pointer to a function (6.7.3p2)
-abbrev restricts_function : CTy → CStep → Bool
+abbrev pub restricts_function : CTy → CStep → Bool
 restricts_function type (to_pointer is_const is_restrict) = is_restrict && is_function type
 restricts_function type _ = false
 

@@ -114,7 +114,7 @@ abbrev pub is_incomplete : CTypes → CTy → Bool
 is_incomplete types type = not (is_function type) && not (has_size types type)
 
 -- a pointer to a complete object type (6.5.6p2)
-abbrev target_is_complete : CTypes → Option CTy → Bool
+abbrev pub target_is_complete : CTypes → Option CTy → Bool
 target_is_complete types None = false
 target_is_complete types (Some to) = is_complete types to
 
@@ -122,21 +122,21 @@ abbrev pub is_element_pointer : CTypes → CTy → Bool
 is_element_pointer types type = target_is_complete types (target_of type)
 
 -- a pointer to a function, and one to an object type or an incomplete one
-abbrev target_is_function : Option CTy → Bool
+abbrev pub target_is_function : Option CTy → Bool
 target_is_function None = false
 target_is_function (Some to) = is_function to
 
 abbrev pub is_function_pointer : CTy → Bool
 is_function_pointer type = target_is_function (target_of type)
 
-abbrev target_is_object : Option CTy → Bool
+abbrev pub target_is_object : Option CTy → Bool
 target_is_object None = false
 target_is_object (Some to) = not (is_function to)
 
 abbrev pub is_object_pointer : CTy → Bool
 is_object_pointer type = target_is_object (target_of type)
 
-abbrev target_is_void : Option CTy → Bool
+abbrev pub target_is_void : Option CTy → Bool
 target_is_void None = false
 target_is_void (Some to) = is_void to
 
@@ -227,7 +227,7 @@ keeps_qualifiers first second = both_targets keeps_const (target_of first) (targ
 
 -- ---- composite types (6.2.7p3)
 
-abbrev known_length : Option ℕ → Option ℕ → Option ℕ
+abbrev pub known_length : Option ℕ → Option ℕ → Option ℕ
 known_length None second = second
 known_length (Some first) second = Some first
 

@@ -1,0 +1,9 @@
+//! The place at which a walk over a unit stands: its scope, with the layouts of its types; and what a step of the walk answers.
+#![tactic(auto)]
+
+mod changes;
+mod context;
+mod steps;
+
+pub use changes::Begun;
+pub use context::Context;

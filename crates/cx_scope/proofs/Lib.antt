@@ -1,0 +1,4 @@
+pub mod Calls
+pub mod Newest
+pub mod TextPuts
+pub mod Uses

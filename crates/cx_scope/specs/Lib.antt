@@ -1,0 +1,5 @@
+pub mod Changes
+pub mod Laws
+pub mod Texts
+pub mod Uses
+pub mod Views
