@@ -1,13 +1,11 @@
 -- The rule of a call as a chain of tests, and its arguments one by one.
 use Rattle.std.proofs.Common.{◌≡◌, ℕ, suc, ◌+◌, ◌<◌, ◌≤◌, refl, ap, sym, ◌∙◌, arith, map, drop, get_or, length, add-one, drop-cons}
-use Rattle.std.specs.Prelude.{◌==◌, nat_lt, Bool, true, false, not, ◌&&◌, ◌||◌, if◌then◌else◌, List, [], ◌∷◌, ◌++◌, Option, None, Some, option_map}
+use Rattle.std.specs.Prelude.{◌==◌, nat_lt, Bool, true, false, not, ◌&&◌, ◌||◌, if◌then◌else◌, List, [], ◌∷◌, Option, None, Some, option_map}
 use Rattle.std.specs.List.{list_any}
-use Rattle.std.proofs.lemmas.List.{append-nil, length-map}
+use Rattle.std.proofs.lemmas.List.{append-nil}
 use Rattle.std.proofs.Math.ListN.{drop_of_length-le}
-use Rattle.cr_base.specs.declared.rule.Rule.{Rule}
 use Rattle.cr_base.specs.declared.rule.Rule.TheVariants.{O4, K9, K10, K12, K15}
 use Rattle.cx_breaks.specs.Asked.{lacks_value, is_fixed, called_as, may_be_given, some_unfit, lacks_list, cannot_be_called, takes_no_such}
-use Rattle.cx_breaks.specs.Calls.{params_unassignable}
 use Rattle.cx_breaks.specs.Placed.{placed}
 use Rattle.cx_core.specs.Trees.{CTy, CTypes, CTys, CTyForm, void, basic, enum_type, pointer, array, record_type, function, unlisted, listed, form_of_type}
 use Rattle.cx_core.specs.Views.{types_of}
@@ -22,12 +20,12 @@ use Rattle.cx_rules.specs.Scope.{CScope}
 
 listed_by : (form : Option CTyForm) → not_listed form ≡ not_listed (callee_form form)
 listed_by None = refl
-listed_by  (Some void) = refl
-listed_by  (Some (basic which)) = refl
-listed_by  (Some (enum_type number)) = refl
-listed_by  (Some (pointer to)) = refl
-listed_by  (Some (array element length)) = refl
-listed_by  (Some (record_type number)) = refl
+listed_by (Some void) = refl
+listed_by (Some (basic which)) = refl
+listed_by (Some (enum_type number)) = refl
+listed_by (Some (pointer to)) = refl
+listed_by (Some (array element length)) = refl
+listed_by (Some (record_type number)) = refl
 listed_by (Some (function result unlisted variadic)) = refl
 listed_by (Some (function result (listed params) variadic)) = refl
 
@@ -69,7 +67,7 @@ first_then : (g xs h ys n f fs both : Bool) → (xs || ys) ≡ both →
     (if (((g || xs) || (h || ys)) || false) then Some K10 else if n then Some K12 else if ((f || fs) || false) then Some K15 else None)
     ≡ (if (g || h) then Some K10 else if both then Some K10 else if n then Some K12 else if f then Some K15 else if fs then Some K15 else None)
 first_then g xs h ys n f fs both is = rw (← is) (by_values g xs h ys n f fs)
-    where
+  where
     by_values : (g xs h ys n f fs : Bool) →
         (if (((g || xs) || (h || ys)) || false) then Some K10 else if n then Some K12 else if ((f || fs) || false) then Some K15 else None)
         ≡ (if (g || h) then Some K10 else if (xs || ys) then Some K10 else if n then Some K12 else if f then Some K15 else if fs then Some K15 else None)
@@ -85,28 +83,28 @@ first_then g xs h ys n f fs both is = rw (← is) (by_values g xs h ys n f fs)
 
 pub called : (types : CTypes) (scope : CScope) (line : ℕ) (callee : COperand) (args : List COperand) → rule_at (placed types scope line (call_node callee args))
     ≡ (if not (is_empty args) && lacks_list (called_as callee) then Some O4
-      else if cannot_be_called types (length args) (called_as callee) then Some K9
-      else if lacks_value types callee then Some K10
-      else if list_any (lacks_value types) args then Some K10
-      else if takes_no_such types args (called_as callee) then Some K12
-      else if is_fixed callee then Some K15
-      else if list_any is_fixed args then Some K15
-      else None)
+    else if cannot_be_called types (length args) (called_as callee) then Some K9
+    else if lacks_value types callee then Some K10
+    else if list_any (lacks_value types) args then Some K10
+    else if takes_no_such types args (called_as callee) then Some K12
+    else if is_fixed callee then Some K15
+    else if list_any is_fixed args then Some K15
+    else None)
 unfolding rule_at breaks node_rules lacks_value is_fixed called_as lacks_list cannot_be_called takes_no_such
 called types scope line callee args =
     rw (← listed_by (option_map form_of_type (callee_type callee)), ← callable_by types (length args) (option_map form_of_type (callee_type callee)), ← assignable_by types args (option_map form_of_type (callee_type callee)), append-nil args)
     (ap (λ rule. if not (is_empty args) && not_listed (option_map form_of_type (callee_type callee)) then Some O4
-        else if not_callable types (length args) (option_map form_of_type (callee_type callee)) then Some K9 else rule)
-      (first_then (gives_nothing callee) (list_any gives_nothing args) (holds_nothing types callee) (list_any (holds_nothing types) args)
-        (args_unassignable types args (option_map form_of_type (callee_type callee))) (is_register_array callee) (list_any is_register_array args) _
-        (any_both gives_nothing (holds_nothing types) args)))
+    else if not_callable types (length args) (option_map form_of_type (callee_type callee)) then Some K9 else rule)
+    (first_then (gives_nothing callee) (list_any gives_nothing args) (holds_nothing types callee) (list_any (holds_nothing types) args)
+    (args_unassignable types args (option_map form_of_type (callee_type callee))) (is_register_array callee) (list_any is_register_array args) _
+    (any_both gives_nothing (holds_nothing types) args)))
 
 -- ---- parameters
 
 pub counted : {X : Type 0} (view : X → CTy) (params : List X) → length params ≡ types_count (types_of (map view params))
 counted view [] = refl
 counted view (param ∷ params) = counts_more (length params) _ (counted view params)
-    where
+  where
     counts_more : (n m : ℕ) → n ≡ m → suc n ≡ 1 + m
     counts_more n m is = omega (arith, is)
 

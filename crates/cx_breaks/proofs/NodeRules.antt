@@ -1,6 +1,6 @@
 -- The rule of each node as a chain of tests.
 use Rattle.std.proofs.Common.{◌≡◌, refl, ap}
-use Rattle.std.specs.Prelude.{ℕ, Bool, false, not, ◌&&◌, if◌then◌else◌, List, Option, None, Some, option_map, is_none}
+use Rattle.std.specs.Prelude.{ℕ, false, not, ◌&&◌, if◌then◌else◌, List, None, Some, option_map, is_none}
 use Rattle.cr_base.specs.declared.rule.Rule.TheVariants.{O7, O8, O11, K8, K10, K11, K12, K13, K14, K15, K16, M3}
 use Rattle.cx_breaks.proofs.Chains.{one_taker, two_takers, stored_value, stored_by, two_passed, one_tested, either_lacks, cast_operand}
 use Rattle.cx_breaks.specs.Asked.{lacks_value, lacks_object, is_fixed, type_taken, is_null, pairing_taken, may_be_stored, is_unchosen, names_object, may_change, has_place, is_sizeless, is_no_pointee, member_named, lacks_behind}
@@ -20,7 +20,7 @@ use Rattle.cx_rules.specs.Types.{is_complete, is_pointer, is_scalar, is_too_larg
 
 pub literal : (types : CTypes) (scope : CScope) (line : ℕ) (type : CTy) → rule_at (placed types scope line (literal_node type))
     ≡ (if is_too_large types type then Some M3 else None)
-unfolding rule_at breaks node_rules 
+unfolding rule_at breaks node_rules
 literal types scope line type = refl
 
 pub address : (types : CTypes) (scope : CScope) (line : ℕ) (of : COperand) → rule_at (placed types scope line (address_node of))
@@ -45,7 +45,7 @@ sizeof_expr types scope line of = refl
 
 pub sizeof_type : (types : CTypes) (scope : CScope) (line : ℕ) (type : CTy) → rule_at (placed types scope line (sizeof_type_node type))
     ≡ (if not (is_complete types type) then Some K14 else None)
-unfolding rule_at breaks node_rules 
+unfolding rule_at breaks node_rules
 sizeof_type types scope line type = refl
 
 pub index : (types : CTypes) (scope : CScope) (line : ℕ) (of index_of : COperand) → rule_at (placed types scope line (index_node of index_of))

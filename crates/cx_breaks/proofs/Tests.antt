@@ -1,6 +1,6 @@
 -- Small facts on tests.
 use Rattle.std.proofs.Common.{◌≡◌, refl, Bool, true, false}
-use Rattle.std.specs.Prelude.{◌||◌, ◌&&◌}
+use Rattle.std.specs.Prelude.{◌||◌}
 
 pub or_first : (a b r : Bool) → r ≡ a → r ≡ true → r ≡ (a || b)
 or_first a b r is holds = rw (← is, holds) refl

@@ -177,7 +177,11 @@ fn is_no_pointee_kind(kind: OperandKind) -> bool
 }
 
 #[tactic(auto, using(crate::proofs::Opened::type_of_view), unfolding(crate::specs::Asked::member_named))]
-pub(crate) fn member_named<'a>(known: Known<'a>, of: &Operand, name: &[u8]) -> Option<FoundMember<'a>>
+pub(crate) fn member_named<'a>(
+    known: Known<'a>,
+    of: &Operand,
+    name: &[u8],
+) -> Option<FoundMember<'a>>
     requires { IsKnown known }
     ensures { option_map view_found result ≡ member_named (types_in known.entry) (view_operand of.now) name.now }
 {

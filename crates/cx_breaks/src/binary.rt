@@ -10,9 +10,7 @@ ghost use Rattle.cx_rules.specs.Rules.{rule_at};
 ghost use Rattle.cx_rules.specs.Scope.{CScope};
 ghost use Rattle.cx_rules.specs.Types.{is_scalar};
 
-use crate::asked::{
-    is_fixed, is_unchosen, lacks_object, lacks_value, pairing_taken, type_taken,
-};
+use crate::asked::{is_fixed, is_unchosen, lacks_object, lacks_value, pairing_taken, type_taken};
 use cr_base::Rule;
 use cx_core::Op2;
 use cx_kinds::Known;

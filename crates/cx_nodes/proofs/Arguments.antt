@@ -1,9 +1,8 @@
 -- Arguments of calls, one by one.
-use Rattle.std.proofs.Common.{◌≡◌, ℕ, suc, ◌+◌, ◌<◌, ◌≤◌, List, [], ◌∷◌, ◌++◌, map, drop, length, get_or, refl, sym, ap, ◌∙◌, arith, add-one, drop-cons, append_assoc}
-use Rattle.std.specs.Prelude.{Option, None, Some, slice_get}
-use Rattle.std.proofs.lemmas.List.{append-nil, map-append}
-use Rattle.std.proofs.Math.ListN.{drop_of_length-le}
-use Rattle.cx_core.specs.Trees.{CTy, CTypes, CExpr, more_exprs, CExprs, type_of}
+use Rattle.std.proofs.Common.{◌≡◌, ℕ, suc, List, [], ◌∷◌, ◌++◌, map, drop, length, refl, sym, ap, ◌∙◌}
+use Rattle.std.specs.Prelude.{slice_get}
+use Rattle.std.proofs.lemmas.List.{append-nil}
+use Rattle.cx_core.specs.Trees.{CTy, CTypes, CExpr, more_exprs, type_of}
 use Rattle.cx_core.specs.Views.{exprs_of, types_of}
 use Rattle.cx_nodes.specs.Calls.{arg_for, values_for}
 use Rattle.cx_rules.specs.Meanings.{args_for, trailing_value, trailing_from}
@@ -48,8 +47,8 @@ module _ {X : Type 0} (view : X → COperand) (types : CTypes) where
   pub trailing_by_count : (params : List CTy) (args : List X) → trailing_from types (types_of params) (map view args) ≡ promoted_types (drop (length params) args)
   trailing_by_count params [] = trailing_none params
     where
-    trailing_none : (params : List CTy) → [] ≡ promoted_types (drop (length params) [])
-    trailing_none [] = refl
-    trailing_none (param ∷ params) = refl
+      trailing_none : (params : List CTy) → [] ≡ promoted_types (drop (length params) [])
+      trailing_none [] = refl
+      trailing_none (param ∷ params) = refl
   trailing_by_count [] (arg ∷ args) = ap (λ others. type_of (trailing_value types (view arg)) ∷ others) (trailing_by_count [] args)
   trailing_by_count (param ∷ params) (arg ∷ args) = trailing_by_count params args

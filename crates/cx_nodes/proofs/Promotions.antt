@@ -1,12 +1,11 @@
 -- The type of a promoted value.
-use Rattle.std.proofs.Common.{◌≡◌, rules, refl, ap, sym, ◌∙◌, Bool, true, false}
-use Rattle.std.specs.Prelude.{ℕ, ◌&&◌, if◌then◌else◌, Option, None, Some, is_some}
-use Rattle.std.specs.Bool.{beq}
+use Rattle.std.proofs.Common.{◌≡◌, refl, ap, Bool, true, false}
+use Rattle.std.specs.Prelude.{ℕ, Option, None, Some, is_some}
 use denote.Enum.Bare.{same_true}
 use Rattle.cx_core.specs.contracts.ty.Basic.{the_type}
 use Rattle.cx_core.specs.Conversions.{same_basic, basic_of, promoted, promoted_basic}
 use Rattle.cx_core.specs.declared.ty.Basic.{Basic}
-use Rattle.cx_core.specs.Trees.{CTy, ty, CTypes, void, basic, enum_type, pointer, array, record_type, function, form_of_type, CExpr, expr, type_of}
+use Rattle.cx_core.specs.Trees.{CTy, ty, CTypes, void, basic, enum_type, pointer, array, record_type, function, form_of_type, CExpr, type_of}
 use Rattle.cx_rules.specs.Meanings.{trailing_value}
 use Rattle.cx_rules.specs.Operands.{COperand, converted_to, promoted_type, promoted_value, value_of, value_type}
 use Rattle.cx_rules.specs.Types.{same_type, is_integer}

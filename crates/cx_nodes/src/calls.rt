@@ -137,11 +137,7 @@ fn arg_for(
 }
 
 // An argument behind those that parameters take, with the default promotions (6.5.2.2p6).
-fn trailing_value(
-    alloc: Global,
-    types: &Types,
-    arg: Operand,
-) -> Result<Boxed<CoreExpr>, Memory>
+fn trailing_value(alloc: Global, types: &Types, arg: Operand) -> Result<Boxed<CoreExpr>, Memory>
     ensures { IfOk result (λ made. view_expr made ≡ trailing_value (view_types types.now) (view_operand arg)) }
 {
     if value_type(&arg).is_integer(types) {

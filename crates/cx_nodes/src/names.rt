@@ -61,12 +61,7 @@ fn object_meaning(
     Ok(a_place(is_register, core))
 }
 
-fn function_meaning(
-    alloc: Global,
-    at: Place,
-    number: u32,
-    t: &Ty,
-) -> Result<Operand, Memory>
+fn function_meaning(alloc: Global, at: Place, number: u32, t: &Ty) -> Result<Operand, Memory>
     ensures { IfOk result (λ made. view_operand made ≡ record { kind = Function; is_register = false; core = expr (ty (pointer (view_type t.now)) false) at (code number) }) }
 {
     let of = pointer_to(alloc, t)?;

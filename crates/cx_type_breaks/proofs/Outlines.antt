@@ -1,5 +1,5 @@
 -- Steps see of a type no more than what is asked of it.
-use Rattle.std.proofs.Common.{◌≡◌, ℕ, zero, suc, refl, ap, sym, ◌∙◌, arith, map, reverse}
+use Rattle.std.proofs.Common.{◌≡◌, ℕ, zero, suc, refl, ap, ◌∙◌, arith, map, reverse}
 use Rattle.std.specs.Prelude.{◌==◌, Bool, true, false, not, ◌&&◌, List, [], ◌∷◌, ◌++◌, Option, None, Some, is_some}
 use Rattle.std.proofs.lemmas.Bool.Decides.{nat_tests}
 use Rattle.std.proofs.lemmas.List.{reverse-append, map-append}
@@ -13,7 +13,7 @@ use Rattle.cx_type_breaks.specs.Derivation.{outline_of, after_by, faults_at, fau
 sized_element : (count : ℕ) (element : Option Laid) → sized (Some count) (is_some element) ≡ is_some (array_extent (Some count) element)
 sized_element zero element = refl
 sized_element (suc n) None = both_fail (not (suc n == 0))
-    where
+  where
     both_fail : (b : Bool) → (b && false) ≡ false
     both_fail true = refl
     both_fail false = refl
@@ -27,7 +27,7 @@ outline_after : (types : CTypes) (type : CTy) (step : CStep) → after_by (outli
 outline_after types type (to_pointer is_const is_restrict) = refl
 outline_after types type (to_array length) =
     ap (λ b. record_with b) (sized_array length (whole_extent (layouts_of types) type))
-    where
+  where
     record_with : Bool → Outline
     record_with b = record { is_function = false; is_array = true; has_size = b }
 outline_after types type (to_function params variadic within) = refl

@@ -96,32 +96,32 @@ specs_parts false false false false m = refl
 
 pub named : (types : CTypes) (scope : CScope) (line : ℕ) (meant : Option CMeant) → rule_at (placed types scope line (name_node meant))
     ≡ (if not_declared meant then Some K1 else None)
-unfolding rule_at breaks node_rules 
+unfolding rule_at breaks node_rules
 named types scope line meant = refl
 
 pub identifiers : (types : CTypes) (scope : CScope) (line : ℕ) (names : List (List ℕ)) → rule_at (placed types scope line (identifiers_node names))
     ≡ (if not (is_empty names) then Some O4 else None)
-unfolding rule_at breaks node_rules 
+unfolding rule_at breaks node_rules
 identifiers types scope line names = refl
 
 pub record_use : (types : CTypes) (scope : CScope) (line : ℕ) (is_union : Bool) (found : Option CTag) → rule_at (placed types scope line (record_use_node is_union found))
     ≡ (if tag_is (is_other_kind types is_union) found then Some K24 else None)
-unfolding rule_at breaks node_rules 
+unfolding rule_at breaks node_rules
 record_use types scope line is_union found = refl
 
 pub enum_use : (types : CTypes) (scope : CScope) (line : ℕ) (found : Option CTag) → rule_at (placed types scope line (enum_use_node found))
     ≡ (if not_there found then Some K24 else None)
-unfolding rule_at breaks node_rules 
+unfolding rule_at breaks node_rules
 enum_use types scope line found = refl
 
 pub enum_list : (types : CTypes) (scope : CScope) (line : ℕ) (found : Option CTag) → rule_at (placed types scope line (enum_node found))
     ≡ (if is_some found then Some K24 else None)
-unfolding rule_at breaks node_rules 
+unfolding rule_at breaks node_rules
 enum_list types scope line found = refl
 
 pub record_list : (types : CTypes) (scope : CScope) (line : ℕ) (is_union : Bool) (found : Option CTag) (number : ℕ) (members : List CMember) → rule_at (placed types scope line (record_node is_union found number members))
     ≡ (if not (list_any (λ one. is_some one.name) members) then Some K8 else if has_members types number then Some K24 else if tag_is (λ one. is_other_kind types is_union one || is_completed types one) found then Some K24 else if record_too_large types is_union number members then Some M3 else None)
-unfolding rule_at breaks node_rules 
+unfolding rule_at breaks node_rules
 record_list types scope line is_union found number members = record_parts (not (list_any (λ one. is_some one.name) members)) (has_members types number) (tag_is (λ one. is_other_kind types is_union one || is_completed types one) found) (record_too_large types is_union number members)
 
 pub array : (types : CTypes) (scope : CScope) (line : ℕ) (is_plain : Bool) (length : Option COperand) → rule_at (placed types scope line (array_node is_plain length))
@@ -144,15 +144,15 @@ member types scope line is_last name type (Some one) before = member_some (wider
 
 pub param : (types : CTypes) (scope : CScope) (line : ℕ) (is_only : Bool) (specs : CSpecs) (name : Option (List ℕ)) (type : CTy) → rule_at (placed types scope line (param_node is_only specs name type))
     ≡ (if is_taken_by scope name then Some K2 else if is_void type && not (says_nothing is_only specs name type) then Some K7 else None)
-unfolding rule_at breaks node_rules 
+unfolding rule_at breaks node_rules
 param types scope line is_only specs name type = refl
 
 pub specifiers : (types : CTypes) (scope : CScope) (line : ℕ) (place : SpecsPlace) (specs : CSpecs) → rule_at (placed types scope line (specs_node place specs))
     ≡ (if specs.is_inline && not (has_storage keyword.Static specs) then Some O9 else if is_none (specs_type specs) then Some K3 else if specs.is_restrict && not (takes_restrict (or_int (specs_type specs))) then Some K3 else if nat_lt 1 (length specs.storage) then Some K4 else if misplaced place specs then Some K4 else None)
-unfolding rule_at breaks node_rules 
+unfolding rule_at breaks node_rules
 specifiers types scope line place specs = specs_parts (specs.is_inline && not (has_storage keyword.Static specs)) (is_none (specs_type specs)) (specs.is_restrict && not (takes_restrict (or_int (specs_type specs)))) (nat_lt 1 (length specs.storage)) (misplaced place specs)
 
 pub derives : (types : CTypes) (scope : CScope) (line : ℕ) (from : CTy) (steps : List CStep) → rule_at (placed types scope line (derives_node from steps))
     ≡ (if has_restrict_fault from steps then Some K3 else if has_incomplete_elements types from steps then Some K5 else if has_function_fault from steps then Some K7 else if is_too_large types (derived from steps) then Some M3 else None)
-unfolding rule_at breaks node_rules 
+unfolding rule_at breaks node_rules
 derives types scope line from steps = refl

@@ -1,6 +1,6 @@
 //! Names in expressions, and enumerators (ISO C99, 6.5.1 and 6.7.2.2).
 
-ghost use Rattle.std.specs.Prelude.{◌≡◌, ◌&&◌, ℕ, Some, pos, neg_ℤ, int_le, option_map};
+ghost use Rattle.std.specs.Prelude.{◌≡◌, ◌&&◌, ℕ, List, Some, pos, neg_ℤ, int_le, option_map};
 ghost use Rattle.cx_breaks.specs.Placed.{placed};
 ghost use Rattle.cx_core.specs.Trees.{CTypes};
 ghost use Rattle.cx_kinds.specs.Known.{IsKnown, types_in};
@@ -11,7 +11,7 @@ ghost use Rattle.cx_rules.specs.Scope.{CScope};
 ghost use Rattle.cx_scope.specs.Views.{view_meant};
 
 use crate::written::{is_fixed_written, is_unconstant, lacks_written};
-use cr_base::{Int, Name, Rule};
+use cr_base::{Int, Rule};
 use cx_kinds::Known;
 use cx_operands::Operand;
 use cx_scope::Meant;
@@ -57,13 +57,12 @@ fn is_no_value(meant: &Meant) -> bool
 pub fn enumerator_rule(
     known: Known,
     taken: bool,
-    _name: &Name,
     written: Option<&Operand>,
     value: Int,
 ) -> Option<Rule>
     requires { IsKnown known }
-    ensures { (scope : CScope) (line : ℕ) → is_taken scope _name.now ≡ taken
-        → result ≡ rule_at (placed (types_in known.entry) scope line (enumerator_node _name.now (option_map (λ one. view_operand one.now) written.entry) value)) }
+    ensures { (scope : CScope) (line : ℕ) (name : List ℕ) → is_taken scope name ≡ taken
+        → result ≡ rule_at (placed (types_in known.entry) scope line (enumerator_node name (option_map (λ one. view_operand one.now) written.entry) value)) }
 {
     if taken {
         return Some(Rule::K2);

@@ -1,6 +1,6 @@
 use Rattle.std.proofs.Common.{◌≡◌, map, drop}
 use Rattle.std.specs.List.{list_any}
-use Rattle.cx_breaks.specs.Asked.{lacks_value, is_fixed}
+use Rattle.cx_breaks.specs.Asked.{lacks_value}
 use Rattle.cx_kinds.specs.Known.{types_in}
 use Rattle.cx_operands.specs.Views.{view_operand}
 use Rattle.cx_breaks.proofs.calls.some_lack.Given as goal

@@ -1,4 +1,4 @@
-use Rattle.std.proofs.Common.{◌≡◌, ◌∙◌, ap, sym, map, drop}
+use Rattle.std.proofs.Common.{◌∙◌, ap, sym, map, drop}
 use Rattle.std.proofs.lemmas.List.{length-map}
 use Rattle.std.proofs.Math.ListN.{drop_of_length-le}
 use Rattle.cx_core.specs.Views.{view_type, view_types}
