@@ -237,6 +237,17 @@ random_records() {
   fi
 }
 
+# Runs of crates: those rows that end do so as the programs of rustc do, and write the same.
+crate_runs() {
+  local said
+  tools_for 'runs of crates' python3 rustc || return
+  if ! said=$(python3 "$top/tests/crate_runs.py" 2>&1); then
+    bad "runs of crates: $said"
+  else
+    ok "$said"
+  fi
+}
+
 # Random calls of a store in a region: its answers are those of a list store, and it refuses what a model says.
 region_turns() {
   local said
@@ -256,6 +267,7 @@ straight_mutants
 syntax_mutants
 relooper_graphs
 random_records
+crate_runs
 region_turns
 every_form
 nested_blocks

@@ -13,6 +13,7 @@ mod name;
 mod pace;
 mod parse;
 mod rule;
+mod run;
 mod shape;
 mod stream;
 mod transpile;
@@ -87,6 +88,8 @@ pub(crate) enum Inside {
     Check,
     /// Whether the crate of one module is.
     Typed,
+    /// A run of the crate of one module.
+    Run,
 }
 
 #[derive(Clone, Copy)]
@@ -97,7 +100,7 @@ pub(crate) enum Outside {
     Disk,
 }
 
-const STAGES: [(&str, Stage); 28] = [
+const STAGES: [(&str, Stage); 29] = [
     ("rule", Stage::Inside(Inside::Rule)),
     ("value", Stage::Inside(Inside::Value)),
     ("copy", Stage::Inside(Inside::Copy)),
@@ -124,6 +127,7 @@ const STAGES: [(&str, Stage); 28] = [
     ("modules", Stage::Inside(Inside::Modules)),
     ("check", Stage::Inside(Inside::Check)),
     ("typed", Stage::Inside(Inside::Typed)),
+    ("run", Stage::Inside(Inside::Run)),
     ("stream", Stage::Outside(Outside::Stream)),
     ("disk", Stage::Outside(Outside::Disk)),
 ];
@@ -179,6 +183,7 @@ impl Inside {
             Inside::Modules => crates::answer_modules(alloc, asked, out),
             Inside::Check => crates::answer_check(alloc, asked, out),
             Inside::Typed => crates::answer_typed(alloc, asked, out),
+            Inside::Run => run::answer(alloc, asked, out),
         }
     }
 }

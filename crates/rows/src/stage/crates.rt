@@ -66,8 +66,8 @@ fn files_asked(alloc: Global, asked: &mut Asked) -> Items<File> {
     list
 }
 
-// The files of a crate of one module, of which a row has the text.
-fn module_asked(alloc: Global, asked: &mut Asked) -> Items<File> {
+/// The files of a crate of one module, of which a row has the text.
+pub(crate) fn module_asked(alloc: Global, asked: &mut Asked) -> Items<File> {
     let bytes = Items::of(asked.bytes(alloc));
     let mut list = Items::new(alloc);
     push_text(alloc, &mut list, "Cargo.toml", CARGO, asked);
@@ -82,13 +82,20 @@ fn write_check(whole: &Crate, asked: &mut Asked, out: &mut Answer)
 {
     match check_crate(whole) {
         Ok(()) => out.text("well typed"),
-        Err(TypeFault::IllTyped { module, item }) => {
+        Err(fault) => write_ill(fault, asked, out),
+    }
+}
+
+/// Writes why a crate isn't well typed.
+pub(crate) fn write_ill(fault: TypeFault, asked: &mut Asked, out: &mut Answer) {
+    match fault {
+        TypeFault::IllTyped { module, item } => {
             out.text("ill typed: ");
             out.value(module);
             out.text(": item ");
             out.value(item);
         }
-        Err(TypeFault::Memory) => asked.fail(RowFault::Memory),
+        TypeFault::Memory => asked.fail(RowFault::Memory),
     }
 }
 
@@ -123,8 +130,8 @@ fn push_file(
     }
 }
 
-// The crate that files read as, which is valid.
-fn read(alloc: Global, list: Items<File>, asked: &mut Asked, out: &mut Answer) -> Option<Crate>
+/// The crate that files read as, which is valid.
+pub(crate) fn read(alloc: Global, list: Items<File>, asked: &mut Asked, out: &mut Answer) -> Option<Crate>
     ensures { IfSome result (λ whole. IsTrue (valid_crate (crate_view whole))) }
 {
     match read_crate(alloc, &Files { list }) {

@@ -148,7 +148,8 @@ fn arg(alloc: Global, asked: &mut Asked) -> Arg {
     }
 }
 
-fn write_made(made: &Made, out: &mut Answer) {
+/// Writes a call that was made, with its answer.
+pub(crate) fn write_made(made: &Made, out: &mut Answer) {
     out.separate();
     out.bytes(made.call.name.bytes());
     for arg in made.call.args.as_slice() {

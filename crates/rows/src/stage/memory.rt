@@ -13,7 +13,7 @@
 //! Each may answer a fault in the place of that, by its name; `Full NEED LEFT` has the bytes that a block needs and
 //! those that are left.
 
-ghost use Rattle.std.specs.Prelude.{◌<◌, ◌≤◌, ◌^◌, length, IsTrue};
+ghost use Rattle.std.specs.Prelude.{◌≡◌, ◌<◌, ◌≤◌, ◌^◌, [], length, IfSome, IsTrue};
 ghost use Rattle.mem_bytes.specs.Calls.{IsAlignment, IsBlockSize, IsFieldPlace};
 
 use crate::answer::Answer;
@@ -49,14 +49,16 @@ pub(crate) fn answer_in_region(alloc: Global, asked: &mut Asked, out: &mut Answe
     }
 }
 
-/// A store in a region that holds so many bytes and live blocks; None where it can't be had, which is a fault of the
-/// row.
+/// A store in a region that holds so many bytes and live blocks, and no block yet; None where it can't be had, which is a
+/// fault of the row.
 pub(crate) fn region(
     alloc: Global,
     bytes: u64,
     blocks: u64,
     asked: &mut Asked,
-) -> Option<RegionStore> {
+) -> Option<RegionStore>
+    ensures { IfSome result (λ store. store.memory ≡ []) }
+{
     if bytes > MOST_BYTES {
         asked.refuse();
         return None;
@@ -65,7 +67,13 @@ pub(crate) fn region(
         asked.refuse();
         return None;
     }
-    asked.had(RegionStore::open(alloc, bytes, blocks))
+    match RegionStore::open(alloc, bytes, blocks) {
+        Ok(store) => Some(store),
+        Err(_) => {
+            asked.fail(RowFault::Memory);
+            None
+        }
+    }
 }
 
 impl Steps for ListStore {
