@@ -1,0 +1,4 @@
+pub mod Chains
+pub mod InitRules
+pub mod Scalars
+pub mod StmtRules
