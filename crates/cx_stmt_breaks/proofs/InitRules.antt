@@ -1,6 +1,6 @@
 -- The rule of each part of an initialiser as a chain of tests.
 use Rattle.std.proofs.Common.{◌≡◌, refl}
-use Rattle.std.specs.Prelude.{ℕ, Bool, not, ◌&&◌, if◌then◌else◌, Option, None, Some}
+use Rattle.std.specs.Prelude.{ℕ, Bool, not, ◌&&◌, if◌then◌else◌, None, Some}
 use Rattle.cr_base.specs.declared.rule.Rule.TheVariants.{K10, K12, K15, K17, K21}
 use Rattle.cx_breaks.specs.Asked.{lacks_value, is_fixed}
 use Rattle.cx_breaks.specs.Placed.{placed}
@@ -16,7 +16,7 @@ use Rattle.cx_stmt_breaks.specs.Facts.{given_facts}
 
 pub gives_list : (types : CTypes) (scope : CScope) (line : ℕ) (given : Given) → rule_at (placed types scope line (given_node (given_facts None given)))
     ≡ (if given.has_place && not given.is_assignable then Some K12 else if given.has_place && not given.is_constant then Some K17 else if not given.has_place then Some K21 else None)
-unfolding rule_at breaks node_rules 
+unfolding rule_at breaks node_rules
 gives_list types scope line given = refl
 
 pub gives_value : (types : CTypes) (scope : CScope) (line : ℕ) (value : COperand) (given : Given) → rule_at (placed types scope line (given_node (given_facts (Some value) given)))
@@ -31,5 +31,5 @@ element types scope line value has_place = indexed_value (gives_nothing value) (
 
 pub designated : (types : CTypes) (scope : CScope) (line : ℕ) (has_place : Bool) → rule_at (placed types scope line (designated_node has_place))
     ≡ (if not has_place then Some K21 else None)
-unfolding rule_at breaks node_rules 
+unfolding rule_at breaks node_rules
 designated types scope line has_place = refl

@@ -1,6 +1,6 @@
 -- Function types and lists, open one step deep.
 use Rattle.std.proofs.Common.{rules, ◌≡◌, refl, ap, ◌∙◌, map, reverse}
-use Rattle.std.specs.Prelude.{Bool, true, false, ◌||◌, List, [], ◌∷◌, ◌++◌, Option, Some}
+use Rattle.std.specs.Prelude.{Bool, true, false, ◌||◌, List, [], ◌∷◌, ◌++◌, Some}
 use Rattle.std.specs.List.{list_any}
 use Rattle.std.proofs.lemmas.List.{reverse-append}
 use Rattle.cx_core.specs.declared.ty.FunctionTy.{FunctionTy, fold_out-FunctionTy}

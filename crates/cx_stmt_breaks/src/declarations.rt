@@ -73,10 +73,8 @@ fn misplaced_function(place: SpecsPlace, specs: &Specs) -> bool
     match place {
         SpecsPlace::Block => has_other(Keyword::Extern, specs.storage.as_slice()),
         SpecsPlace::ForClause => true,
-        SpecsPlace::File
-        | SpecsPlace::Definition
-        | SpecsPlace::Parameter
-        | SpecsPlace::Plain => false,
+        SpecsPlace::File | SpecsPlace::Definition | SpecsPlace::Parameter | SpecsPlace::Plain =>
+            false,
     }
 }
 
@@ -150,13 +148,7 @@ pub fn tentative_rule(known: Known, t: &Ty) -> Option<Rule>
 /// `inline` stands beside what is no function, K5 where its result or a parameter is of incomplete type (ISO C99, 6.9.1p3,
 /// 6.7.5.3p4), K7 where its declarator isn't that of a function (6.9.1p2).
 #[tactic(auto, using(crate::proofs::DeclRules::head))]
-pub fn head_rule(
-    known: Known,
-    specs: &Specs,
-    t: &Ty,
-    steps: &[Step],
-    clashes: bool,
-) -> Option<Rule>
+pub fn head_rule(known: Known, specs: &Specs, t: &Ty, steps: &[Step], clashes: bool) -> Option<Rule>
     requires { IsKnown known }
     ensures { (scope : CScope) (line : ℕ) → result ≡ rule_at (placed (types_in known.entry) scope line
         (head_node (record { specs = view_specs specs.now; type = view_type t.now; steps = reverse (map view_step steps.now); clashes = clashes }))) }

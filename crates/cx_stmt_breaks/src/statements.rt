@@ -55,7 +55,12 @@ fn is_listed(name: &Name, names: &[Name]) -> bool
 /// K10, K15 where the value can't be taken, K17 where it isn't an integer constant expression, K18 where the label stands in no
 /// `switch` or an earlier one has its value (ISO C99, 6.8.1p2, 6.8.4.2p3).
 #[tactic(auto, using(crate::proofs::StmtRules::case_label))]
-pub fn case_rule(known: Known, switch_ty: Option<&Ty>, value: &Operand, before: &[Int]) -> Option<Rule>
+pub fn case_rule(
+    known: Known,
+    switch_ty: Option<&Ty>,
+    value: &Operand,
+    before: &[Int],
+) -> Option<Rule>
     requires { IsKnown known }
     ensures { (scope : CScope) (line : ℕ) → result ≡ rule_at (placed (types_in known.entry) scope line (case_node (option_map (λ t. view_type t.now) switch_ty.entry) (view_operand value.now) before.now)) }
 {
