@@ -32,9 +32,9 @@ pub fn lacks_value(known: Known, one: &Operand) -> bool
     gives_nothing(one) || holds_nothing(known, one)
 }
 
-// Whether it is an lvalue that holds no value.
+/// Whether it is an lvalue that holds no value (ISO C99, 6.3.2.1p2).
 #[tactic(auto, unfolding(crate::specs::Asked::lacks_object))]
-pub(crate) fn lacks_object(known: Known, one: &Operand) -> bool
+pub fn lacks_object(known: Known, one: &Operand) -> bool
     requires { IsKnown known }
     ensures { result ≡ lacks_object (types_in known.entry) (view_operand one.now) }
 {

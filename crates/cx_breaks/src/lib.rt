@@ -10,7 +10,7 @@ mod casts;
 mod unary;
 
 pub use access::{arrow_rule, dot_rule, index_rule};
-pub use asked::{is_fixed, lacks_value};
+pub use asked::{is_fixed, lacks_object, lacks_value};
 pub use assigning::{assign_by_rule, assign_rule, step_rule};
 pub use binary::{binary_rule, comma_rule, cond_rule, tests_rule};
 pub use calls::call_rule;
