@@ -178,6 +178,15 @@ nested_blocks() {
   fi
 }
 
+# Runs of crates within 8 MiB of stack: calls and blocks 1,000 deep, and calls without end, which are want of memory and no crash.
+deep_runs() {
+  if (ulimit -s 8192; "$rows" <"$top/tests/deep_runs.rows") 2>&1 | cmp -s - "$top/tests/deep_runs.answers"; then
+    ok 'calls and blocks run 1,000 deep, and calls without end are want of memory'
+  else
+    bad 'calls and blocks run 1,000 deep, and calls without end are want of memory'
+  fi
+}
+
 # Random straight `int` units: what the programs of their crates show is compared with an evaluator of C99 that
 # shares nothing with the program, and this with gcc's programs.
 straight_units() {
@@ -271,6 +280,7 @@ crate_runs
 region_turns
 every_form
 nested_blocks
+deep_runs
 usage='c2rs: usage: transpile -o DIR FILE..'
 report 2 "$usage"
 report 2 "$usage" transpile -o out -o out answer.c

@@ -131,7 +131,12 @@ fn push_file(
 }
 
 /// The crate that files read as, which is valid.
-pub(crate) fn read(alloc: Global, list: Items<File>, asked: &mut Asked, out: &mut Answer) -> Option<Crate>
+pub(crate) fn read(
+    alloc: Global,
+    list: Items<File>,
+    asked: &mut Asked,
+    out: &mut Answer,
+) -> Option<Crate>
     ensures { IfSome result (λ whole. IsTrue (valid_crate (crate_view whole))) }
 {
     match read_crate(alloc, &Files { list }) {

@@ -67,14 +67,26 @@ fn run_stored(alloc: Global, whole: &Crate, asked: &mut Asked, out: &mut Answer)
     let store = asked.word();
     if store == "list" {
         run_hosted(alloc, whole, steps, &mut ListStore::new(alloc), asked, out);
-        return;
+    } else {
+        run_in_region(alloc, whole, steps, store, asked, out);
     }
-    let (name, sizes) = store.split_once(':').unwrap_or((store, ""));
-    let (bytes, blocks) = sizes.split_once(':').unwrap_or((sizes, ""));
-    if name != "region" {
-        asked.refuse();
-        return;
-    }
+}
+
+// Runs a crate over a store in a region, by `region:BYTES:BLOCKS`.
+fn run_in_region(
+    alloc: Global,
+    whole: &Crate,
+    steps: u64,
+    sizes: &str,
+    asked: &mut Asked,
+    out: &mut Answer,
+)
+    requires valid { IsTrue (valid_crate (crate_view whole.now)) }
+    requires typed { IsTrue (well_typed (crate_view whole.now)) }
+    requires steps { steps ≤ MOST_STEPS }
+{
+    let sizes = sizes.strip_prefix("region:").unwrap_or("");
+    let (bytes, blocks) = sizes.split_once(':').unwrap_or(("", ""));
     let bytes = asked.found(bytes.parse().ok(), 0);
     let blocks = asked.found(blocks.parse().ok(), 0);
     if let Some(mut store) = region(alloc, bytes, blocks, asked) {
@@ -96,16 +108,38 @@ fn run_hosted<S: Store>(
     requires steps { steps ≤ MOST_STEPS }
     requires empty { S.memory store.old ≡ [] }
 {
-    let script = asked.rest();
-    if script == "refuse" {
+    if asked.rest() == "refuse" {
         run(alloc, whole, steps, store, &mut NoHost, asked, out);
-        return;
+    } else {
+        run_scripted(alloc, whole, steps, store, script(alloc, asked), asked, out);
     }
-    let (answers, fails) = script.split_once(" / ").unwrap_or((script, ""));
+}
+
+// The host that is asked, by its answers and the numbers of the calls that fail.
+fn script(alloc: Global, asked: &mut Asked) -> ScriptHost {
+    let (answers, fails) = asked.rest().split_once(" / ").unwrap_or((asked.rest(), ""));
     asked.begin(answers);
     let answers = asked.numbers(alloc);
     asked.begin(fails);
-    let mut host = ScriptHost::new(answers, asked.numbers(alloc));
+    ScriptHost::new(answers, asked.numbers(alloc))
+}
+
+// Runs a crate with the answers of a host, and writes the calls that it made.
+fn run_scripted<S: Store>(
+    alloc: Global,
+    whole: &Crate,
+    steps: u64,
+    store: &mut S,
+    host: ScriptHost,
+    asked: &mut Asked,
+    out: &mut Answer,
+)
+    requires valid { IsTrue (valid_crate (crate_view whole.now)) }
+    requires typed { IsTrue (well_typed (crate_view whole.now)) }
+    requires steps { steps ≤ MOST_STEPS }
+    requires empty { S.memory store.old ≡ [] }
+{
+    let mut host = host;
     run(alloc, whole, steps, store, &mut host, asked, out);
     for made in host.made() {
         write_made(made, out);
