@@ -1,7 +1,7 @@
 //! Constants, names, and what stands at a place: nodes of typed expressions.
 
 ghost use Rattle.std.specs.Prelude.{◌≡◌, IfOk};
-ghost use Rattle.cx_core.specs.Trees.{expr, whole, null, object, code, deref, member, address, convert};
+ghost use Rattle.cx_core.specs.Trees.{expr, whole, null, object, code, load, deref, member, address, convert};
 ghost use Rattle.cx_core.specs.Views.{view_expr, view_type};
 
 use cr_base::{Boxed, Int, Memory, Place, Spot};
@@ -75,6 +75,25 @@ pub fn code_node(
             ty: ty.into_inner(),
             place,
             form: Form::Code(number),
+        },
+    )
+}
+
+/// The value that an object holds (ISO C99, 6.3.2.1p2). Refused only for want of memory.
+pub fn load_node(
+    alloc: Global,
+    ty: Boxed<Ty>,
+    place: Place,
+    from: Boxed<CoreExpr>,
+) -> Result<Boxed<CoreExpr>, Memory>
+    ensures { IfOk result (λ made. view_expr made ≡ expr (view_type ty) place (load (view_expr from))) }
+{
+    Boxed::new(
+        alloc,
+        CoreExpr {
+            ty: ty.into_inner(),
+            place,
+            form: Form::Load(from),
         },
     )
 }

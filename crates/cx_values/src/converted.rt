@@ -6,11 +6,11 @@ ghost use Rattle.cx_core.specs.Views.{view_expr, view_type, view_types};
 ghost use Rattle.cx_operands.specs.Views.{view_operand};
 ghost use Rattle.cx_rules.specs.Operands.{converted_to, fitted, promoted_value, dropped, value_type};
 
-use crate::nodes::{convert_node, null_node};
 use crate::types::unqualified_copy;
-use crate::values::{value_of, void_ty};
+use crate::values::value_of;
 use cr_base::{Boxed, Memory};
 use cx_core::{CoreExpr, Ty, Types, promote};
+use cx_forms::{convert_node, null_node, void_ty};
 use cx_kinds::{is_pointer, is_void, same_type};
 use cx_operands::{Operand, is_null_constant, width_of};
 use std::alloc::Global;

@@ -3,7 +3,6 @@
 #![tactic(auto)]
 
 mod converted;
-mod nodes;
 mod types;
 mod values;
 

@@ -7,6 +7,7 @@ ghost use Rattle.cx_operands.specs.Views.{place_value_type};
 
 use cr_base::{Boxed, Memory};
 use cx_core::{Ty, TyForm};
+use cx_forms::pointer_to;
 use std::alloc::Global;
 
 /// The unqualified version of a type (ISO C99, 6.2.5p25). Refused only for want of memory.
@@ -29,10 +30,7 @@ pub(crate) fn place_value_type(alloc: Global, t: &Ty) -> Result<Boxed<Ty>, Memor
     ensures { IfOk result (λ made. view_type made ≡ place_value_type (view_type t.now)) }
 {
     match &t.form {
-        TyForm::Array(element, _) => {
-            let to = element.get().copy(alloc)?;
-            Ty::pointer(alloc, to, false)
-        }
+        TyForm::Array(element, _) => pointer_to(alloc, element.get()),
         _ => unqualified_copy(alloc, t),
     }
 }

@@ -4,13 +4,11 @@ ghost use Rattle.std.specs.Prelude.{◌≡◌, IfOk};
 ghost use Rattle.cx_core.specs.Views.{view_expr};
 ghost use Rattle.cx_operands.specs.Views.{view_operand};
 ghost use Rattle.cx_rules.specs.Operands.{value_of, value_by, value_of_place, nothing_of};
-ghost use Rattle.cx_rules.specs.Types.{void_type};
-ghost use Rattle.cx_core.specs.Views.{view_type};
 
-use crate::nodes::{address_node, convert_node, load_node};
 use crate::types::place_value_type;
 use cr_base::{Boxed, Memory};
-use cx_core::{CoreExpr, Ty, TyForm};
+use cx_core::CoreExpr;
+use cx_forms::{address_node, convert_node, load_node, void_ty};
 use cx_kinds::is_array;
 use cx_operands::Operand;
 use cx_rules::OperandKind;
@@ -58,16 +56,4 @@ fn nothing_of(alloc: Global, core: Boxed<CoreExpr>) -> Result<Boxed<CoreExpr>, M
     let place = core.get().place;
     let ty = void_ty(alloc)?;
     convert_node(alloc, ty, place, core)
-}
-
-pub(crate) fn void_ty(alloc: Global) -> Result<Boxed<Ty>, Memory>
-    ensures { IfOk result (λ made. view_type made ≡ void_type) }
-{
-    Boxed::new(
-        alloc,
-        Ty {
-            form: TyForm::Void,
-            is_const: false,
-        },
-    )
 }
