@@ -38,7 +38,7 @@ fn types_match(types: &Types, target: &Ty, value: ValueTy<'_>, is_null: bool) ->
         || becomes_truth(target, value)
 }
 
-#[tactic(auto, using(crate::proofs::Records::unqualified_records))]
+#[tactic(auto, using(crate::proofs::Numbered::unqualified_records))]
 fn records_match(_types: &Types, target: &Ty, value: ValueTy<'_>) -> bool
     ensures { result ≡ records_match (view_types _types.now) (view_type target.now) (view_value_type value.entry) }
 {

@@ -12,7 +12,7 @@ mod values;
 
 pub use assigning::may_be_assigned;
 pub use callee::callee_of;
-pub use choosing::{Choice, choice};
+pub use choosing::{Choice, choice_of};
 pub use members::{FoundMember, find_member};
 pub use pairing::pairing_of;
 pub use values::{is_element_pointer, is_function_pointer, is_object_pointer, is_scalar};

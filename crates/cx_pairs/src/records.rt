@@ -22,7 +22,7 @@ pub(crate) fn is_record(v: ValueTy<'_>, number: u32) -> bool
 }
 
 // Whether both are the same structure or union, with the same qualifier.
-#[tactic(auto, using(crate::proofs::Records::compatible_records))]
+#[tactic(auto, using(crate::proofs::Numbered::compatible_records))]
 pub(crate) fn records_agree(_types: &Types, first: ValueTy<'_>, second: ValueTy<'_>) -> bool
     ensures { result ≡ (is_some (record_of (view_value_type first.entry)) && compatible (view_types _types.now) (view_value_type first.entry) (view_value_type second.entry)) }
 {

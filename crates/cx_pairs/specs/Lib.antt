@@ -1,0 +1,4 @@
+pub mod Callees
+pub mod Choices
+pub mod Members
+pub mod Records
