@@ -14,6 +14,7 @@ use cx_core::Ty;
 use cx_scope::{Declared, Param, Tag};
 
 /// What stood at the place where a list of members or of enumerators began.
+#[derive(Clone, Copy)]
 pub struct Begun {
     /// What its tag meant before, in the same scope.
     pub found: Option<Tag>,

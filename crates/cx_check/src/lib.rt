@@ -1,0 +1,4 @@
+//! The walk over expressions and type names (ISO C99, 6.5 and 6.7): what they mean, or the first node that breaks a rule.
+#![tactic(auto)]
+
+mod walk;

@@ -1,0 +1,16 @@
+//! The steps of the walk over expressions and type names: each node with what its children mean, the rule that it breaks or
+//! what it means, and what it changes of the scope (ISO C99, 6.5 and 6.7).
+#![tactic(auto)]
+
+mod expressions;
+mod types;
+
+pub use expressions::{
+    arrow_seen, assign_seen, binary_seen, call_seen, cast_seen, comma_seen, cond_seen, dot_seen,
+    index_seen, letter_seen, name_seen, number_seen, sizeof_seen, sizeof_type_seen, step_seen,
+    text_seen, unary_seen,
+};
+pub use types::{
+    array_seen, derives_seen, enum_ended, enum_use_seen, enumerator_seen, identifiers_seen,
+    member_seen, param_seen, params_ended, record_ended, record_use_seen, specs_seen, typedef_seen,
+};
