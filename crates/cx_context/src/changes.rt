@@ -55,6 +55,20 @@ impl Context {
         Ok(())
     }
 
+    /// How many objects of literals there are so far.
+    pub fn literal_count(&self) -> u64
+        ensures { result ≡ length (scope_of self.now).literals }
+    {
+        self.scope.literal_count()
+    }
+
+    /// How much of what has linkage the unit named so far.
+    pub fn mention_count(&self) -> u64
+        ensures { result ≡ length (scope_of self.now).mentions }
+    {
+        self.scope.mention_count()
+    }
+
     /// The literals and the mentions behind so many go (ISO C99, 6.5.3.4p2).
     pub fn cut_back(&mut self, literals: u64, mentions: u64)
         ensures { scope_of self.new ≡ cut_back literals mentions (scope_of self.old) }

@@ -5,14 +5,17 @@ ghost use Rattle.cx_context.specs.Checks.{Checks};
 ghost use Rattle.cx_context.specs.Views.{scope_of};
 ghost use Rattle.cx_core.specs.Views.{view_type};
 ghost use Rattle.cx_operands.specs.Views.{view_operand};
-ghost use Rattle.cx_rules.specs.Pieces.{unary_of, binary_of, assignment_of};
+ghost use Rattle.cx_rules.specs.Lines.{expr_line};
+ghost use Rattle.cx_rules.specs.Pieces.{unary_of, binary_of, assignment_of, calls_by_name};
 ghost use Rattle.cx_steps.specs.Steps as steps;
+ghost use Rattle.cx_tree.specs.Views.{expr_view};
 
 use cr_base::{Boxed, Items, Name, Stop};
 use cx_context::Context;
 use cx_core::Ty;
 use cx_lex::{Punct, Ty0};
 use cx_operands::Operand;
+use cx_tree::Expr;
 
 /// A name (ISO C99, 6.5.1p2).
 pub fn name_seen(context: &mut Context, name: &Name, line: u32) -> Result<Operand, Stop>
@@ -57,13 +60,12 @@ pub fn index_seen(
 /// A call (ISO C99, 6.5.2.2).
 pub fn call_seen(
     context: &mut Context,
-    line: u32,
-    by_name: bool,
+    of: &Expr,
     mentioned: u64,
     callee: Operand,
     args: Items<Operand>,
 ) -> Result<Operand, Stop>
-    ensures { Checks view_operand result (scope_of context.new) (steps.call_seen line by_name mentioned (view_operand callee) (map view_operand args) (scope_of context.old)) }
+    ensures { Checks view_operand result (scope_of context.new) (steps.call_seen (expr_line (expr_view of.now)) (calls_by_name (expr_view of.now) (view_operand callee)) mentioned (view_operand callee) (map view_operand args) (scope_of context.old)) }
 {
     Err(Stop::Memory)
 }

@@ -3,6 +3,7 @@
 #![tactic(auto)]
 
 mod expressions;
+mod names;
 mod types;
 
 pub use expressions::{
@@ -10,6 +11,7 @@ pub use expressions::{
     index_seen, letter_seen, name_seen, number_seen, sizeof_seen, sizeof_type_seen, step_seen,
     text_seen, unary_seen,
 };
+pub use names::{calls_by_name, is_single};
 pub use types::{
     array_seen, derives_seen, enum_ended, enum_use_seen, enumerator_seen, identifiers_seen,
     member_seen, param_seen, params_ended, record_ended, record_use_seen, specs_seen, typedef_seen,
