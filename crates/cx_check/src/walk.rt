@@ -16,6 +16,7 @@ ghost use Rattle.cx_tree.specs.Views.{expr_view, exprs as expr_trees, option_exp
 use cr_base::{Boxed, Int, Items, Stop};
 use cx_context::Context;
 use cx_core::{Member, Ty};
+use cx_kept::expressions_keep;
 use cx_operands::Operand;
 use cx_rules::SpecsPlace;
 use cx_scope::Param;
@@ -24,10 +25,10 @@ use cx_shapes::{
 };
 use cx_steps::{
     array_seen, arrow_seen, assign_seen, binary_seen, call_seen, cast_seen, comma_seen, cond_seen,
-    derives_seen, dot_seen, enum_ended, enum_use_seen, enumerator_seen, identifiers_seen,
-    index_seen, is_single, letter_seen, member_seen, name_seen, number_seen, param_seen,
-    params_ended, record_ended, record_use_seen, sizeof_seen, sizeof_type_seen, specs_seen,
-    step_seen, text_seen, typedef_seen, unary_seen,
+    derives_seen, dot_seen, ends_declarators, ends_decls, enum_ended, enum_use_seen,
+    enumerator_seen, identifiers_seen, index_seen, is_single, letter_seen, member_seen, name_seen,
+    number_seen, param_seen, params_ended, record_ended, record_use_seen, sizeof_seen,
+    sizeof_type_seen, specs_seen, step_seen, text_seen, typedef_seen, unary_seen,
 };
 use cx_tree::{
     Brackets, Declarator, Enumerator, Expr, MemberDecl, MemberDeclarator, Param as ParamTree, Spec,
@@ -172,10 +173,11 @@ fn call_form(context: &mut Context, e: &Expr) -> Result<Operand, Stop>
 {
     match e {
         Expr::Call { of, args, .. } => {
+            let of = of.get();
             let mentioned = context.mention_count();
-            let callee = expr(context, of.get())?;
+            let callee = expr(context, of)?;
             let given = exprs(context, args.as_slice())?;
-            call_seen(context, of.get(), mentioned, callee, given)
+            call_seen(context, of, mentioned, callee, given)
         }
         // No other form comes here.
         _ => Err(Stop::Memory),
@@ -216,9 +218,11 @@ fn sizeof_form(context: &mut Context, e: &Expr) -> Result<Operand, Stop>
 {
     match e {
         Expr::SizeofExpr { on, lines } => {
+            let on = on.get();
             let literals = context.literal_count();
             let mentions = context.mention_count();
-            let one = expr(context, on.get())?;
+            let one = expr(context, on)?;
+            expressions_keep();
             sizeof_seen(context, own_line(lines), literals, mentions, one)
         }
         // No other form comes here.
@@ -323,7 +327,7 @@ fn member_decls(context: &mut Context, list: &[MemberDecl]) -> Result<Items<Memb
 {
     let mut members = Items::new(context.alloc());
     for index in 0..list.len() {
-        let is_last = index + 1 == list.len();
+        let is_last = ends_decls(list, index);
         member_decl(context, &list[index], is_last, &mut members)?;
     }
     Ok(members)
@@ -363,7 +367,7 @@ fn member_declarators(
         (member_declarator_trees (map member_declarator_view list.now)) (scope_of context.old)) }
 {
     for index in 0..list.len() {
-        let ends = is_last && index + 1 == list.len();
+        let ends = ends_declarators(is_last, list, index);
         let one = member_declarator(context, &list[index], ends, members, from)?;
         members.push(one)?;
     }
@@ -487,11 +491,13 @@ fn params(context: &mut Context, is_only: bool, list: &[ParamTree]) -> Result<It
     ensures { Checks (map view_param) result (scope_of context.new) (walks.params_walk is_only (param_trees (map param_tree_view list.now)) (scope_of context.old)) }
 {
     let mut done = Items::new(context.alloc());
-    for index in 0..list.len() {
-        let found = param(context, is_only && index == 0, &list[index])?;
+    let mut alone = is_only;
+    for one in list {
+        let found = param(context, alone, one)?;
         if let Some(one) = found {
             done.push(one)?;
         }
+        alone = false;
     }
     Ok(done)
 }

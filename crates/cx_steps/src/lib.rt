@@ -3,6 +3,7 @@
 #![tactic(auto)]
 
 mod expressions;
+mod lasts;
 mod names;
 mod types;
 
@@ -11,6 +12,7 @@ pub use expressions::{
     index_seen, letter_seen, name_seen, number_seen, sizeof_seen, sizeof_type_seen, step_seen,
     text_seen, unary_seen,
 };
+pub use lasts::{ends_declarators, ends_decls};
 pub use names::{calls_by_name, is_single};
 pub use types::{
     array_seen, derives_seen, enum_ended, enum_use_seen, enumerator_seen, identifiers_seen,

@@ -1,4 +1,4 @@
-use Rattle.std.proofs.Common.{◌≡◌, [], map, drop, pos, ◌&&◌, ◌==◌, ◌≤◌, length, false}
+use Rattle.std.proofs.Common.{◌≡◌, [], map, drop, pos, false}
 use Rattle.cx_check.specs.Loops.{behind}
 use Rattle.cx_check.specs.Walks as walks
 use Rattle.cx_context.specs.Views.{scope_of}
@@ -36,7 +36,7 @@ invariant-enumerators-loop-one l =
     walks.enumerators_walk l.next l.negative (enumerator_trees (map enumerator_view (drop l.one-index l.list))) (scope_of l.context)
     ≡ walks.enumerators_walk (pos 0) false (enumerator_trees (map enumerator_view l.fn.list)) (scope_of l.fn.context)
 
-abbrev pub invariant-params-loop-index : goal.invariant-params-loop-index
-invariant-params-loop-index l =
-    behind (map view_param l.done) (walks.params_walk (l.is_only && (l.index == 0)) (param_trees (map param_tree_view (drop l.index l.list))) (scope_of l.context))
-    ≡ walks.params_walk l.is_only (param_trees (map param_tree_view l.fn.list)) (scope_of l.fn.context)
+abbrev pub invariant-params-loop-one : goal.invariant-params-loop-one
+invariant-params-loop-one l =
+    behind (map view_param l.done) (walks.params_walk l.alone (param_trees (map param_tree_view (drop l.one-index l.list))) (scope_of l.context))
+    ≡ walks.params_walk l.fn.is_only (param_trees (map param_tree_view l.fn.list)) (scope_of l.fn.context)
