@@ -1,8 +1,7 @@
 -- What a cast asks of its operand, by parts. Named by the contracts of parts alone.
-use Rattle.std.specs.Prelude.{Bool, not, ◌&&◌, ◌||◌, if◌then◌else◌, List, [], ◌∷◌}
+use Rattle.std.specs.Prelude.{Bool, not, ◌&&◌, ◌||◌}
 use Rattle.cx_core.specs.Trees.{CTy, CTypes, unqualified}
-use Rattle.cx_rules.specs.Operands.{COperand}
-use Rattle.cx_rules.specs.Types.{is_void, is_integer, is_pointer, is_function_pointer, is_object_pointer, same_type, truth_type}
+use Rattle.cx_rules.specs.Types.{is_integer, is_pointer, is_function_pointer, is_object_pointer, same_type, truth_type}
 
 -- a pointer becomes a number that isn't a truth value, or a number becomes a pointer that isn't null
 abbrev pub crosses_numbers : CTypes → CTy → CTy → Bool → Bool
@@ -14,10 +13,3 @@ crosses_numbers types type from is_null =
 abbrev pub crosses_functions : CTy → CTy → Bool → Bool
 crosses_functions type from is_null =
     not is_null && ((is_function_pointer type && is_object_pointer from) || (is_object_pointer type && is_function_pointer from))
-
--- the operand whose value it takes, and the one that it only evaluates
-abbrev pub cast_takes : CTy → COperand → List COperand
-cast_takes type on = if is_void type then [] else on ∷ []
-
-abbrev pub cast_passes : CTy → COperand → List COperand
-cast_passes type on = if is_void type then on ∷ [] else []

@@ -1,2 +1,4 @@
+pub mod Asked
+pub mod Calls
 pub mod Casts
 pub mod Placed

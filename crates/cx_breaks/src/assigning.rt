@@ -9,19 +9,18 @@ ghost use Rattle.cx_rules.specs.Pairs.{joins};
 ghost use Rattle.cx_rules.specs.Rules.{rule_at, not_stepped};
 ghost use Rattle.cx_rules.specs.Scope.{CScope};
 
-use crate::targets::is_modifiable;
-use crate::values::{is_fixed, lacks_value};
+use crate::asked::{is_fixed, lacks_value, may_be_stored, may_change, pairing_taken, type_taken};
 use cr_base::Rule;
 use cx_core::Op2;
 use cx_kinds::Known;
-use cx_operands::{Operand, ValueTy, value_type};
-use cx_pairs::{is_element_pointer, may_be_assigned, pairing_of};
+use cx_operands::{Operand, ValueTy};
+use cx_pairs::is_element_pointer;
 use cx_rules::Pairing;
 
 /// The rule that a simple assignment breaks: K10 where the right operand has no value, K11 where the left one is no
 /// modifiable lvalue (ISO C99, 6.5.16p2), K12 where the value may not be assigned to it (6.5.16.1p1), K15 where the right
 /// operand is an array that is declared `register`.
-#[tactic(auto, using(crate::proofs::Opened::type_of_view), unfolding(cx_rules::specs::Rules::rule_at, cx_rules::specs::Rules::breaks, cx_rules::specs::Rules::node_rules))]
+#[tactic(auto, using(crate::proofs::NodeRules::assign))]
 pub fn assign_rule(known: Known, target: &Operand, value: &Operand) -> Option<Rule>
     requires { IsKnown known }
     ensures { (scope : CScope) (line : ℕ) → result ≡ rule_at (placed (types_in known.entry) scope line (assign_node (view_operand target.now) (view_operand value.now))) }
@@ -29,10 +28,10 @@ pub fn assign_rule(known: Known, target: &Operand, value: &Operand) -> Option<Ru
     if lacks_value(known, value) {
         return Some(Rule::K10);
     }
-    if !is_modifiable(known, target) {
+    if !may_change(known, target) {
         return Some(Rule::K11);
     }
-    if !may_be_assigned(known.types, &target.core.get().ty, value) {
+    if !may_be_stored(known.types, target, value) {
         return Some(Rule::K12);
     }
     if is_fixed(value) {
@@ -44,7 +43,7 @@ pub fn assign_rule(known: Known, target: &Operand, value: &Operand) -> Option<Ru
 /// The rule that a compound assignment breaks: K10 where the operator doesn't take the operands (ISO C99, 6.5.16.2p1, p2),
 /// K11 where the left one is no modifiable lvalue (6.5.16p2), K15 where the right one is an array that is declared
 /// `register`.
-#[tactic(auto, unfolding(cx_rules::specs::Rules::rule_at, cx_rules::specs::Rules::breaks, cx_rules::specs::Rules::node_rules))]
+#[tactic(auto, using(crate::proofs::NodeRules::assign_by))]
 pub fn assign_by_rule(known: Known, op: Op2, target: &Operand, value: &Operand) -> Option<Rule>
     requires { IsKnown known }
     ensures { (scope : CScope) (line : ℕ) → result ≡ rule_at (placed (types_in known.entry) scope line (assign_by_node op (view_operand target.now) (view_operand value.now))) }
@@ -52,10 +51,10 @@ pub fn assign_by_rule(known: Known, op: Op2, target: &Operand, value: &Operand) 
     if lacks_value(known, value) {
         return Some(Rule::K10);
     }
-    if !joins(pairing_of(known, op, target, value)) {
+    if !joins(pairing_taken(known, op, target, value)) {
         return Some(Rule::K10);
     }
-    if !is_modifiable(known, target) {
+    if !may_change(known, target) {
         return Some(Rule::K11);
     }
     if is_fixed(value) {
@@ -75,15 +74,15 @@ fn joins(pairing: Pairing) -> bool
 
 /// The rule that `++` or `--` breaks: K10 where the operand is neither an integer nor a pointer to a complete type, K11
 /// where it is no modifiable lvalue (ISO C99, 6.5.2.4p1, 6.5.3.1p1).
-#[tactic(auto, unfolding(cx_rules::specs::Rules::rule_at, cx_rules::specs::Rules::breaks, cx_rules::specs::Rules::node_rules))]
+#[tactic(auto, using(crate::proofs::NodeRules::step))]
 pub fn step_rule(known: Known, on: &Operand) -> Option<Rule>
     requires { IsKnown known }
     ensures { (scope : CScope) (line : ℕ) → result ≡ rule_at (placed (types_in known.entry) scope line (step_node (view_operand on.now))) }
 {
-    if not_stepped(known, value_type(on)) {
+    if not_stepped(known, type_taken(on)) {
         return Some(Rule::K10);
     }
-    if !is_modifiable(known, on) {
+    if !may_change(known, on) {
         return Some(Rule::K11);
     }
     None

@@ -1,48 +1,46 @@
 //! Casts (ISO C99, 6.5.4).
 
-ghost use Rattle.std.specs.Prelude.{◌≡◌, ◌&&◌, ◌||◌, ℕ, [], ◌∷◌, ◌++◌, not};
-ghost use Rattle.std.specs.List.{list_any};
-ghost use Rattle.cx_breaks.specs.Placed.{placed, no_values};
-ghost use Rattle.cx_breaks.specs.Casts.{crosses_numbers, crosses_functions, cast_takes, cast_passes};
+ghost use Rattle.std.specs.Prelude.{◌≡◌, ◌&&◌, ℕ, not, if◌then◌else◌};
+ghost use Rattle.cx_breaks.specs.Asked.{lacks_object, lacks_value};
+ghost use Rattle.cx_breaks.specs.Casts.{crosses_numbers, crosses_functions};
+ghost use Rattle.cx_breaks.specs.Placed.{placed};
+ghost use Rattle.cx_core.specs.Trees.{unqualified};
 ghost use Rattle.cx_core.specs.Views.{view_type};
 ghost use Rattle.cx_kinds.specs.Known.{IsKnown, types_in};
 ghost use Rattle.cx_operands.specs.Views.{view_operand, view_value_type};
 ghost use Rattle.cx_rules.specs.Nodes.{cast_node};
-ghost use Rattle.cx_rules.specs.Operands.{is_register_array};
 ghost use Rattle.cx_rules.specs.Rules.{rule_at};
 ghost use Rattle.cx_rules.specs.Scope.{CScope};
 ghost use Rattle.cx_rules.specs.Types.{is_void, is_scalar, is_pointer, is_integer, is_function_pointer, is_object_pointer, same_type, truth_type};
-ghost use Rattle.cx_core.specs.Trees.{unqualified};
 
-use crate::values::{is_fixed, lacks_object, lacks_value};
+use crate::asked::{is_fixed, is_null, lacks_object, lacks_value, type_taken};
 use cr_base::Rule;
 use cx_core::{Basic, Ty, TyForm};
 use cx_kinds::{Known, is_function_pointer, is_integer, is_object_pointer, is_pointer, is_void};
-use cx_operands::{Operand, ValueTy, is_null_operand, value_type};
+use cx_operands::{Operand, ValueTy};
 use cx_pairs::is_scalar;
 
 /// The rule that a cast to a type breaks: O7 between pointers and integers, O8 between pointers to objects and to functions,
 /// K10 where the value can't be taken, K13 where a type isn't scalar (ISO C99, 6.5.4p2), K15 where the operand is an array
 /// that is declared `register`.
-#[tactic(auto, unfolding(cx_rules::specs::Rules::rule_at, cx_rules::specs::Rules::breaks, cx_rules::specs::Rules::node_rules))]
+#[tactic(auto, using(crate::proofs::NodeRules::cast))]
 pub fn cast_rule(known: Known, t: &Ty, on: &Operand) -> Option<Rule>
     requires { IsKnown known }
     ensures { (scope : CScope) (line : ℕ) → result ≡ rule_at (placed (types_in known.entry) scope line (cast_node (view_type t.now) (view_operand on.now))) }
 {
-    let is_null = is_null_operand(known.types, on);
-    if crosses_numbers(known, t, value_type(on), is_null) {
+    if crosses_numbers(known, t, type_taken(on), is_null(known.types, on)) {
         return Some(Rule::O7);
     }
-    if crosses_functions(t, value_type(on), is_null) {
+    if crosses_functions(t, type_taken(on), is_null(known.types, on)) {
         return Some(Rule::O8);
     }
     if cast_lacks(known, t, on) {
         return Some(Rule::K10);
     }
-    if is_unscalar(known, t, value_type(on)) {
+    if is_unscalar(known, t, type_taken(on)) {
         return Some(Rule::K13);
     }
-    if cast_fixed(t, on) {
+    if is_fixed(on) {
         return Some(Rule::K15);
     }
     None
@@ -104,22 +102,12 @@ fn becomes_object(t: &Ty, v: ValueTy<'_>) -> bool
 // Whether the value can't be taken; a cast to `void` only evaluates the operand.
 fn cast_lacks(known: Known, t: &Ty, on: &Operand) -> bool
     requires { IsKnown known }
-    ensures { result ≡ no_values (types_in known.entry) (cast_takes (view_type t.now) (view_operand on.now)) (cast_passes (view_type t.now) (view_operand on.now)) }
+    ensures { result ≡ (if is_void (view_type t.now) then lacks_object (types_in known.entry) (view_operand on.now) else lacks_value (types_in known.entry) (view_operand on.now)) }
 {
     if is_void(t) {
         lacks_object(known, on)
     } else {
         lacks_value(known, on)
-    }
-}
-
-fn cast_fixed(t: &Ty, on: &Operand) -> bool
-    ensures { result ≡ list_any is_register_array (cast_takes (view_type t.now) (view_operand on.now) ++ cast_passes (view_type t.now) (view_operand on.now)) }
-{
-    if is_void(t) {
-        is_fixed(on)
-    } else {
-        is_fixed(on)
     }
 }
 

@@ -28,11 +28,7 @@ pub fn whole_node(
 }
 
 /// A null pointer of a type (ISO C99, 6.3.2.3p3). Refused only for want of memory.
-pub fn null_node(
-    alloc: Global,
-    ty: Boxed<Ty>,
-    place: Place,
-) -> Result<Boxed<CoreExpr>, Memory>
+pub fn null_node(alloc: Global, ty: Boxed<Ty>, place: Place) -> Result<Boxed<CoreExpr>, Memory>
     ensures { IfOk result (λ made. view_expr made ≡ expr (view_type ty) place null) }
 {
     Boxed::new(

@@ -6,7 +6,6 @@ use Rattle.cx_core.specs.Trees.{CTy, CExpr, expr, whole, null, object, code, loa
 use Rattle.cx_nodes.specs.Pointers.{address_by, deref_plain}
 use Rattle.cx_rules.specs.declared.kinds.OperandKind.TheVariants.{Function, VoidPlace}
 use Rattle.cx_rules.specs.Meanings.{address_of_place, deref_as}
-use Rattle.cx_rules.specs.Operands.{COperand}
 use Rattle.cx_rules.specs.Types.{target_is_function, target_is_void}
 
 pub by_deref : (at : TextPlace) (core : CExpr) → address_of_place at core ≡ address_by at core

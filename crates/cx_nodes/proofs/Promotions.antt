@@ -1,12 +1,11 @@
 -- The type of a promoted value.
-use Rattle.std.proofs.Common.{◌≡◌, rules, refl, ap, sym, ◌∙◌, Bool, true, false}
-use Rattle.std.specs.Prelude.{ℕ, ◌&&◌, if◌then◌else◌, Option, None, Some, is_some, Result, Ok, Err, IfOk}
-use Rattle.std.specs.Bool.{beq}
+use Rattle.std.proofs.Common.{◌≡◌, refl, ap, Bool, true, false}
+use Rattle.std.specs.Prelude.{ℕ, Option, None, Some, is_some}
 use denote.Enum.Bare.{same_true}
 use Rattle.cx_core.specs.contracts.ty.Basic.{the_type}
 use Rattle.cx_core.specs.Conversions.{same_basic, basic_of, promoted, promoted_basic}
 use Rattle.cx_core.specs.declared.ty.Basic.{Basic}
-use Rattle.cx_core.specs.Trees.{CTy, ty, CTypes, void, basic, enum_type, pointer, array, record_type, function, form_of_type, CExpr, expr, type_of}
+use Rattle.cx_core.specs.Trees.{CTy, ty, CTypes, void, basic, enum_type, pointer, array, record_type, function, form_of_type, CExpr, type_of}
 use Rattle.cx_rules.specs.Meanings.{trailing_value}
 use Rattle.cx_rules.specs.Operands.{COperand, converted_to, promoted_type, promoted_value, value_of, value_type}
 use Rattle.cx_rules.specs.Types.{same_type, is_integer}
@@ -49,7 +48,3 @@ promoted_is types arg is = promoted_by types (value_type arg) _ (value_of arg) _
 
 pub trailing_is : (types : CTypes) (arg : COperand) → is_integer types (value_type arg) ≡ true → type_of (trailing_value types arg) ≡ promoted_type types arg
 trailing_is types arg is = rw is (promoted_is types arg is)
-
-pub if_ok_along : {A E : Type 0} (result : Result A E) (P Q : A → Type 0) → ((x : A) → P x → Q x) → IfOk result P → IfOk result Q
-if_ok_along (Ok x) P Q along holds = along x holds
-if_ok_along (Err e) P Q along holds = holds

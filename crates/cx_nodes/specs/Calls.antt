@@ -1,6 +1,6 @@
 -- Arguments and callees one by one. Named by the contracts of parts alone.
-use Rattle.std.specs.Prelude.{ℕ, ◌+◌, Bool, true, false, if◌then◌else◌, List, [], ◌∷◌, drop, length, map, Option, None, Some}
-use Rattle.cx_core.specs.Trees.{CTy, CTypes, CExpr, expr, CForm, code, CExprs, call, call_by, CTyForm, CParams, type_of}
+use Rattle.std.specs.Prelude.{ℕ, Bool, true, false, List, [], ◌∷◌, Option, None, Some}
+use Rattle.cx_core.specs.Trees.{CTy, CTypes, CExpr, expr, CForm, code, CExprs, call, call_by}
 use Rattle.cx_rules.specs.Meanings.{trailing_value}
 use Rattle.cx_rules.specs.Operands.{COperand, fitted, value_of}
 

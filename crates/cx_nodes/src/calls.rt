@@ -1,9 +1,9 @@
 //! Calls (ISO C99, 6.5.2.2).
 
-ghost use Rattle.std.specs.Prelude.{◌≡◌, map, option_map, IfOk};
+ghost use Rattle.std.specs.Prelude.{◌≡◌, map, option_map, slice_get, IfOk};
 ghost use Rattle.cx_core.specs.Trees.{expr};
 ghost use Rattle.cx_core.specs.Views.{view_expr, view_type, view_types, view_params, exprs_of, types_of};
-ghost use Rattle.cx_nodes.specs.Calls.{arg_for, called_number};
+ghost use Rattle.cx_nodes.specs.Calls.{arg_for, values_for, called_number};
 ghost use Rattle.cx_operands.specs.Views.{view_operand};
 ghost use Rattle.cx_rules.specs.Meanings.{args_for, args_of, call_form, call_meaning, trailing_value};
 
@@ -86,6 +86,7 @@ fn args_of(
     }
 }
 
+#[tactic(auto, using(crate::proofs::Arguments::args_by_list))]
 fn args_for(
     alloc: Global,
     types: &Types,
@@ -94,12 +95,30 @@ fn args_for(
 ) -> Result<Items<CoreExpr>, Memory>
     ensures { IfOk result (λ made. exprs_of (map view_expr made) ≡ args_for (view_types types.now) (types_of (map view_type params.now)) (map view_operand args)) }
 {
+    let values = values_for(alloc, types, params, args)?;
+    Ok(values)
+}
+
+fn values_for(
+    alloc: Global,
+    types: &Types,
+    params: &[Ty],
+    args: Items<Operand>,
+) -> Result<Items<CoreExpr>, Memory>
+    ensures { IfOk result (λ made. map view_expr made ≡ values_for (view_types types.now) (map view_type params.now) (map view_operand args)) }
+{
     let mut made = Items::new(alloc);
     for arg in args.into_vec() {
-        let value = arg_for(alloc, types, params.get(made.len()), arg)?;
+        let value = arg_for(alloc, types, param_at(params, made.len()), arg)?;
         made.push(value.into_inner())?;
     }
     Ok(made)
+}
+
+fn param_at(params: &[Ty], index: usize) -> Option<&Ty>
+    ensures { option_map (λ t. view_type t.now) result ≡ slice_get (map view_type params.now) index }
+{
+    params.get(index)
 }
 
 // The value of an argument, as a parameter takes it where there is one.
@@ -118,11 +137,7 @@ fn arg_for(
 }
 
 // An argument behind those that parameters take, with the default promotions (6.5.2.2p6).
-fn trailing_value(
-    alloc: Global,
-    types: &Types,
-    arg: Operand,
-) -> Result<Boxed<CoreExpr>, Memory>
+fn trailing_value(alloc: Global, types: &Types, arg: Operand) -> Result<Boxed<CoreExpr>, Memory>
     ensures { IfOk result (λ made. view_expr made ≡ trailing_value (view_types types.now) (view_operand arg)) }
 {
     if value_type(&arg).is_integer(types) {

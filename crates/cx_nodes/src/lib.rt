@@ -7,6 +7,7 @@ mod casts;
 mod choosing;
 mod constants;
 mod members;
+mod names;
 mod pointers;
 mod trailing;
 
@@ -15,5 +16,6 @@ pub use casts::cast_meaning;
 pub use choosing::cond_meaning;
 pub use constants::{int_meaning, no_meaning, number_meaning, size_meaning};
 pub use members::{arrow_meaning, dot_meaning};
+pub use names::name_meaning;
 pub use pointers::{address_meaning, deref_meaning, index_meaning};
 pub use trailing::trailing_types;

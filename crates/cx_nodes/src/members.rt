@@ -38,7 +38,15 @@ pub fn dot_meaning(
         None => no_meaning(alloc, at),
         Some(found) => {
             let is_place = is_place(&of);
-            member_of(alloc, at, is_place, of.is_register, of.core, found.ty, found.spot)
+            member_of(
+                alloc,
+                at,
+                is_place,
+                of.is_register,
+                of.core,
+                found.ty,
+                found.spot,
+            )
         }
     }
 }

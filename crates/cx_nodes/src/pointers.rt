@@ -1,12 +1,13 @@
 //! What pointers point to, elements of arrays, and addresses (ISO C99, 6.5.2.1 and 6.5.3.2).
 
-ghost use Rattle.std.specs.Prelude.{◌≡◌, IsTrue, IfOk, option_map, true};
+ghost use Rattle.std.specs.Prelude.{◌≡◌, IsTrue, IfOk, if◌then◌else◌, option_map};
 ghost use Rattle.cx_core.specs.Trees.{expr, deref, type_of};
 ghost use Rattle.cx_core.specs.Views.{view_expr, view_type};
 ghost use Rattle.cx_kinds.specs.Known.{IsKnown, types_in};
 ghost use Rattle.cx_nodes.specs.Pointers.{is_deref, pointer_in, deref_plain};
 ghost use Rattle.cx_operands.specs.Views.{view_operand};
 ghost use Rattle.cx_rules.specs.Meanings.{deref_meaning, index_meaning, address_meaning, address_of_place};
+ghost use Rattle.cx_rules.specs.Operands.{a_value};
 ghost use Rattle.cx_rules.specs.Types.{target_of};
 
 use crate::constants::no_meaning;
@@ -64,11 +65,23 @@ fn target_copy(alloc: Global, t: &Ty) -> Result<Option<Boxed<Ty>>, Memory>
 pub fn address_meaning(alloc: Global, at: Place, of: Operand) -> Result<Operand, Memory>
     ensures { IfOk result (λ made. view_operand made ≡ address_meaning at (view_operand of)) }
 {
-    if is_place(&of) {
-        let core = address_of_place(alloc, at, of.core)?;
-        Ok(a_value(core))
+    let is_place = is_place(&of);
+    addressed(alloc, at, is_place, of.core)
+}
+
+fn addressed(
+    alloc: Global,
+    at: Place,
+    is_place: bool,
+    core: Boxed<CoreExpr>,
+) -> Result<Operand, Memory>
+    ensures { IfOk result (λ made. view_operand made ≡ a_value (if is_place then address_of_place at (view_expr core) else view_expr core)) }
+{
+    if is_place {
+        let made = address_of_place(alloc, at, core)?;
+        Ok(a_value(made))
     } else {
-        Ok(a_value(of.core))
+        Ok(a_value(core))
     }
 }
 

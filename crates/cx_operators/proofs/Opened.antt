@@ -1,8 +1,7 @@
 -- What trees stand for, open one node deep.
 use Rattle.std.proofs.Common.{rules, ◌≡◌, refl}
 use Rattle.cx_core.specs.declared.expr.CoreExpr.{CoreExpr, fold_out-CoreExpr}
-use Rattle.cx_core.specs.declared.ty.Ty.{fold_out-Ty}
-use Rattle.cx_core.specs.Trees.{CTy, ty, type_of, is_const_type, unqualified}
+use Rattle.cx_core.specs.Trees.{CTy, ty, type_of, unqualified}
 use Rattle.cx_core.specs.Views.{view_expr, view_type}
 
 pub type_of_view : (e : CoreExpr) → type_of (view_expr e) ≡ view_type e.ty

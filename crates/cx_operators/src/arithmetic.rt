@@ -13,11 +13,7 @@ use cx_values::{converted_to, fitted, value_of};
 use std::alloc::Global;
 
 // The value of an operand, converted to a type.
-pub(crate) fn value_in(
-    alloc: Global,
-    t: &Ty,
-    operand: Operand,
-) -> Result<Boxed<CoreExpr>, Memory>
+pub(crate) fn value_in(alloc: Global, t: &Ty, operand: Operand) -> Result<Boxed<CoreExpr>, Memory>
     ensures { IfOk result (λ made. view_expr made ≡ converted_to (view_type t.now) (value_of (view_operand operand))) }
 {
     let value = value_of(alloc, operand)?;

@@ -42,11 +42,7 @@ fn unqualified_ty_of(alloc: Global, v: ValueTy<'_>) -> Result<Boxed<Ty>, Memory>
 
 /// The promoted type of an operand; another type than an integer type stays, without its qualifier (ISO C99, 6.3.1.1p2).
 /// Refused only for want of memory.
-pub fn promoted_ty(
-    alloc: Global,
-    types: &Types,
-    operand: &Operand,
-) -> Result<Boxed<Ty>, Memory>
+pub fn promoted_ty(alloc: Global, types: &Types, operand: &Operand) -> Result<Boxed<Ty>, Memory>
     ensures { IfOk result (λ made. view_type made ≡ promoted_type (view_types types.now) (view_operand operand.now)) }
 {
     let v = value_type(operand);
@@ -95,11 +91,7 @@ fn is_comparison(op: Op2) -> bool
 }
 
 // The type of what an operator gives that computes in a type.
-pub(crate) fn result_ty(
-    alloc: Global,
-    op: Op2,
-    computes: Boxed<Ty>,
-) -> Result<Boxed<Ty>, Memory>
+pub(crate) fn result_ty(alloc: Global, op: Op2, computes: Boxed<Ty>) -> Result<Boxed<Ty>, Memory>
     ensures { IfOk result (λ made. view_type made ≡ result_of op (view_type computes)) }
 {
     if is_comparison(op) {

@@ -1,9 +1,9 @@
 -- Two structures or unions of one unit are compatible where they are the same.
-use Rattle.std.proofs.Common.{◌≡◌, refl, ap, ◌∙◌, ℕ, Bool, true, false, List, []}
-use Rattle.std.specs.Prelude.{◌==◌, ◌&&◌, ◌||◌, Option, None, Some, is_some}
+use Rattle.std.proofs.Common.{◌≡◌, refl, ap, ◌∙◌, ℕ, Bool, true, false, []}
+use Rattle.std.specs.Prelude.{◌==◌, ◌&&◌, ◌||◌, Some, is_some}
 use Rattle.std.specs.Bool.{beq}
 use Rattle.cx_core.specs.Compatible.{in_pairs, forms_agree}
-use Rattle.cx_core.specs.Trees.{CTy, ty, CTyForm, void, basic, enum_type, pointer, array, record_type, function, is_const_type, CTypes, unqualified}
+use Rattle.cx_core.specs.Trees.{CTy, ty, CTyForm, void, basic, enum_type, pointer, array, record_type, function, is_const_type, CTypes}
 use Rattle.cx_pairs.specs.Records.{is_numbered}
 use Rattle.cx_rules.specs.Pairs.{records_match}
 use Rattle.cx_rules.specs.Types.{compatible, record_of, record_of_form}

@@ -6,7 +6,6 @@ use Rattle.cx_core.specs.Trees.{CTypes, record_type}
 use Rattle.cx_core.specs.ValidTypes.{spot_of}
 use Rattle.cx_layout.specs.Calls.{AreLayoutsOf, spot_at}
 use Rattle.std.specs.Option.{option_and_then}
-use Rattle.cr_base.specs.declared.layout.Spot.{Spot}
 
 spot_as : (types : CTypes) (number index : ℕ) (row : Option CRow) → row_at (layouts_of types) number ≡ row
     → option_and_then (λ one. slice_get one.spots index) row ≡ spot_of types (record_type number) index

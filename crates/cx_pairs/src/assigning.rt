@@ -21,7 +21,12 @@ use cx_operands::{Operand, ValueTy, is_null_operand, value_type};
 pub fn may_be_assigned(types: &Types, target: &Ty, value: &Operand) -> bool
     ensures { result ≡ is_assignable (view_types types.now) (view_type target.now) (value_of (view_operand value.now)) }
 {
-    types_match(types, target, value_type(value), is_null_operand(types, value))
+    types_match(
+        types,
+        target,
+        value_type(value),
+        is_null_operand(types, value),
+    )
 }
 
 fn types_match(types: &Types, target: &Ty, value: ValueTy<'_>, is_null: bool) -> bool

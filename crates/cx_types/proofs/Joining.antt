@@ -1,5 +1,5 @@
 -- Loops that join two lists of types.
-use Rattle.std.proofs.Common.{◌≡◌, nat_lt, ℕ, suc, ◌+◌, ◌<◌, ◌≤◌, List, [], ◌∷◌, ◌++◌, map, drop, length, get_or, refl, sym, ap, ◌∙◌, arith, add-one, drop-cons, append_assoc}
+use Rattle.std.proofs.Common.{◌≡◌, ℕ, suc, ◌+◌, ◌<◌, ◌≤◌, List, [], ◌∷◌, ◌++◌, map, drop, length, get_or, refl, sym, ap, ◌∙◌, arith, add-one, drop-cons, append_assoc}
 use Rattle.std.proofs.lemmas.List.{append-nil, map-append}
 use Rattle.std.proofs.Math.ListN.{drop_of_length-le}
 use Rattle.cx_core.specs.Trees.{CTy, more_types}

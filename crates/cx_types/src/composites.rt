@@ -89,11 +89,7 @@ fn known_length(first: Option<u64>, second: Option<u64>) -> Option<u64>
 }
 
 /// The composite type of the unqualified versions of two types (ISO C99, 6.5.15p6). Refused only for want of memory.
-pub fn unqualified_composite(
-    alloc: Global,
-    first: &Ty,
-    second: &Ty,
-) -> Result<Boxed<Ty>, Memory>
+pub fn unqualified_composite(alloc: Global, first: &Ty, second: &Ty) -> Result<Boxed<Ty>, Memory>
     ensures { IfOk result (λ made. view_type made ≡ unqualified_composite (view_type first.now) (view_type second.now)) }
 {
     let one = requalified(alloc, first, false)?;

@@ -9,11 +9,7 @@ use cx_core::{FunctionTy, Params, Ty, TyForm};
 use std::alloc::Global;
 
 // A type with its qualifier replaced.
-pub(crate) fn requalified(
-    alloc: Global,
-    t: &Ty,
-    is_const: bool,
-) -> Result<Boxed<Ty>, Memory>
+pub(crate) fn requalified(alloc: Global, t: &Ty, is_const: bool) -> Result<Boxed<Ty>, Memory>
     ensures { IfOk result (λ made. view_type made ≡ ty (form_of_type (view_type t.now)) is_const) }
 {
     let copied = t.copy(alloc)?;

@@ -1,0 +1,4 @@
+pub mod Arrays
+pub mod Derivation
+pub mod Members
+pub mod Written
