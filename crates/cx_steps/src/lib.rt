@@ -4,13 +4,14 @@
 
 mod expressions;
 mod lasts;
+mod marks;
 mod names;
 mod types;
+mod uses;
 
 pub use expressions::{
-    arrow_seen, assign_seen, binary_seen, call_seen, cast_seen, comma_seen, cond_seen, dot_seen,
-    index_seen, letter_seen, name_seen, number_seen, sizeof_seen, sizeof_type_seen, step_seen,
-    text_seen, unary_seen,
+    arrow_seen, assign_seen, binary_seen, cast_seen, comma_seen, cond_seen, dot_seen, index_seen,
+    letter_seen, number_seen, sizeof_type_seen, step_seen, unary_seen,
 };
 pub use lasts::{ends_declarators, ends_decls};
 pub use names::{calls_by_name, is_single};
@@ -18,3 +19,4 @@ pub use types::{
     array_seen, derives_seen, enum_ended, enum_use_seen, enumerator_seen, identifiers_seen,
     member_seen, param_seen, params_ended, record_ended, record_use_seen, specs_seen, typedef_seen,
 };
+pub use uses::{call_seen, name_seen, sizeof_seen, text_seen};
