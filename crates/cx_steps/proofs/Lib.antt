@@ -1,3 +1,4 @@
 pub mod Named
+pub mod Opened
 pub mod Settling
 pub mod Single

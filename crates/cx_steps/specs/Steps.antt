@@ -4,10 +4,11 @@ use Rattle.cx_core.specs.declared.expr.Op2.{Op2}
 use Rattle.cx_core.specs.Trees.{CTy, ty, enum_type, type_of, CMember}
 use Rattle.cx_lex.specs.declared.token.Ty0.{Ty0}
 use Rattle.cx_rules.specs.declared.kinds.SpecsPlace.{SpecsPlace}
+use Rattle.cx_rules.specs.Initial.{text_type}
 use Rattle.cx_rules.specs.Meanings.{size_meaning}
-use Rattle.cx_rules.specs.Nodes.{sizeof_expr_node, enum_node}
+use Rattle.cx_rules.specs.Nodes.{literal_node, sizeof_expr_node, enum_node}
 use Rattle.cx_rules.specs.Operands.{COperand}
-use Rattle.cx_rules.specs.Pieces.{CUnary, CBinary, at_line, with_closed_enum, declared_since}
+use Rattle.cx_rules.specs.Pieces.{CUnary, CBinary, at_line, with_text, text_meaning, with_closed_enum, declared_since}
 use Rattle.cx_rules.specs.Readings.{Check, check_gives, check_chain, check_here, check_becomes, check_look}
 use Rattle.cx_rules.specs.Scope.{CScope, CTag, left}
 use Rattle.cx_rules.specs.Shapes.{CSpecs, with_type, CParam, CStep, to_function, CShape, step_before}
@@ -135,3 +136,8 @@ abbrev pub params_ended : (count begins : ℕ) → List CParam → Bool → CSha
 params_ended count begins params variadic shape = check_chain _ _ check_here (λ scope.
     check_chain _ _ (check_becomes (left count begins scope)) (λ _.
     check_gives _ (step_before (to_function (Some params) variadic (declared_since count scope)) shape)))
+
+-- a string literal of these bytes
+abbrev pub bytes_seen : List ℕ → ℕ → Check COperand
+bytes_seen bytes line = check_chain _ _ check_here (λ scope.
+    walk.changed Check check_gives check_chain check_here check_becomes check_look scope line (literal_node (text_type bytes)) (with_text line bytes scope) (text_meaning scope line bytes))

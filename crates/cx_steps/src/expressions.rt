@@ -17,19 +17,21 @@ ghost use Rattle.cx_tree.specs.Views.{expr_view};
 use crate::marks::{Binary, Unary, assignment_of, binary_of, unary_of};
 use cr_base::{Int, Items, Memory, Name, Place, Stop};
 use cx_breaks::{
-    address_rule, arrow_rule, assign_by_rule, assign_rule, binary_rule, cast_rule, comma_rule, cond_rule, deref_rule,
-    dot_rule, index_rule, sizeof_type_rule, step_rule, tests_rule, unary_rule,
+    address_rule, arrow_rule, assign_by_rule, assign_rule, binary_rule, cast_rule, comma_rule,
+    cond_rule, deref_rule, dot_rule, index_rule, sizeof_type_rule, step_rule, tests_rule,
+    unary_rule,
 };
 use cx_context::Context;
 use cx_core::{Op1, Op2, Ty};
 use cx_lex::{Punct, Ty0};
 use cx_nodes::{
-    address_meaning, arrow_meaning, cast_meaning, cond_meaning, deref_meaning, dot_meaning, index_meaning, int_meaning,
-    number_meaning, size_meaning,
+    address_meaning, arrow_meaning, cast_meaning, cond_meaning, deref_meaning, dot_meaning,
+    index_meaning, int_meaning, number_meaning, size_meaning,
 };
 use cx_operands::Operand;
 use cx_operators::{
-    and_meaning, assign_by_meaning, assign_meaning, binary_meaning, comma_meaning, or_meaning, step_meaning, unary_meaning,
+    and_meaning, assign_by_meaning, assign_meaning, binary_meaning, comma_meaning, or_meaning,
+    step_meaning, unary_meaning,
 };
 use cx_tree::Expr;
 use cx_values::value_of;
@@ -122,12 +124,7 @@ pub fn index_seen(
 }
 
 /// A member (ISO C99, 6.5.2.3).
-pub fn dot_seen(
-    context: &Context,
-    line: u32,
-    of: Operand,
-    name: &[u8],
-) -> Result<Operand, Stop>
+pub fn dot_seen(context: &Context, line: u32, of: Operand, name: &[u8]) -> Result<Operand, Stop>
     ensures { Checks view_operand result (scope_of context.now) (steps.dot_seen line (view_operand of) name.now (scope_of context.now)) }
 {
     let known = context.known();
@@ -140,12 +137,7 @@ pub fn dot_seen(
 }
 
 /// A member of what a pointer points to (ISO C99, 6.5.2.3).
-pub fn arrow_seen(
-    context: &Context,
-    line: u32,
-    of: Operand,
-    name: &[u8],
-) -> Result<Operand, Stop>
+pub fn arrow_seen(context: &Context, line: u32, of: Operand, name: &[u8]) -> Result<Operand, Stop>
     ensures { Checks view_operand result (scope_of context.now) (steps.arrow_seen line (view_operand of) name.now (scope_of context.now)) }
 {
     let known = context.known();
@@ -177,11 +169,7 @@ pub fn step_seen(
 }
 
 // The address of an operand (ISO C99, 6.5.3.2).
-fn address_seen(
-    context: &Context,
-    line: u32,
-    of: Operand,
-) -> Result<Operand, Stop>
+fn address_seen(context: &Context, line: u32, of: Operand) -> Result<Operand, Stop>
     ensures { Checks view_operand result (scope_of context.now) (steps.unary_seen line takes_address (view_operand of) (scope_of context.now)) }
 {
     let known = context.known();
@@ -194,11 +182,7 @@ fn address_seen(
 }
 
 // What a pointer points to (ISO C99, 6.5.3.2).
-fn deref_seen(
-    context: &Context,
-    line: u32,
-    of: Operand,
-) -> Result<Operand, Stop>
+fn deref_seen(context: &Context, line: u32, of: Operand) -> Result<Operand, Stop>
     ensures { Checks view_operand result (scope_of context.now) (steps.unary_seen line follows (view_operand of) (scope_of context.now)) }
 {
     let known = context.known();
@@ -211,12 +195,7 @@ fn deref_seen(
 }
 
 // An operator that computes (ISO C99, 6.5.3.3).
-fn compute_seen(
-    context: &Context,
-    line: u32,
-    op: Op1,
-    on: Operand,
-) -> Result<Operand, Stop>
+fn compute_seen(context: &Context, line: u32, op: Op1, on: Operand) -> Result<Operand, Stop>
     ensures { Checks view_operand result (scope_of context.now) (steps.unary_seen line (computes op) (view_operand on) (scope_of context.now)) }
 {
     let known = context.known();
@@ -229,11 +208,7 @@ fn compute_seen(
 }
 
 /// `sizeof` of a type (ISO C99, 6.5.3.4).
-pub fn sizeof_type_seen(
-    context: &Context,
-    line: u32,
-    of: &Ty,
-) -> Result<Operand, Stop>
+pub fn sizeof_type_seen(context: &Context, line: u32, of: &Ty) -> Result<Operand, Stop>
     ensures { Checks view_operand result (scope_of context.now) (steps.sizeof_type_seen line (view_type of.now) (scope_of context.now)) }
 {
     let known = context.known();
@@ -246,12 +221,7 @@ pub fn sizeof_type_seen(
 }
 
 /// A cast (ISO C99, 6.5.4).
-pub fn cast_seen(
-    context: &Context,
-    line: u32,
-    to: &Ty,
-    on: Operand,
-) -> Result<Operand, Stop>
+pub fn cast_seen(context: &Context, line: u32, to: &Ty, on: Operand) -> Result<Operand, Stop>
     ensures { Checks view_operand result (scope_of context.now) (steps.cast_seen line (view_type to.now) (view_operand on) (scope_of context.now)) }
 {
     let known = context.known();
@@ -264,12 +234,7 @@ pub fn cast_seen(
 }
 
 // `&&` (ISO C99, 6.5.13).
-fn and_seen(
-    context: &Context,
-    line: u32,
-    left: Operand,
-    right: Operand,
-) -> Result<Operand, Stop>
+fn and_seen(context: &Context, line: u32, left: Operand, right: Operand) -> Result<Operand, Stop>
     ensures { Checks view_operand result (scope_of context.now) (steps.binary_seen line tests_both (view_operand left) (view_operand right) (scope_of context.now)) }
 {
     let known = context.known();
@@ -282,12 +247,7 @@ fn and_seen(
 }
 
 // `||` (ISO C99, 6.5.14).
-fn or_seen(
-    context: &Context,
-    line: u32,
-    left: Operand,
-    right: Operand,
-) -> Result<Operand, Stop>
+fn or_seen(context: &Context, line: u32, left: Operand, right: Operand) -> Result<Operand, Stop>
     ensures { Checks view_operand result (scope_of context.now) (steps.binary_seen line tests_either (view_operand left) (view_operand right) (scope_of context.now)) }
 {
     let known = context.known();
