@@ -6,7 +6,7 @@ ghost use Rattle.cx_core.specs.Views.{view_type};
 ghost use Rattle.cx_rules.specs.Pieces.{called, used, with_text, with_used, continued, seen_tag, tag_number, with_open_enum, with_closed_enum, with_param, declared_since};
 ghost use Rattle.cx_rules.specs.Rules.{is_taken};
 ghost use Rattle.cx_rules.specs.Scope.{ordinary, with_declared, with_call, entered, left};
-ghost use Rattle.cx_scope.specs.Changes.{cut_back, without_newest};
+ghost use Rattle.cx_scope.specs.Changes.{cut_back};
 ghost use Rattle.cx_scope.specs.Views.{view_declared, view_meant, view_param, view_tag};
 
 use crate::context::Context;
@@ -139,12 +139,13 @@ impl Context {
         self.scope.leave(count, begins);
     }
 
-    /// The newest declarations, down to so many, are taken out of scope: the newest first.
-    pub fn take_since(&mut self, count: u64) -> Result<Items<Declared>, Memory>
-        ensures taken { IfOk result (λ newest. map view_declared newest ≡ declared_since count (scope_of self.old)) }
-        ensures left { OnOk result (scope_of self.new ≡ without_newest count (scope_of self.old)) }
+    /// A scope ends that began with so many declarations, and gives its own, the newest first; the one around it began with so
+    /// many.
+    pub fn close(&mut self, count: u64, begins: u64) -> Result<Items<Declared>, Memory>
+        ensures own { IfOk result (λ newest. map view_declared newest ≡ declared_since count (scope_of self.old)) }
+        ensures left { OnOk result (scope_of self.new ≡ left count begins (scope_of self.old)) }
     {
-        let newest = self.scope.take_since(count)?;
+        let newest = self.scope.close(count, begins)?;
         Ok(newest)
     }
 

@@ -1,4 +1,6 @@
-use Rattle.std.proofs.Common.{rules, ◌≡◌, refl, sym, ap, ◌∙◌, map, option_map, length}
+use Rattle.std.proofs.Common.{rules, ◌≡◌, refl, sym, subst, ap, ◌∙◌, map, option_map, length}
+use Rattle.cx_breaks.specs.Placed.{placed}
+use Rattle.cx_rules.specs.Rules.{rule_at}
 use Rattle.cx_context.specs.Checks.{refusal_of}
 use Rattle.cx_context.specs.Views.{scope_of}
 use Rattle.cx_core.specs.Views.{view_type, view_expr}
@@ -18,7 +20,7 @@ returns-in-Some c = refused_step view_operand _ (scope_of c.args.context.now) _ 
     (changed_no _ (types_in c.known-known.result) (scope_of c.args.context.now) c.args.line (literal_node (text_type c.args.bytes.now))
     (with_text c.args.line c.args.bytes.now (scope_of c.args.context.now))
     (text_meaning (scope_of c.args.context.now) c.args.line c.args.bytes.now)
-    c.literal_rule.result c.in-Some.rule c.known-known.ensures.types (c.literal_rule.ensures (scope_of c.args.context.now) c.args.line) c.in-Some.is)
+    c.literal_rule.result c.in-Some.rule c.known-known.ensures.types (subst (λ type. c.literal_rule.result ≡ rule_at (placed (types_in c.known-known.result) (scope_of c.args.context.now) c.args.line (literal_node type))) (search rules) (c.literal_rule.ensures (scope_of c.args.context.now) c.args.line)) c.in-Some.is)
 
 pub returns : goal.returns
 unfolding check_chain check_here
@@ -28,5 +30,5 @@ returns c =
     changed_ok _ (types_in c.known-known.result) (scope_of c.args.context.now) c.args.line (literal_node (text_type c.args.bytes.now))
     (with_text c.args.line c.args.bytes.now (scope_of c.args.context.now))
     (text_meaning (scope_of c.args.context.now) c.args.line c.args.bytes.now)
-    c.literal_rule.result c.known-known.ensures.types (c.literal_rule.ensures (scope_of c.args.context.now) c.args.line) c.in_default.is
+    c.literal_rule.result c.known-known.ensures.types (subst (λ type. c.literal_rule.result ≡ rule_at (placed (types_in c.known-known.result) (scope_of c.args.context.now) c.args.line (literal_node type))) (search rules) (c.literal_rule.ensures (scope_of c.args.context.now) c.args.line)) c.in_default.is
     ∙ (ap (λ meaning. fine meaning (with_text c.args.line c.args.bytes.now (scope_of c.args.context.now))) (sym made) ∙ ap (λ scope. fine (view_operand c.in_ok-made.made) scope) (sym after))

@@ -1,4 +1,6 @@
-use Rattle.std.proofs.Common.{rules, ◌≡◌, refl, sym, ap, ◌∙◌, map, option_map, length}
+use Rattle.std.proofs.Common.{rules, ◌≡◌, refl, sym, subst, ap, ◌∙◌, map, option_map, length}
+use Rattle.cx_breaks.specs.Placed.{placed}
+use Rattle.cx_rules.specs.Rules.{rule_at}
 use Rattle.cx_context.specs.Checks.{refusal_of}
 use Rattle.cx_context.specs.Views.{scope_of}
 use Rattle.cx_core.specs.Views.{view_type, view_expr}
@@ -18,7 +20,7 @@ returns-in-Some c = refused_step view_operand _ (scope_of c.args.context.now) _ 
     (changed_no _ (types_in c.known-known.result) (scope_of c.args.context.now) c.args.line (call_node (view_operand c.args.callee) (map view_operand c.args.args))
     (called c.args.by_name c.args.mentioned (trailing_types (scope_of c.args.context.now).types (view_operand c.args.callee) (map view_operand c.args.args)) (scope_of c.args.context.now))
     (call_meaning (at_line (scope_of c.args.context.now) c.args.line) (scope_of c.args.context.now).types c.args.by_name (view_operand c.args.callee) (map view_operand c.args.args))
-    c.call_rule.result c.in-Some.rule c.known-known.ensures.types (c.call_rule.ensures (scope_of c.args.context.now) c.args.line) c.in-Some.is)
+    c.call_rule.result c.in-Some.rule c.known-known.ensures.types (subst (λ list. c.call_rule.result ≡ rule_at (placed (types_in c.known-known.result) (scope_of c.args.context.now) c.args.line (call_node (view_operand c.args.callee) (map view_operand list)))) c.as_slice-list.ensures (c.call_rule.ensures (scope_of c.args.context.now) c.args.line)) c.in-Some.is)
 
 pub returns : goal.returns
 unfolding check_chain check_here
@@ -28,5 +30,5 @@ returns c =
     changed_ok _ (types_in c.known-known.result) (scope_of c.args.context.now) c.args.line (call_node (view_operand c.args.callee) (map view_operand c.args.args))
     (called c.args.by_name c.args.mentioned (trailing_types (scope_of c.args.context.now).types (view_operand c.args.callee) (map view_operand c.args.args)) (scope_of c.args.context.now))
     (call_meaning (at_line (scope_of c.args.context.now) c.args.line) (scope_of c.args.context.now).types c.args.by_name (view_operand c.args.callee) (map view_operand c.args.args))
-    c.call_rule.result c.known-known.ensures.types (c.call_rule.ensures (scope_of c.args.context.now) c.args.line) c.in_default.is
+    c.call_rule.result c.known-known.ensures.types (subst (λ list. c.call_rule.result ≡ rule_at (placed (types_in c.known-known.result) (scope_of c.args.context.now) c.args.line (call_node (view_operand c.args.callee) (map view_operand list)))) c.as_slice-list.ensures (c.call_rule.ensures (scope_of c.args.context.now) c.args.line)) c.in_default.is
     ∙ (ap (λ meaning. fine meaning (called c.args.by_name c.args.mentioned (trailing_types (scope_of c.args.context.now).types (view_operand c.args.callee) (map view_operand c.args.args)) (scope_of c.args.context.now))) (sym made) ∙ ap (λ scope. fine (view_operand c.in_ok-made.made) scope) (sym after))
