@@ -1,4 +1,5 @@
 pub mod Named
+pub mod Numbers
 pub mod Opened
 pub mod Settling
 pub mod Single

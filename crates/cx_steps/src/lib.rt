@@ -6,8 +6,11 @@ mod expressions;
 mod lasts;
 mod marks;
 mod names;
+mod params;
 mod types;
+mod unwritten;
 mod uses;
+mod written;
 
 pub use expressions::{
     arrow_seen, assign_seen, binary_seen, cast_seen, comma_seen, cond_seen, dot_seen, index_seen,
@@ -15,8 +18,11 @@ pub use expressions::{
 };
 pub use lasts::{ends_declarators, ends_decls};
 pub use names::{calls_by_name, is_single};
+pub use params::param_seen;
 pub use types::{
-    array_seen, derives_seen, enum_ended, enum_use_seen, enumerator_seen, identifiers_seen,
-    member_seen, param_seen, params_ended, record_ended, record_use_seen, specs_seen, typedef_seen,
+    derives_seen, enum_ended, enum_use_seen, identifiers_seen, params_ended, record_use_seen,
+    specs_seen, typedef_seen,
 };
+pub use unwritten::record_ended;
 pub use uses::{call_seen, name_seen, sizeof_seen, text_seen};
+pub use written::{array_seen, enumerator_seen, member_seen};

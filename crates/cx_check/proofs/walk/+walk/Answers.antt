@@ -14,8 +14,8 @@ pub call_form-returns-in_ok-given-in-Call : goal.call_form-returns-in_ok-given-i
 call_form-returns-in_ok-given-in-Call n c =
     subst (λ walked. Checks view_operand c.call_seen.result (scope_of c.call_seen.new.context) walked)
     (call_is (expr_view c.get-of.result.now) (expr_trees (map expr_view c.as_slice.result.now)) c.in-Call.lines (scope_of c.args.context.now)
-        (scope_of c.expr.new.context) (scope_of c.exprs.new.context) (view_operand c.in_ok-callee-in-Call.callee) (map view_operand c.in_ok-given-in-Call.given)
-        c.mention_count-mentioned.result c.in_ok-callee-in-Call.ensures c.in_ok-given-in-Call.ensures c.mention_count-mentioned.ensures
+    (scope_of c.expr.new.context) (scope_of c.exprs.new.context) (view_operand c.in_ok-callee-in-Call.callee) (map view_operand c.in_ok-given-in-Call.given)
+    c.mention_count-mentioned.result c.in_ok-callee-in-Call.ensures c.in_ok-given-in-Call.ensures c.mention_count-mentioned.ensures
     ∙ (ap (λ of. check_expr (Call (expr_view of) (expr_trees (map expr_view c.as_slice.result.now)) c.in-Call.lines) (scope_of c.args.context.now)) c.get-of.ensures
     ∙ (ap (λ args. check_expr (Call (expr_view c.in-Call.of) (expr_trees (map expr_view args)) c.in-Call.lines) (scope_of c.args.context.now)) c.as_slice.ensures
     ∙ (ap (λ tree. check_expr tree (scope_of c.args.context.now)) (sym (call_view c.in-Call.of c.in-Call.args c.in-Call.lines))
@@ -27,9 +27,9 @@ sizeof_form-returns-in_ok-one-in-SizeofExpr n c =
     subst (λ walked. Checks view_operand c.sizeof_seen.result (scope_of c.sizeof_seen.new.context) walked)
     (ap (λ line. steps.sized line c.literal_count-literals.result c.mention_count-mentions.result (view_operand c.in_ok-one-in-SizeofExpr.one) (scope_of c.expr.new.context)) c.own_line.ensures
     ∙ (sizeof_is (expr_view c.get-on.result.now) c.in-SizeofExpr.lines (scope_of c.args.context.now) (scope_of c.expr.new.context) (view_operand c.in_ok-one-in-SizeofExpr.one)
-        c.literal_count-literals.result c.mention_count-mentions.result c.in_ok-one-in-SizeofExpr.ensures
-        (c.expressions_keep.ensures (expr_view c.get-on.result.now) (scope_of c.args.context.now) (view_operand c.in_ok-one-in-SizeofExpr.one) (scope_of c.expr.new.context) c.in_ok-one-in-SizeofExpr.ensures)
-        c.literal_count-literals.ensures c.mention_count-mentions.ensures
+    c.literal_count-literals.result c.mention_count-mentions.result c.in_ok-one-in-SizeofExpr.ensures
+    (c.expressions_keep.ensures (expr_view c.get-on.result.now) (scope_of c.args.context.now) (view_operand c.in_ok-one-in-SizeofExpr.one) (scope_of c.expr.new.context) c.in_ok-one-in-SizeofExpr.ensures)
+    c.literal_count-literals.ensures c.mention_count-mentions.ensures
     ∙ (ap (λ on. check_expr (SizeofExpr (expr_view on) c.in-SizeofExpr.lines) (scope_of c.args.context.now)) c.get-on.ensures
     ∙ (ap (λ tree. check_expr tree (scope_of c.args.context.now)) (sym (sizeof_view c.in-SizeofExpr.on c.in-SizeofExpr.lines))
     ∙ ap (λ e. check_expr (expr_view e) (scope_of c.args.context.now)) (sym c.in-SizeofExpr.is)))))

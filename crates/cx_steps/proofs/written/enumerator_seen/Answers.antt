@@ -1,0 +1,39 @@
+use Rattle.std.proofs.Common.{rules, ◌≡◌, refl, sym, subst, ap, ◌∙◌, map, option_map, ℤ}
+use Rattle.cx_breaks.specs.Placed.{placed}
+use Rattle.cx_context.specs.Checks.{refusal_of}
+use Rattle.cx_context.specs.Views.{scope_of}
+use Rattle.cx_core.specs.Views.{view_member, view_type}
+use Rattle.cx_kinds.specs.Known.{types_in}
+use Rattle.cx_operands.specs.Views.{view_operand}
+use Rattle.cx_rules.specs.Readings.{fine, check_chain, check_here}
+use Rattle.cx_rules.specs.Rules.{rule_at}
+use Rattle.cx_shapes.specs.Views.{view_step}
+use Rattle.cx_steps.proofs.Settling.{refused_step, settled_no, settled_ok, changed_no, changed_ok}
+use Rattle.cx_rules.specs.Nodes.{enumerator_node}
+use Rattle.cx_rules.specs.Scope.{an_enumerator, with_declared}
+use Rattle.cx_steps.proofs.Numbers.{enumerator_is}
+use Rattle.cx_steps.specs.Written.{value_given}
+use Rattle.cx_steps.proofs.written.enumerator_seen.Goals as goal
+
+pub returns-in-Some : goal.returns-in-Some
+returns-in-Some c =
+    let value : c.value_given-value.result ≡ (value_given (scope_of c.args.context.now).types c.args.next (option_map view_operand c.args.written)) = search rules in
+    refused_step (λ (one : ℤ). one) _ (scope_of c.args.context.now) _ (refusal_of (scope_of c.args.context.now).unit c.args.line c.in-Some.rule) c.refused.ensures
+    (enumerator_is c.args.name.now c.args.line c.args.next (option_map view_operand c.args.written) (scope_of c.args.context.now)
+    ∙ changed_no _ (types_in c.known-known.result) (scope_of c.args.context.now) c.args.line (enumerator_node c.args.name.now (option_map view_operand c.args.written) (value_given (scope_of c.args.context.now).types c.args.next (option_map view_operand c.args.written))) (with_declared c.args.name.now (an_enumerator (value_given (scope_of c.args.context.now).types c.args.next (option_map view_operand c.args.written))) (scope_of c.args.context.now)) (value_given (scope_of c.args.context.now).types c.args.next (option_map view_operand c.args.written))
+    c.enumerator_rule.result c.in-Some.rule c.known-known.ensures.types
+    (subst (λ given. c.enumerator_rule.result ≡ rule_at (placed (types_in c.known-known.result) (scope_of c.args.context.now) c.args.line (enumerator_node c.args.name.now (option_map view_operand c.args.written) given))) value
+    (subst (λ one. c.enumerator_rule.result ≡ rule_at (placed (types_in c.known-known.result) (scope_of c.args.context.now) c.args.line (enumerator_node c.args.name.now one c.value_given-value.result))) c.operand_in-given.ensures
+    (c.enumerator_rule.ensures (scope_of c.args.context.now) c.args.line c.args.name.now (sym c.is_taken-taken.ensures)))) c.in-Some.is)
+
+pub returns : goal.returns
+returns c =
+    let value : c.value_given-value.result ≡ (value_given (scope_of c.args.context.now).types c.args.next (option_map view_operand c.args.written)) = search rules in
+    let after : scope_of c.add.new.self ≡ (with_declared c.args.name.now (an_enumerator (value_given (scope_of c.args.context.now).types c.args.next (option_map view_operand c.args.written))) (scope_of c.args.context.now)) = search rules in
+    enumerator_is c.args.name.now c.args.line c.args.next (option_map view_operand c.args.written) (scope_of c.args.context.now)
+    ∙ (changed_ok _ (types_in c.known-known.result) (scope_of c.args.context.now) c.args.line (enumerator_node c.args.name.now (option_map view_operand c.args.written) (value_given (scope_of c.args.context.now).types c.args.next (option_map view_operand c.args.written))) (with_declared c.args.name.now (an_enumerator (value_given (scope_of c.args.context.now).types c.args.next (option_map view_operand c.args.written))) (scope_of c.args.context.now)) (value_given (scope_of c.args.context.now).types c.args.next (option_map view_operand c.args.written))
+    c.enumerator_rule.result c.known-known.ensures.types
+    (subst (λ given. c.enumerator_rule.result ≡ rule_at (placed (types_in c.known-known.result) (scope_of c.args.context.now) c.args.line (enumerator_node c.args.name.now (option_map view_operand c.args.written) given))) value
+    (subst (λ one. c.enumerator_rule.result ≡ rule_at (placed (types_in c.known-known.result) (scope_of c.args.context.now) c.args.line (enumerator_node c.args.name.now one c.value_given-value.result))) c.operand_in-given.ensures
+    (c.enumerator_rule.ensures (scope_of c.args.context.now) c.args.line c.args.name.now (sym c.is_taken-taken.ensures)))) c.in_default.is
+    ∙ (ap (λ meaning. fine meaning (with_declared c.args.name.now (an_enumerator (value_given (scope_of c.args.context.now).types c.args.next (option_map view_operand c.args.written))) (scope_of c.args.context.now))) (sym value) ∙ ap (λ scope. fine c.value_given-value.result scope) (sym after)))

@@ -1,0 +1,34 @@
+use Rattle.std.proofs.Common.{rules, ◌≡◌, refl, sym, subst, ap, ◌∙◌, map, option_map, ℤ}
+use Rattle.cx_breaks.specs.Placed.{placed}
+use Rattle.cx_context.specs.Checks.{refusal_of}
+use Rattle.cx_context.specs.Views.{scope_of}
+use Rattle.cx_core.specs.Views.{view_member, view_type}
+use Rattle.cx_kinds.specs.Known.{types_in}
+use Rattle.cx_operands.specs.Views.{view_operand}
+use Rattle.cx_rules.specs.Readings.{fine, check_chain, check_here}
+use Rattle.cx_rules.specs.Rules.{rule_at}
+use Rattle.cx_shapes.specs.Views.{view_step}
+use Rattle.cx_steps.proofs.Settling.{refused_step, settled_no, settled_ok, changed_no, changed_ok}
+use Rattle.cx_rules.specs.Nodes.{member_node}
+use Rattle.cx_rules.specs.Pieces.{member_of, width_written}
+use Rattle.cx_steps.proofs.written.member_seen.Goals as goal
+
+pub returns-in-Some : goal.returns-in-Some
+unfolding check_chain check_here
+returns-in-Some c = refused_step view_member _ (scope_of c.args.context.now) _ (refusal_of (scope_of c.args.context.now).unit c.args.line c.in-Some.rule) c.refused.ensures
+    (settled_no _ (types_in c.known-known.result) (scope_of c.args.context.now) c.args.line (member_node c.args.is_last c.args.name (view_type c.args.ty) (option_map view_operand c.args.width) (map view_member c.args.before.now)) (member_of (scope_of c.args.context.now).types c.args.name (view_type c.args.ty) (option_map view_operand c.args.width))
+    c.member_rule.result c.in-Some.rule c.known-known.ensures.types (subst (λ list. c.member_rule.result ≡ rule_at (placed (types_in c.known-known.result) (scope_of c.args.context.now) c.args.line (member_node c.args.is_last c.args.name (view_type c.args.ty) (option_map view_operand c.args.width) (map view_member list)))) c.as_slice-list.ensures
+    (subst (λ type. c.member_rule.result ≡ rule_at (placed (types_in c.known-known.result) (scope_of c.args.context.now) c.args.line (member_node c.args.is_last c.args.name (view_type type) (option_map view_operand c.args.width) (map view_member c.as_slice-list.result.now)))) c.get-t.ensures
+    (subst (λ one. c.member_rule.result ≡ rule_at (placed (types_in c.known-known.result) (scope_of c.args.context.now) c.args.line (member_node c.args.is_last c.args.name (view_type c.get-t.result.now) one (map view_member c.as_slice-list.result.now)))) c.operand_in-given.ensures
+    (c.member_rule.ensures (scope_of c.args.context.now) c.args.line)))) c.in-Some.is)
+
+pub returns : goal.returns
+unfolding check_chain check_here
+returns c =
+    let width : c.in_ok-bits.bits ≡ width_written (scope_of c.args.context.now).types (option_map view_operand c.args.width) = search rules in
+    settled_ok _ (types_in c.known-known.result) (scope_of c.args.context.now) c.args.line (member_node c.args.is_last c.args.name (view_type c.args.ty) (option_map view_operand c.args.width) (map view_member c.args.before.now)) (member_of (scope_of c.args.context.now).types c.args.name (view_type c.args.ty) (option_map view_operand c.args.width))
+    c.member_rule.result c.known-known.ensures.types (subst (λ list. c.member_rule.result ≡ rule_at (placed (types_in c.known-known.result) (scope_of c.args.context.now) c.args.line (member_node c.args.is_last c.args.name (view_type c.args.ty) (option_map view_operand c.args.width) (map view_member list)))) c.as_slice-list.ensures
+    (subst (λ type. c.member_rule.result ≡ rule_at (placed (types_in c.known-known.result) (scope_of c.args.context.now) c.args.line (member_node c.args.is_last c.args.name (view_type type) (option_map view_operand c.args.width) (map view_member c.as_slice-list.result.now)))) c.get-t.ensures
+    (subst (λ one. c.member_rule.result ≡ rule_at (placed (types_in c.known-known.result) (scope_of c.args.context.now) c.args.line (member_node c.args.is_last c.args.name (view_type c.get-t.result.now) one (map view_member c.as_slice-list.result.now)))) c.operand_in-given.ensures
+    (c.member_rule.ensures (scope_of c.args.context.now) c.args.line)))) c.in_default.is
+    ∙ ap (λ bits. fine (record { name = c.args.name; type = view_type c.args.ty; bits = bits }) (scope_of c.args.context.now)) (sym width)
