@@ -31,4 +31,5 @@ returns c =
     (subst (λ type. c.member_rule.result ≡ rule_at (placed (types_in c.known-known.result) (scope_of c.args.context.now) c.args.line (member_node c.args.is_last c.args.name (view_type type) (option_map view_operand c.args.width) (map view_member c.as_slice-list.result.now)))) c.get-t.ensures
     (subst (λ one. c.member_rule.result ≡ rule_at (placed (types_in c.known-known.result) (scope_of c.args.context.now) c.args.line (member_node c.args.is_last c.args.name (view_type c.get-t.result.now) one (map view_member c.as_slice-list.result.now)))) c.operand_in-given.ensures
     (c.member_rule.ensures (scope_of c.args.context.now) c.args.line)))) c.in_default.is
-    ∙ ap (λ bits. fine (record { name = c.args.name; type = view_type c.args.ty; bits = bits }) (scope_of c.args.context.now)) (sym width)
+    ∙ (ap (λ bits. fine (record { name = c.args.name; type = view_type c.args.ty; bits = bits }) (scope_of c.args.context.now)) (sym width)
+    ∙ ap (λ type. fine (record { name = c.args.name; type = view_type type; bits = c.in_ok-bits.bits }) (scope_of c.args.context.now)) (sym c.into_inner.ensures))
