@@ -72,11 +72,11 @@ fn one_form(context: &mut Context, e: &Expr) -> Result<Operand, Stop>
     match e {
         Expr::Dot { of, member, .. } => {
             let one = expr(context, of.get())?;
-            dot_seen(context, expr_line(of.get()), one, member.bytes())
+            dot_seen(context, expr_line(of.get()), one, member)
         }
         Expr::Arrow { of, member, .. } => {
             let one = expr(context, of.get())?;
-            arrow_seen(context, expr_line(of.get()), one, member.bytes())
+            arrow_seen(context, expr_line(of.get()), one, member)
         }
         Expr::PostUp { of, .. } => {
             let one = expr(context, of.get())?;
@@ -238,12 +238,12 @@ fn typed_form(context: &mut Context, e: &Expr) -> Result<Operand, Stop>
     match e {
         Expr::SizeofType { of, lines } => {
             let of = type_name(context, of.get())?;
-            sizeof_type_seen(context, own_line(lines), of.get())
+            sizeof_type_seen(context, own_line(lines), of)
         }
         Expr::Cast { to, on, lines } => {
             let to = type_name(context, to.get())?;
             let one = expr(context, on.get())?;
-            cast_seen(context, own_line(lines), to.get(), one)
+            cast_seen(context, own_line(lines), to, one)
         }
         // No other form comes here.
         _ => Err(Stop::Memory),
@@ -263,7 +263,7 @@ pub(crate) fn type_name(context: &mut Context, name: &TypeName) -> Result<Boxed<
     derives_seen(
         context,
         declarator_line(line, name.declarator.get()),
-        from.get(),
+        from,
         &shape,
     )
 }
@@ -388,6 +388,7 @@ fn member_declarator(
 {
     let line = declarator_line(own_line(&one.lines), one.declarator.get());
     let shape = declarator(context, one.declarator.get())?;
+    let from = from.copy(context.alloc())?;
     let own = derives_seen(context, line, from, &shape)?;
     let width = option_expr(context, &one.width)?;
     member_seen(context, is_last, members, line, shape.name, own, width)
@@ -514,7 +515,7 @@ fn param(context: &mut Context, is_only: bool, one: &ParamTree) -> Result<Option
     let own = derives_seen(
         context,
         declarator_line(line, one.declarator.get()),
-        from.get(),
+        from,
         &shape,
     )?;
     param_seen(context, is_only, line, &all, shape.name, own)

@@ -123,8 +123,13 @@ pub fn index_seen(
     Ok(made)
 }
 
-/// A member (ISO C99, 6.5.2.3).
-pub fn dot_seen(context: &Context, line: u32, of: Operand, name: &[u8]) -> Result<Operand, Stop>
+// A member (ISO C99, 6.5.2.3).
+pub(crate) fn member_of(
+    context: &Context,
+    line: u32,
+    of: Operand,
+    name: &[u8],
+) -> Result<Operand, Stop>
     ensures { Checks view_operand result (scope_of context.now) (steps.dot_seen line (view_operand of) name.now (scope_of context.now)) }
 {
     let known = context.known();
@@ -136,8 +141,13 @@ pub fn dot_seen(context: &Context, line: u32, of: Operand, name: &[u8]) -> Resul
     Ok(made)
 }
 
-/// A member of what a pointer points to (ISO C99, 6.5.2.3).
-pub fn arrow_seen(context: &Context, line: u32, of: Operand, name: &[u8]) -> Result<Operand, Stop>
+// A member of what a pointer points to (ISO C99, 6.5.2.3).
+pub(crate) fn member_behind(
+    context: &Context,
+    line: u32,
+    of: Operand,
+    name: &[u8],
+) -> Result<Operand, Stop>
     ensures { Checks view_operand result (scope_of context.now) (steps.arrow_seen line (view_operand of) name.now (scope_of context.now)) }
 {
     let known = context.known();
@@ -207,8 +217,8 @@ fn compute_seen(context: &Context, line: u32, op: Op1, on: Operand) -> Result<Op
     Ok(made)
 }
 
-/// `sizeof` of a type (ISO C99, 6.5.3.4).
-pub fn sizeof_type_seen(context: &Context, line: u32, of: &Ty) -> Result<Operand, Stop>
+// `sizeof` of a type (ISO C99, 6.5.3.4).
+pub(crate) fn size_of_type(context: &Context, line: u32, of: &Ty) -> Result<Operand, Stop>
     ensures { Checks view_operand result (scope_of context.now) (steps.sizeof_type_seen line (view_type of.now) (scope_of context.now)) }
 {
     let known = context.known();
@@ -220,8 +230,8 @@ pub fn sizeof_type_seen(context: &Context, line: u32, of: &Ty) -> Result<Operand
     Ok(made)
 }
 
-/// A cast (ISO C99, 6.5.4).
-pub fn cast_seen(context: &Context, line: u32, to: &Ty, on: Operand) -> Result<Operand, Stop>
+// A cast (ISO C99, 6.5.4).
+pub(crate) fn cast_to(context: &Context, line: u32, to: &Ty, on: Operand) -> Result<Operand, Stop>
     ensures { Checks view_operand result (scope_of context.now) (steps.cast_seen line (view_type to.now) (view_operand on) (scope_of context.now)) }
 {
     let known = context.known();

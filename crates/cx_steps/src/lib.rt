@@ -3,6 +3,7 @@
 #![tactic(auto)]
 
 mod expressions;
+mod handed;
 mod lasts;
 mod marks;
 mod names;
@@ -13,15 +14,16 @@ mod uses;
 mod written;
 
 pub use expressions::{
-    arrow_seen, assign_seen, binary_seen, cast_seen, comma_seen, cond_seen, dot_seen, index_seen,
-    letter_seen, number_seen, sizeof_type_seen, step_seen, unary_seen,
+    assign_seen, binary_seen, comma_seen, cond_seen, index_seen, letter_seen, number_seen,
+    step_seen, unary_seen,
 };
+pub use handed::{arrow_seen, cast_seen, derives_seen, dot_seen, sizeof_type_seen};
 pub use lasts::{ends_declarators, ends_decls};
 pub use names::{calls_by_name, is_single};
 pub use params::param_seen;
 pub use types::{
-    derives_seen, enum_ended, enum_use_seen, identifiers_seen, params_ended, record_use_seen,
-    specs_seen, typedef_seen,
+    enum_ended, enum_use_seen, identifiers_seen, params_ended, record_use_seen, specs_seen,
+    typedef_seen,
 };
 pub use unwritten::record_ended;
 pub use uses::{call_seen, name_seen, sizeof_seen, text_seen};

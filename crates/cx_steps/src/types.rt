@@ -176,8 +176,8 @@ pub fn enum_ended(
     Ok(())
 }
 
-/// A whole declarator (ISO C99, 6.7.5).
-pub fn derives_seen(
+// A whole declarator (ISO C99, 6.7.5).
+pub(crate) fn derives_from(
     context: &Context,
     line: u32,
     from: &Ty,

@@ -12,7 +12,7 @@ use Rattle.cx_rules.specs.Rules.{rule_at}
 use Rattle.cx_scope.specs.Views.{view_tag}
 use Rattle.cx_shapes.specs.Views.{view_specs, view_shape, view_step}
 use Rattle.cx_steps.proofs.Settling.{refused_step, settled_no, settled_ok, changed_no, changed_ok}
-use Rattle.cx_steps.proofs.types.derives_seen.Goals as goal
+use Rattle.cx_steps.proofs.types.derives_from.Goals as goal
 
 pub returns-in-Some : goal.returns-in-Some
 unfolding check_chain check_here

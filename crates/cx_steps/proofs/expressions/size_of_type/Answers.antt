@@ -10,7 +10,7 @@ use Rattle.cx_rules.specs.Operands.{value_of}
 use Rattle.cx_rules.specs.Pieces.{at_line}
 use Rattle.cx_rules.specs.Readings.{fine, check_chain, check_here}
 use Rattle.cx_steps.proofs.Settling.{refused_step, settled_no, settled_ok}
-use Rattle.cx_steps.proofs.expressions.sizeof_type_seen.Goals as goal
+use Rattle.cx_steps.proofs.expressions.size_of_type.Goals as goal
 
 pub returns-in-Some : goal.returns-in-Some
 unfolding check_chain check_here
