@@ -1,13 +1,12 @@
 -- What changes of a scope leave its types as they were.
-use Rattle.std.proofs.Common.{◌≡◌, refl, sym, ap, ◌∙◌, subst, ℕ, List, Option, None, Some, Result, Ok, Err, OnOk, OnErr, option_map, Bor, Bool, ◌++◌, ◌∷◌, []}
+use Rattle.std.proofs.Common.{◌≡◌, refl, sym, ap, ◌∙◌, subst, ℕ, List, Option, None, Some, Result, Ok, Err, OnOk, OnErr, option_map, Bor, Bool}
 use Rattle.std.specs.Option.{option_copied}
 use Rattle.cx_context.proofs.Declaring.{declared_laid, same_laid}
 use Rattle.cx_context.specs.Laid.{IsLaid}
 use Rattle.cx_core.specs.Layouts.{CLayouts}
-use Rattle.cx_core.specs.Trees.{CTypes, CRecord}
 use Rattle.cx_core.specs.declared.program.Linkage.TheVariants.{External, Internal, Nothing}
 use Rattle.cx_rules.specs.Pieces.{used, with_param, with_used, with_open_enum, with_closed_enum}
-use Rattle.cx_rules.specs.Scope.{CMeant, an_object, a_function, a_type_name, an_enumerator, a_tag, CScope, CTag, with_tag}
+use Rattle.cx_rules.specs.Scope.{CMeant, an_object, a_function, a_type_name, an_enumerator, a_tag, CScope, CTag}
 use Rattle.cx_rules.specs.Shapes.{CParam}
 use Rattle.cx_scope.specs.Views.{view_meant}
 use Rattle.cx_scope.specs.declared.meant.Meant.{Meant}

@@ -33,7 +33,9 @@ fn step_on(alloc: Global, from: Boxed<Ty>, step: &Step) -> Result<Boxed<Ty>, Mem
         Step::Pointer { is_const, .. } => Ty::pointer(alloc, from, *is_const),
         Step::Array { length } => Ty::array(alloc, from, *length),
         Step::Function {
-            params, variadic, ..
+            params,
+            variadic,
+            ..
         } => function_of(alloc, from, params, *variadic),
     }
 }

@@ -1,5 +1,5 @@
 -- What is written as a number.
-use Rattle.std.proofs.Common.{◌≡◌, refl, ap, ℕ, ℤ, pos, negsuc, List, Option, Some, None, option_map}
+use Rattle.std.proofs.Common.{◌≡◌, refl, ℕ, ℤ, pos, negsuc, List, Option, Some, None, option_map}
 use Rattle.cx_core.specs.Trees.{CTypes}
 use Rattle.cx_rules.specs.Nodes.{enumerator_node}
 use Rattle.cx_rules.specs.Operands.{COperand, value_of, constant_of}

@@ -1,5 +1,5 @@
 -- Nodes that break a rule, and nodes that break none.
-use Rattle.std.proofs.Common.{◌≡◌, refl, sym, ap, ◌∙◌, ℕ, Option, None, Some, option_map, Err}
+use Rattle.std.proofs.Common.{◌≡◌, sym, ap, ◌∙◌, ℕ, Option, None, Some, option_map, Err}
 use Rattle.cr_base.specs.declared.refusal.Refusal.{Refusal}
 use Rattle.cr_base.specs.declared.refusal.Stop.{Stop}
 use Rattle.cr_base.specs.declared.refusal.Stop.TheVariants as stop

@@ -1,5 +1,5 @@
 -- One parameter alone.
-use Rattle.std.proofs.Common.{arith, ◌≡◌, refl, ℕ, ◌≤◌, ◌<◌, Bool, true, false, not, List, [], ◌∷◌, length, map}
+use Rattle.std.proofs.Common.{arith, ◌≡◌, refl, ◌≤◌, ◌<◌, Bool, true, false, not, List, [], ◌∷◌, length, map}
 use Rattle.cx_rules.specs.Pieces.{is_single}
 use Rattle.cx_tree.specs.Views.{param_view, params as param_trees}
 use Rattle.cx_tree.specs.declared.declarator.Param.{Param}

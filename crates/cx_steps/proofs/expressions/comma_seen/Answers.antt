@@ -1,12 +1,10 @@
-use Rattle.std.proofs.Common.{rules, ◌≡◌, refl, sym, ap, ◌∙◌}
+use Rattle.std.proofs.Common.{rules, ◌≡◌, sym, ap, ◌∙◌}
 use Rattle.cx_context.specs.Checks.{refusal_of}
 use Rattle.cx_context.specs.Views.{scope_of}
-use Rattle.cx_core.specs.Views.{view_type}
 use Rattle.cx_kinds.specs.Known.{types_in}
 use Rattle.cx_operands.specs.Views.{view_operand}
 use Rattle.cx_rules.specs.Meanings.{comma_meaning}
 use Rattle.cx_rules.specs.Nodes.{comma_node}
-use Rattle.cx_rules.specs.Operands.{value_of}
 use Rattle.cx_rules.specs.Pieces.{at_line}
 use Rattle.cx_rules.specs.Readings.{fine, check_chain, check_here}
 use Rattle.cx_steps.proofs.Settling.{refused_step, settled_no, settled_ok}

@@ -1,7 +1,6 @@
-use Rattle.std.proofs.Common.{rules, ◌≡◌, refl, sym, ap, ◌∙◌}
+use Rattle.std.proofs.Common.{rules, ◌≡◌, sym, ap, ◌∙◌}
 use Rattle.cx_context.specs.Checks.{refusal_of}
 use Rattle.cx_context.specs.Views.{scope_of}
-use Rattle.cx_core.specs.Views.{view_type}
 use Rattle.cx_kinds.specs.Known.{types_in}
 use Rattle.cx_operands.specs.Views.{view_operand}
 use Rattle.cx_rules.specs.Meanings.{deref_meaning}

@@ -1,18 +1,12 @@
-use Rattle.std.proofs.Common.{rules, ◌≡◌, refl, sym, subst, ap, ◌∙◌, map, false, reverse, option_map, length, None}
-use Rattle.cx_breaks.specs.Placed.{placed}
+use Rattle.std.proofs.Common.{rules, ◌≡◌, refl, sym, ap, ◌∙◌, false, None}
 use Rattle.cx_context.specs.Checks.{refusal_of}
 use Rattle.cx_context.specs.Views.{scope_of}
-use Rattle.cx_core.specs.Trees.{ty, record_type, enum_type}
-use Rattle.cx_core.specs.Views.{view_type}
-use Rattle.cx_kinds.specs.Known.{types_in}
 use Rattle.cx_rules.specs.Nodes.{identifiers_node}
 use Rattle.cx_rules.specs.Shapes.{to_function, step_before}
 use Rattle.std.proofs.Common.{[]}
 use Rattle.cx_rules.specs.Readings.{fine, check_chain, check_here}
-use Rattle.cx_rules.specs.Rules.{rule_at}
-use Rattle.cx_scope.specs.Views.{view_tag}
-use Rattle.cx_shapes.specs.Views.{view_specs, view_shape, view_step}
-use Rattle.cx_steps.proofs.Settling.{refused_step, settled_no, settled_ok, changed_no, changed_ok}
+use Rattle.cx_shapes.specs.Views.{view_shape}
+use Rattle.cx_steps.proofs.Settling.{refused_step, settled_no, settled_ok}
 use Rattle.cx_steps.proofs.types.identifiers_seen.Goals as goal
 
 pub returns-in-Some : goal.returns-in-Some

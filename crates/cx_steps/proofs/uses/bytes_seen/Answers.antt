@@ -1,15 +1,13 @@
-use Rattle.std.proofs.Common.{rules, ◌≡◌, refl, sym, subst, ap, ◌∙◌, map, option_map, length}
+use Rattle.std.proofs.Common.{rules, ◌≡◌, sym, subst, ap, ◌∙◌}
 use Rattle.cx_breaks.specs.Placed.{placed}
 use Rattle.cx_rules.specs.Rules.{rule_at}
 use Rattle.cx_context.specs.Checks.{refusal_of}
 use Rattle.cx_context.specs.Views.{scope_of}
-use Rattle.cx_core.specs.Views.{view_type, view_expr}
 use Rattle.cx_kinds.specs.Known.{types_in}
 use Rattle.cx_operands.specs.Views.{view_operand}
 use Rattle.cx_rules.specs.Initial.{text_type}
 use Rattle.cx_rules.specs.Nodes.{literal_node}
 use Rattle.cx_rules.specs.Pieces.{text_meaning, with_text}
-use Rattle.cx_rules.specs.Pieces.{at_line}
 use Rattle.cx_rules.specs.Readings.{fine, check_chain, check_here}
 use Rattle.cx_steps.proofs.Settling.{refused_step, changed_no, changed_ok}
 use Rattle.cx_steps.proofs.uses.bytes_seen.Goals as goal

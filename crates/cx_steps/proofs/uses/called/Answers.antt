@@ -1,9 +1,8 @@
-use Rattle.std.proofs.Common.{rules, ◌≡◌, refl, sym, subst, ap, ◌∙◌, map, option_map, length}
+use Rattle.std.proofs.Common.{rules, ◌≡◌, sym, subst, ap, ◌∙◌, map}
 use Rattle.cx_breaks.specs.Placed.{placed}
 use Rattle.cx_rules.specs.Rules.{rule_at}
 use Rattle.cx_context.specs.Checks.{refusal_of}
 use Rattle.cx_context.specs.Views.{scope_of}
-use Rattle.cx_core.specs.Views.{view_type, view_expr}
 use Rattle.cx_kinds.specs.Known.{types_in}
 use Rattle.cx_operands.specs.Views.{view_operand}
 use Rattle.cx_rules.specs.Meanings.{call_meaning, trailing_types}

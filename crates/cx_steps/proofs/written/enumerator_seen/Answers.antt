@@ -1,14 +1,11 @@
-use Rattle.std.proofs.Common.{rules, ◌≡◌, refl, sym, subst, ap, ◌∙◌, map, option_map, ℤ}
+use Rattle.std.proofs.Common.{rules, ◌≡◌, sym, subst, ◌∙◌, option_map, ℤ}
 use Rattle.cx_breaks.specs.Placed.{placed}
 use Rattle.cx_context.specs.Checks.{refusal_of}
 use Rattle.cx_context.specs.Views.{scope_of}
-use Rattle.cx_core.specs.Views.{view_member, view_type}
 use Rattle.cx_kinds.specs.Known.{types_in}
 use Rattle.cx_operands.specs.Views.{view_operand}
-use Rattle.cx_rules.specs.Readings.{fine, check_chain, check_here}
 use Rattle.cx_rules.specs.Rules.{rule_at}
-use Rattle.cx_shapes.specs.Views.{view_step}
-use Rattle.cx_steps.proofs.Settling.{refused_step, settled_no, settled_ok, changed_no, changed_ok}
+use Rattle.cx_steps.proofs.Settling.{refused_step, changed_no, changed_ok}
 use Rattle.cx_rules.specs.Nodes.{enumerator_node}
 use Rattle.cx_rules.specs.Scope.{an_enumerator, with_declared}
 use Rattle.cx_steps.proofs.Numbers.{enumerator_is}

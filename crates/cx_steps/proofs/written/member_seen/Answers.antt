@@ -1,4 +1,4 @@
-use Rattle.std.proofs.Common.{rules, ◌≡◌, refl, sym, subst, ap, ◌∙◌, map, option_map, ℤ}
+use Rattle.std.proofs.Common.{rules, ◌≡◌, sym, subst, ap, ◌∙◌, map, option_map}
 use Rattle.cx_breaks.specs.Placed.{placed}
 use Rattle.cx_context.specs.Checks.{refusal_of}
 use Rattle.cx_context.specs.Views.{scope_of}
@@ -7,8 +7,7 @@ use Rattle.cx_kinds.specs.Known.{types_in}
 use Rattle.cx_operands.specs.Views.{view_operand}
 use Rattle.cx_rules.specs.Readings.{fine, check_chain, check_here}
 use Rattle.cx_rules.specs.Rules.{rule_at}
-use Rattle.cx_shapes.specs.Views.{view_step}
-use Rattle.cx_steps.proofs.Settling.{refused_step, settled_no, settled_ok, changed_no, changed_ok}
+use Rattle.cx_steps.proofs.Settling.{refused_step, settled_no, settled_ok}
 use Rattle.cx_rules.specs.Nodes.{member_node}
 use Rattle.cx_rules.specs.Pieces.{member_of, width_written}
 use Rattle.cx_steps.proofs.written.member_seen.Goals as goal
