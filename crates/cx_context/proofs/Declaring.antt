@@ -2,7 +2,7 @@
 use Rattle.std.proofs.Common.{◌≡◌, ℕ, zero, suc, List, [], ◌∷◌, ◌++◌, map, Option, None, Some, IsSome, option_map, slice_get, refl, sym, ap, ◌∙◌, subst}
 use Rattle.std.specs.Option.{option_and_then, option_flatten}
 use Rattle.cx_context.specs.Laid.{IsLaid}
-use Rattle.cx_core.specs.Layouts.{CLayouts, row_at, array_extent, whole_extent, whole_extent_of, piece, piece_of, put_front, pieces_of, row_of_pieces, row_of, pass, passes, completed_count, layouts_of}
+use Rattle.cx_core.specs.Layouts.{CLayouts, row_at, array_extent, whole_extent, whole_extent_of, piece, piece_of, put_front, pieces_of, row_of_pieces, row_of, passes, completed_count, layouts_of}
 use Rattle.cx_core.specs.Trees.{CTy, ty, CTyForm, void, basic, enum_type, pointer, array, record_type, function, CMember, CRecord, CTypes}
 use Rattle.cx_layout.specs.Calls.{HaveSameRows, record_at}
 

@@ -1,13 +1,15 @@
 -- What changes of a scope leave its types as they were.
-use Rattle.std.proofs.Common.{◌≡◌, refl, sym, ap, ◌∙◌, subst, ℕ, List, Option, None, Some, Result, Ok, Err, OnOk, OnErr, Bool, ◌++◌, ◌∷◌, []}
+use Rattle.std.proofs.Common.{◌≡◌, refl, sym, ap, ◌∙◌, subst, ℕ, List, Option, None, Some, Result, Ok, Err, OnOk, OnErr, option_map, Bor, Bool}
+use Rattle.std.specs.Option.{option_copied}
 use Rattle.cx_context.proofs.Declaring.{declared_laid, same_laid}
 use Rattle.cx_context.specs.Laid.{IsLaid}
 use Rattle.cx_core.specs.Layouts.{CLayouts}
-use Rattle.cx_core.specs.Trees.{CTypes, CRecord}
 use Rattle.cx_core.specs.declared.program.Linkage.TheVariants.{External, Internal, Nothing}
 use Rattle.cx_rules.specs.Pieces.{used, with_param, with_used, with_open_enum, with_closed_enum}
-use Rattle.cx_rules.specs.Scope.{CMeant, an_object, a_function, a_type_name, an_enumerator, a_tag, CScope, CTag, with_tag}
+use Rattle.cx_rules.specs.Scope.{CMeant, an_object, a_function, a_type_name, an_enumerator, a_tag, CScope, CTag}
 use Rattle.cx_rules.specs.Shapes.{CParam}
+use Rattle.cx_scope.specs.Views.{view_meant}
+use Rattle.cx_scope.specs.declared.meant.Meant.{Meant}
 
 pub used_types : (line : ℕ) (name : List ℕ) (meant : Option CMeant) (scope : CScope) → (used line name meant scope).types ≡ scope.types
 used_types line name None scope = refl
@@ -54,3 +56,8 @@ pub either_laid : {A E : Type 0} (result : Result A E) (old new other : CScope) 
     OnOk result (new ≡ other) → OnErr result (new ≡ old) → (new ≡ other → IsLaid new.types layouts) → IsLaid new.types layouts
 either_laid (Ok value) old new other layouts laid ok err next = next ok
 either_laid (Err why) old new other layouts laid ok err next = subst (λ scope. IsLaid scope.types layouts) (sym err) laid
+
+-- what a reference to a meaning stands for
+pub copied_is : (found : Option (Bor Meant)) → option_map view_meant (option_copied found) ≡ option_map (λ one. view_meant one.now) found
+copied_is None = refl
+copied_is (Some one) = refl

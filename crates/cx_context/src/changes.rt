@@ -3,17 +3,19 @@
 ghost use Rattle.std.specs.Prelude.{◌≡◌, true, length, IfOk, OnOk, option_map, map};
 ghost use Rattle.cx_context.specs.Views.{scope_of};
 ghost use Rattle.cx_core.specs.Views.{view_type};
-ghost use Rattle.cx_rules.specs.Pieces.{used, with_text, with_used, continued, seen_tag, tag_number, with_open_enum, with_closed_enum, with_param, declared_since};
+ghost use Rattle.cx_rules.specs.Pieces.{called, used, with_text, with_used, continued, seen_tag, tag_number, with_open_enum, with_closed_enum, with_param, declared_since};
+ghost use Rattle.cx_rules.specs.Rules.{is_taken};
 ghost use Rattle.cx_rules.specs.Scope.{ordinary, with_declared, with_call, entered, left};
-ghost use Rattle.cx_scope.specs.Changes.{cut_back, without_newest};
+ghost use Rattle.cx_scope.specs.Changes.{cut_back};
 ghost use Rattle.cx_scope.specs.Views.{view_declared, view_meant, view_param, view_tag};
 
 use crate::context::Context;
 use cr_base::{Items, Memory, Name};
 use cx_core::Ty;
-use cx_scope::{Declared, Param, Tag};
+use cx_scope::{Declared, Meant, Param, Tag};
 
 /// What stood at the place where a list of members or of enumerators began.
+#[derive(Clone, Copy)]
 pub struct Begun {
     /// What its tag meant before, in the same scope.
     pub found: Option<Tag>,
@@ -22,6 +24,42 @@ pub struct Begun {
 }
 
 impl Context {
+    /// What an identifier means that is no tag (ISO C99, 6.2.1p4).
+    #[tactic(auto, using(crate::proofs::Same::copied_is))]
+    pub fn ordinary(&self, name: &Name) -> Option<&Meant>
+        ensures { option_map (λ one. view_meant one.now) result ≡ ordinary name.now (scope_of self.now).declared }
+    {
+        self.scope.ordinary(name)
+    }
+
+    /// What a tag means, where it may be written without one: in the innermost scope alone, or in all.
+    pub fn seen_tag(&self, alone: bool, name: &Option<Name>) -> Option<Tag>
+        ensures { option_map view_tag result ≡ seen_tag alone name.now (scope_of self.now) }
+    {
+        self.scope.seen_tag(alone, name)
+    }
+
+    /// Whether the innermost scope declares a name that is no tag.
+    pub fn is_taken(&self, name: &Name) -> bool
+        ensures { result ≡ is_taken (scope_of self.now) name.now }
+    {
+        self.scope.is_declared_inside(name)
+    }
+
+    /// The number of the structure or union that a tag means, or of a new one. Refused only for want of memory.
+    pub fn record_number(&self, found: Option<Tag>) -> Result<u32, Memory>
+        ensures { IfOk result (λ number. number ≡ tag_number (length (scope_of self.now).types.records) (option_map view_tag found)) }
+    {
+        tag_number(self.scope.types().records.len(), found)
+    }
+
+    /// The number of the next object.
+    pub fn next_object(&self) -> u32
+        ensures { result ≡ (scope_of self.now).next_object }
+    {
+        self.scope.next_object()
+    }
+
     /// A declaration comes into scope.
     pub fn add(&mut self, one: Declared) -> Result<(), Memory>
         ensures { OnOk result (scope_of self.new ≡ with_declared one.name (view_meant one.meant) (scope_of self.old)) }
@@ -46,12 +84,35 @@ impl Context {
         self.scope.set_call(index, types);
     }
 
+    /// The same where the call is one by name, and nothing where it isn't.
+    pub fn set_called(&mut self, by_name: bool, index: u64, types: Items<Ty>)
+        ensures { scope_of self.new ≡ called by_name index (map view_type types) (scope_of self.old) }
+    {
+        if by_name {
+            self.set_call(index, types);
+        }
+    }
+
     /// The object of a string literal comes into being (ISO C99, 6.4.5p5).
     pub fn add_text(&mut self, line: u32, bytes: &[u8]) -> Result<(), Memory>
         ensures { OnOk result (scope_of self.new ≡ with_text line bytes.now (scope_of self.old)) }
     {
         self.scope.add_text(line, bytes)?;
         Ok(())
+    }
+
+    /// How many objects of literals there are so far.
+    pub fn literal_count(&self) -> u64
+        ensures { result ≡ length (scope_of self.now).literals }
+    {
+        self.scope.literal_count()
+    }
+
+    /// How much of what has linkage the unit named so far.
+    pub fn mention_count(&self) -> u64
+        ensures { result ≡ length (scope_of self.now).mentions }
+    {
+        self.scope.mention_count()
     }
 
     /// The literals and the mentions behind so many go (ISO C99, 6.5.3.4p2).
@@ -78,12 +139,13 @@ impl Context {
         self.scope.leave(count, begins);
     }
 
-    /// The newest declarations, down to so many, are taken out of scope: the newest first.
-    pub fn take_since(&mut self, count: u64) -> Result<Items<Declared>, Memory>
-        ensures taken { IfOk result (λ newest. map view_declared newest ≡ declared_since count (scope_of self.old)) }
-        ensures left { OnOk result (scope_of self.new ≡ without_newest count (scope_of self.old)) }
+    /// A scope ends that began with so many declarations, and gives its own, the newest first; the one around it began with so
+    /// many.
+    pub fn close(&mut self, count: u64, begins: u64) -> Result<Items<Declared>, Memory>
+        ensures own { IfOk result (λ newest. map view_declared newest ≡ declared_since count (scope_of self.old)) }
+        ensures left { OnOk result (scope_of self.new ≡ left count begins (scope_of self.old)) }
     {
-        let newest = self.scope.take_since(count)?;
+        let newest = self.scope.close(count, begins)?;
         Ok(newest)
     }
 

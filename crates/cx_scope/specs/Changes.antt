@@ -78,12 +78,6 @@ with_param_name one scope = named_as one.name one scope
 abbrev pub cut_back : (literals mentions : ℕ) → CScope → CScope
 cut_back literals mentions scope = record scope { literals = take literals scope.literals; mentions = take mentions scope.mentions }
 
--- ---- scopes that end
-
--- the newest declarations are dropped, down to so many
-abbrev pub without_newest : ℕ → CScope → CScope
-without_newest count scope = record scope { declared = down_to count scope.declared }
-
 -- what is stored in a compound literal before the program begins
 abbrev pub fixed_outside : Bool → CPuts → Option CPuts
 fixed_outside true puts = None

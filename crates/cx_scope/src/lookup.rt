@@ -1,7 +1,7 @@
 //! Which declaration an identifier means (ISO C99, 6.2.1p4, 6.2.3).
 #![tactic(auto, unfolding(crate::specs::Views::view_scope))]
 
-ghost use Rattle.std.specs.Prelude.{◌≡◌, map, reverse, drop, option_map};
+ghost use Rattle.std.specs.Prelude.{◌≡◌, map, reverse, drop, is_some, option_map};
 ghost use Rattle.std.specs.Option.{option_copied};
 ghost use Rattle.cx_rules.specs.Pieces.{find_tag, seen_tag};
 ghost use Rattle.cx_rules.specs.Scope.{is_ordinary, tag_of, ordinary, tag, innermost};
@@ -92,6 +92,13 @@ impl Scope {
         ensures { reverse (map view_declared result.now) ≡ innermost (view_scope self.now) }
     {
         declared_behind(self.declared.as_slice(), self.begins as usize)
+    }
+
+    /// Whether the innermost scope declares a name that is no tag.
+    pub fn is_declared_inside(&self, name: &Name) -> bool
+        ensures { result ≡ is_some (ordinary name.now (innermost (view_scope self.now))) }
+    {
+        newest_ordinary(self.innermost(), name).is_some()
     }
 
     /// What a tag means, where it may be written without one: in the innermost scope alone, or in all.

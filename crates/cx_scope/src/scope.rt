@@ -5,7 +5,7 @@ ghost use Rattle.std.specs.Prelude.{◌≡◌, ◌≤◌, ◌<◌, map, length, 
 ghost use Rattle.cx_core.specs.Views.{view_types};
 ghost use Rattle.cx_rules.specs.Scope.{new_scope, no_labels, with_declared, with_object_number, left};
 ghost use Rattle.cx_rules.specs.Pieces.{declared_since};
-ghost use Rattle.cx_scope.specs.Changes.{begun_at, dropped_to, inside, without_newest};
+ghost use Rattle.cx_scope.specs.Changes.{begun_at, dropped_to, inside};
 ghost use Rattle.cx_scope.specs.Views.{view_scope, view_declared, view_meant, view_made, view_labels};
 
 use crate::lists::{shorten, split_newest};
@@ -164,14 +164,15 @@ impl Scope {
         self.begins = begins;
     }
 
-    /// The newest declarations, down to so many, are taken out of scope: the newest first. Refused only for want of
-    /// memory, and then nothing is said of the declarations.
-    pub fn take_since(&mut self, count: u64) -> Result<Items<Declared>, Memory>
-        ensures taken { IfOk result (λ newest. map view_declared newest ≡ declared_since count (view_scope self.old)) }
-        ensures left { OnOk result (view_scope self.new ≡ without_newest count (view_scope self.old)) }
+    /// A scope ends that began with so many declarations, and gives its own, the newest first; the one around it began with so
+    /// many. Refused only for want of memory, and then nothing is said of the declarations.
+    pub fn close(&mut self, count: u64, begins: u64) -> Result<Items<Declared>, Memory>
+        ensures own { IfOk result (λ newest. map view_declared newest ≡ declared_since count (view_scope self.old)) }
+        ensures left { OnOk result (view_scope self.new ≡ left count begins (view_scope self.old)) }
         ensures types { (view_scope self.new).types ≡ (view_scope self.old).types }
     {
         let newest = split_newest(self.alloc, &mut self.declared, count as usize)?;
+        self.begins = begins;
         Ok(newest)
     }
 

@@ -11,5 +11,5 @@ mod words;
 pub use derivation::derived;
 pub use lines::{declarator_line, expr_line, own_line, specs_line};
 pub use specifiers::Specs;
-pub use steps::{Shape, Step};
+pub use steps::{Shape, Step, pointer_step};
 pub use words::{has_word, same_key};

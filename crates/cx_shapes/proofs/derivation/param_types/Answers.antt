@@ -1,4 +1,4 @@
-use Rattle.std.proofs.Common.{arith, ap, sym, ◌∙◌, ◌++◌, map}
+use Rattle.std.proofs.Common.{ap, sym, ◌∙◌, ◌++◌, map}
 use Rattle.std.proofs.lemmas.List.{append-nil, drop_all}
 use Rattle.cx_core.specs.Views.{view_type}
 use Rattle.cx_shapes.proofs.ParamTypes.{types_of_params}

@@ -1,6 +1,5 @@
 use Rattle.std.proofs.Common.{◌≡◌, ◌++◌, map, drop}
 use Rattle.cx_core.specs.Views.{view_type}
-use Rattle.cx_scope.specs.Views.{view_param}
 use Rattle.cx_shapes.proofs.derivation.param_types.Given as goal
 
 -- the types that were copied, and those of the parameters that are left

@@ -1,6 +1,5 @@
-use Rattle.std.proofs.Common.{option_map}
 use Rattle.cx_context.proofs.Same.{either_laid, laid_closed}
-use Rattle.cx_scope.specs.Views.{view_scope, view_tag}
+use Rattle.cx_scope.specs.Views.{view_scope}
 use Rattle.cx_context.proofs.context.Context.end_enum.Goals as goal
 
 pub invariant_of-self : goal.invariant_of-self

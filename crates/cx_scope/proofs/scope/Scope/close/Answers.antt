@@ -1,11 +1,11 @@
 use Rattle.std.proofs.Common.{refl, drop}
 use Rattle.cx_scope.proofs.Newest.{down_to_oldest, behind_oldest, reversed_map}
 use Rattle.cx_scope.specs.Views.{view_scope, view_declared}
-use Rattle.cx_scope.proofs.scope.Scope.take_since.Goals as goal
+use Rattle.cx_scope.proofs.scope.Scope.close.Goals as goal
 
-pub returns-clause-taken : goal.returns-clause-taken
+pub returns-clause-own : goal.returns-clause-own
 unfolding view_scope
-returns-clause-taken c =
+returns-clause-own c =
     rw (c.in_ok-newest.ensures.taken, behind_oldest view_declared c.args.count c.args.self.now.declared) (reversed_map view_declared (drop c.args.count c.args.self.now.declared))
 
 pub returns-clause-left : goal.returns-clause-left
