@@ -1,7 +1,11 @@
 pub mod Bounded
 mod ExampleCases
 mod ExampleForms
+mod ExampleMoreForms
+mod ExampleOperatorCases
+mod ExamplePlaceCases
 mod ExampleRuns
+mod ExampleStatementCases
 mod ExampleTypes
 pub mod Extended
 pub mod Pieces
