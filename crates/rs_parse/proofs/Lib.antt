@@ -5,6 +5,7 @@ pub mod CrateRead
 pub mod CrateText
 pub mod CutFits
 pub mod Digits
+pub mod ExprStarts
 pub mod FileLaws
 pub mod Lexing
 pub mod MainText

@@ -25,7 +25,7 @@ use Rattle.rs_tree.specs.declared.ty.IntegerTy.{IntegerTy}
 use Rattle.rs_tree.specs.declared.ty.IntegerTy.TheVariants.{I8}
 use Rattle.rs_parse.proofs.Digits.{size_is, literal_word, within_limit}
 use Rattle.rs_parse.proofs.NameSigns.{not_true}
-use Rattle.rs_parse.proofs.ReadExprs.{literal_reads, number_sign, behind_some, front}
+use Rattle.rs_parse.proofs.ExprStarts.{literal_reads, number_sign, behind_some, front}
 use Rattle.rs_parse.proofs.ReadLists.{ahead_reads, parts_ahead, tokens_of, parts_ahead_to}
 use Rattle.rs_parse.proofs.ReadStmts.{stmt_list, list_is_stmts, stmts_spell, stmts_valid, stmts_read, starts, stmt_starts}
 use Rattle.rs_parse.proofs.ReadTypes.{types_read, result_reads, is_target, ty_option, is_arrow}

@@ -18,7 +18,8 @@ use Rattle.rs_tree.specs.Spelling as spelling
 use Rattle.rs_tree.specs.Tokens.{RToken, Word, Mark, Label}
 use Rattle.rs_tree.specs.Tree.{Place, Local, Static, Deref, Field, Expr, Literal, Truth, NoFunction, Read, Call, CallBy, Wrapped, WrappingNeg, Offset, OffsetFrom, IsNull, IsNone, AddressOf, NullPointer, SomeFunction, Transmute, Neg, Not, Cast, Binary, And, Or, Choose, Stmt, Assign, Eval, CopyBytes, If, Loop, Block, Break, Continue, Match, Return, Stmts, no_stmts, more_stmts, stmts, ArmTree, LiteralArm, Arms, no_arms, more_arms, arms}
 use Rattle.rs_tree.specs.Valid.{valid_place, valid_expr, valid_stmt, valid_stmts, valid_arm, valid_arms, valid_label, valid_returned, is_value}
-use Rattle.rs_parse.proofs.ReadExprs.{ends, opens, op, front, op_opens, expr_begins, begins, literal_reads, exprs_read, number_sign, behind_some}
+use Rattle.rs_parse.proofs.ExprStarts.{ends, opens, op, front, op_opens, expr_begins, begins, literal_reads, number_sign, behind_some}
+use Rattle.rs_parse.proofs.ReadExprs.{exprs_read}
 use Rattle.rs_parse.proofs.ReadLists.{ahead_reads}
 
 -- ---- lists of statements and of arms
