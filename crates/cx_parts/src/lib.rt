@@ -12,5 +12,5 @@ mod places;
 pub use at::At;
 pub use designators::{element_at, member_at};
 pub use landing::Kind;
-pub use parts::is_union_type;
+pub use parts::{has_element, is_union_type, part_type};
 pub use places::{first_at, landed_at, next_at, whole_of, within};

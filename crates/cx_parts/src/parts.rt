@@ -13,7 +13,7 @@ use cx_kinds::{Known, record_at, size_of};
 const MOST_BYTES: u64 = 9_223_372_036_854_775_808;
 
 /// The type of the element or the member of a type with a number, or None where there is none.
-pub(crate) fn part_type<'a>(known: Known<'a>, t: &'a Ty, index: u64) -> Option<&'a Ty>
+pub fn part_type<'a>(known: Known<'a>, t: &'a Ty, index: u64) -> Option<&'a Ty>
     requires { IsKnown known }
     ensures { option_map (λ one. view_type one.now) result ≡ part_type (types_in known.entry) (view_type t.now) index }
 {
@@ -44,9 +44,9 @@ fn element_type<'a>(
     }
 }
 
-// Whether an array has an element with a number (6.7.8p6, p22).
+/// Whether an array has an element with a number (ISO C99, 6.7.8p6, p22).
 #[tactic(auto, using(crate::proofs::Indexes::has_element_is))]
-fn has_element(known: Known, element: &Ty, length: Option<u64>, index: u64) -> bool
+pub fn has_element(known: Known, element: &Ty, length: Option<u64>, index: u64) -> bool
     requires { IsKnown known }
     ensures { result ≡ has_element (types_in known.entry) (view_type element.now) length index }
 {
