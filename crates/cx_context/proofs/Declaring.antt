@@ -28,7 +28,7 @@ module _ (one other : CLayouts) (same : HaveSameRows one other) where
       ap (λ extent. put_front (option_map (piece first) extent) (pieces_of one others)) (same_extent first.type)
       ∙ ap (put_front (piece_of other first)) (same_pieces others)
 
-  same_row : (record_is : CRecord) → row_of one record_is ≡ row_of other record_is
+  pub same_row : (record_is : CRecord) → row_of one record_is ≡ row_of other record_is
   same_row record_is = ap (option_and_then (row_of_pieces record_is.is_union)) (same_pieces record_is.members)
 
   same_rows : (found : Option CRecord) → option_and_then (row_of one) found ≡ option_and_then (row_of other) found

@@ -1,2 +1,4 @@
+pub mod Completed
 pub mod Declaring
 pub mod Same
+pub mod Settling

@@ -3,7 +3,11 @@
 
 mod changes;
 mod context;
+mod laws;
+mod parts;
+mod records;
 mod steps;
 
 pub use changes::Begun;
 pub use context::Context;
+pub use laws::none_is_laid;

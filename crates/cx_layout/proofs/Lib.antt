@@ -1,3 +1,4 @@
+pub mod Asked
 pub mod Builds
 pub mod Completing
 pub mod Fronts

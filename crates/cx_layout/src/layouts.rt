@@ -1,4 +1,4 @@
-ghost use Rattle.std.specs.Prelude.{◌≡◌, ◌≤◌, ◌<◌, [], ◌∷◌, map, length, All, IsSome, IfSome, IfOk, IfErr, IfNone, OnOk, OnErr, Some, None, is_some, slice_get, slice_set, option_map};
+ghost use Rattle.std.specs.Prelude.{◌≡◌, ◌≤◌, true, false, ◌<◌, [], ◌∷◌, map, length, All, IsSome, IfSome, IfOk, IfErr, IfNone, OnOk, OnErr, Some, None, is_some, slice_get, slice_set, option_map};
 ghost use Rattle.std.specs.Option.{option_copied, option_flatten};
 ghost use Rattle.cr_base.specs.Layout.{IsPiece, most_bytes, laid_record};
 ghost use Rattle.cx_core.specs.Layouts.{extent, whole_extent, row_at, row_of, piece_of, pieces_of};
@@ -129,6 +129,24 @@ impl Layouts {
         Ok(())
     }
 
+    /// Whether a record can be laid out: its members are complete, and it has no more than 16,777,216 bytes. Its number and its
+    /// tag don't matter. Refused only for want of memory.
+    #[tactic(auto, using(crate::proofs::Asked::incomplete_row, crate::proofs::Asked::too_large_row))]
+    pub fn has_row(&self, r: &RecordTy) -> Result<bool, Memory>
+        requires { All HasFittingBits (map view_member r.now.members) }
+        ensures has { IfOk result (λ found. found ≡ is_some (row_of self.now (view_record r.now))) }
+        ensures complete { IfOk result (λ found. found ≡ true → All (IsMemberComplete self.now) (map view_member r.now.members)) }
+    {
+        if !self.is_ready(r.members.as_slice()) {
+            return Ok(false);
+        }
+        match self.row_of(r) {
+            Ok(_row) => {}
+            Err(fault) => return no_row(fault),
+        }
+        Ok(true)
+    }
+
     // How a record is laid out.
     fn row_of(&self, r: &RecordTy) -> Result<Row, LayoutFault>
         requires complete { All (IsMemberComplete self.now) (map view_member r.now.members) }
@@ -243,5 +261,15 @@ impl Layouts {
             }
         }
         true
+    }
+}
+
+// A record that isn't laid out for this cause has no row, unless memory was wanting.
+fn no_row(fault: LayoutFault) -> Result<bool, Memory>
+    ensures { IfOk result (λ found. (found ≡ false) × (fault ≡ LayoutFault.TooLarge)) }
+{
+    match fault {
+        LayoutFault::TooLarge => Ok(false),
+        LayoutFault::Memory => Err(Memory),
     }
 }

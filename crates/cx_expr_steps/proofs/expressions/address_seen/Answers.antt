@@ -1,0 +1,26 @@
+use Rattle.std.proofs.Common.{◌≡◌, refl, sym, ap, ◌∙◌}
+use Rattle.cx_context.specs.Checks.{refusal_of}
+use Rattle.cx_context.specs.Views.{scope_of}
+use Rattle.cx_operands.specs.Views.{view_operand}
+use Rattle.cx_rules.specs.Meanings.{address_meaning}
+use Rattle.cx_rules.specs.Nodes.{address_node}
+use Rattle.cx_rules.specs.Pieces.{at_line}
+use Rattle.cx_rules.specs.Readings.{fine, check_chain, check_here}
+use Rattle.cx_context.proofs.Settling.{refused_step, settled_no, settled_ok}
+use Rattle.cx_expr_steps.proofs.expressions.address_seen.Goals as goal
+
+pub returns-in-Some : goal.returns-in-Some
+unfolding check_chain check_here
+returns-in-Some c = refused_step view_operand _ (scope_of c.args.context.now) _ (refusal_of (scope_of c.args.context.now).unit c.args.line c.in-Some.rule) c.refused.ensures
+    (settled_no _ (scope_of c.args.context.now).types (scope_of c.args.context.now) c.args.line (address_node (view_operand c.args.of))
+    (address_meaning (at_line (scope_of c.args.context.now) c.args.line) (view_operand c.args.of))
+    c.address_rule.result c.in-Some.rule refl (c.address_rule.ensures (scope_of c.args.context.now).types (scope_of c.args.context.now) c.args.line) c.in-Some.is)
+
+pub returns : goal.returns
+unfolding check_chain check_here
+returns c =
+    let made : view_operand c.in_ok-made.made ≡ (address_meaning (at_line (scope_of c.args.context.now) c.args.line) (view_operand c.args.of)) = c.in_ok-made.ensures ∙ ap (λ at. address_meaning at (view_operand c.args.of)) c.at_line-at.ensures in
+    settled_ok _ (scope_of c.args.context.now).types (scope_of c.args.context.now) c.args.line (address_node (view_operand c.args.of))
+    (address_meaning (at_line (scope_of c.args.context.now) c.args.line) (view_operand c.args.of))
+    c.address_rule.result refl (c.address_rule.ensures (scope_of c.args.context.now).types (scope_of c.args.context.now) c.args.line) c.in_default.is
+    ∙ ap (λ meaning. fine meaning (scope_of c.args.context.now)) (sym made)

@@ -1,0 +1,3 @@
+pub mod Designators
+pub mod Steps
+pub mod Views

@@ -1,0 +1,4 @@
+pub mod Params
+pub mod Steps
+pub mod Typedefs
+pub mod Written
