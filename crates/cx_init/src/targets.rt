@@ -1,17 +1,20 @@
 //! What initialisers are for: whole objects, and parts of them (ISO C99, 6.7.8p11 to p18).
 
-ghost use Rattle.std.specs.Prelude.{◌≡◌, map, option_map, IfOk, OnOk};
+ghost use Rattle.std.specs.Prelude.{◌≡◌, ◌||◌, if◌then◌else◌, false, None, Some, map, option_map, IfOk, OnOk};
 ghost use Rattle.cx_init.specs.Views.{view_stored, view_filling, view_target};
 ghost use Rattle.cx_kinds.specs.Known.{IsKnown, types_in};
 ghost use Rattle.cx_parts.specs.Views.{view_at};
 ghost use Rattle.cx_rules.specs.Initial.{first_at};
-ghost use Rattle.cx_rules.specs.Pieces.{from_whole, inside, base_is_text, target_at, whole_at, begins_at, outside};
+ghost use Rattle.cx_rules.specs.Pieces.{from_whole, inside, base_is_text, target_at, whole_at, whole_target, object_of_type, begins_at, outside};
+ghost use Rattle.cx_rules.specs.Types.{is_void, is_function};
+ghost use Rattle.cx_core.specs.Views.{view_type};
 ghost use Rattle.std.specs.Option.{option_and_then};
 
 use crate::stored::{Filling, Stored, Target};
 use crate::taken::drop_within;
 use cr_base::{Items, Memory};
-use cx_kinds::{Known, is_character_array};
+use cx_core::Ty;
+use cx_kinds::{Known, is_character_array, is_function, is_void};
 use cx_parts::{At, first_at, whole_of};
 use std::alloc::Global;
 
@@ -131,4 +134,23 @@ pub fn list_at_text(
     empty_base(alloc, target, &mut stored)?;
     let next = whole_at(alloc, target)?;
     Ok(Filling { stored, next })
+}
+
+/// What the list of a compound literal is for: an object of its type, which is no function and not `void` (ISO C99, 6.5.2.5p1). Refused
+/// only for want of memory.
+pub fn object_target(alloc: Global, is_static: bool, t: &Ty) -> Result<Target, Memory>
+    ensures { IfOk result (λ made. view_target made ≡ object_of_type is_static (view_type t.now)) }
+{
+    let base = object_base(alloc, t)?;
+    Ok(Target { is_static, base })
+}
+
+fn object_base(alloc: Global, t: &Ty) -> Result<Option<At>, Memory>
+    ensures { IfOk result (λ made. option_map view_at made ≡ (whole_target false (if is_void (view_type t.now) || is_function (view_type t.now) then None else Some (view_type t.now))).base) }
+{
+    if is_void(t) || is_function(t) {
+        return Ok(None);
+    }
+    let ty = t.copy(alloc)?;
+    Ok(Some(whole_of(alloc, ty)))
 }
