@@ -1,0 +1,130 @@
+//! The calls of the checks: an expression, an integer constant expression, and the type of a declarator. Each takes a scope and the
+//! layouts of its types, and adds what the tree declares. Of both nothing is said after a refusal, but that they belong together.
+
+ghost use Rattle.std.specs.Prelude.{◌≡◌, [], false, map};
+ghost use Rattle.cx_check.specs.Tells.{Tells, TellsConstant};
+ghost use Rattle.cx_context.specs.Checks.{Checks};
+ghost use Rattle.cx_context.specs.Laid.{IsLaid};
+ghost use Rattle.cx_context.specs.Views.{scope_of};
+ghost use Rattle.cx_core.specs.Views.{view_expr, view_type};
+ghost use Rattle.cx_operands.specs.Views.{view_operand};
+ghost use Rattle.cx_plain.specs.Literals.{literal_in, literal_in_declarator, literal_in_specs};
+ghost use Rattle.cx_rules.specs.Lines.{expr_line};
+ghost use Rattle.cx_rules.specs.Operands.{value_of};
+ghost use Rattle.cx_rules.specs.Units.{check_type_name, seen_expr, seen_type_name};
+ghost use Rattle.cx_scope.specs.Views.{view_scope};
+ghost use Rattle.cx_tree.specs.Trees.{TypeName};
+ghost use Rattle.cx_tree.specs.Views.{expr_view, declarator_view, spec_view, specs as spec_trees};
+
+use crate::walk::{declarator, expr, specs};
+use cr_base::{Boxed, Int, Refusal, Rule, Stop};
+use cx_context::Context;
+use cx_core::{CoreExpr, Ty};
+use cx_layout::Layouts;
+use cx_operands::{Operand, operand_constant};
+use cx_rules::{SpecsPlace, expressions_stop, type_names_stop};
+use cx_scope::Scope;
+use cx_shapes::{declarator_line, expr_line, specs_line};
+use cx_tree::{Declarator, Expr, Spec};
+use cx_type_steps::{derives_seen, specs_seen};
+use cx_values::value_of;
+use std::alloc::Global;
+
+/// The value of an expression (ISO C99, 6.5), with every conversion a node: what an lvalue holds, the address of an array's first element
+/// and the pointer to a function among them (6.3.2.1). Refused by the first node that breaks a rule, and for want of memory.
+pub fn check_expr(
+    alloc: Global,
+    scope: &mut Scope,
+    layouts: &mut Layouts,
+    e: &Expr,
+) -> Result<Boxed<CoreExpr>, Stop>
+    requires laid { IsLaid (view_scope scope.old).types layouts.old }
+    requires plain { literal_in (expr_view e.now) ≡ false }
+    ensures tells { Tells (λ made operand. view_expr made ≡ value_of operand) result (view_scope scope.new) (seen_expr (expr_view e.now) (view_scope scope.old)) }
+    ensures laid { IsLaid (view_scope scope.new).types layouts.new }
+{
+    let operand = match expr_walked(alloc, scope, layouts, e) {
+        Ok(operand) => operand,
+        Err(stop) => return Err(stop),
+    };
+    Ok(value_of(alloc, operand)?)
+}
+
+/// The value of an integer constant expression (ISO C99, 6.6). Refused by the first node that breaks a rule, by K17 at the expression where
+/// it is none, and for want of memory.
+pub fn constant(
+    alloc: Global,
+    scope: &mut Scope,
+    layouts: &mut Layouts,
+    e: &Expr,
+) -> Result<Int, Stop>
+    requires laid { IsLaid (view_scope scope.old).types layouts.old }
+    requires plain { literal_in (expr_view e.now) ≡ false }
+    ensures tells { TellsConstant result (view_scope scope.new) (expr_line (expr_view e.now)) (seen_expr (expr_view e.now) (view_scope scope.old)) }
+    ensures laid { IsLaid (view_scope scope.new).types layouts.new }
+{
+    let operand = match expr_walked(alloc, scope, layouts, e) {
+        Ok(operand) => operand,
+        Err(stop) => return Err(stop),
+    };
+    let Some(value) = operand_constant(scope.types(), &operand) else {
+        return Err(Stop::Refused(Refusal {
+            rule: Rule::K17,
+            unit: scope.unit(),
+            line: expr_line(e),
+        }));
+    };
+    Ok(value)
+}
+
+/// The type that specifiers and a declarator give (ISO C99, 6.7.6); the tags and the enumerators that they declare come into scope.
+/// Refused by the first node that breaks a rule, and for want of memory.
+pub fn read_type(
+    alloc: Global,
+    scope: &mut Scope,
+    layouts: &mut Layouts,
+    list: &[Spec],
+    one: &Declarator,
+) -> Result<Boxed<Ty>, Stop>
+    requires laid { IsLaid (view_scope scope.old).types layouts.old }
+    requires plain { (literal_in_specs (spec_trees (map spec_view list.now)) ≡ false) × (literal_in_declarator (declarator_view one.now) ≡ false) }
+    ensures tells { Tells (λ made type. view_type made ≡ type) result (view_scope scope.new)
+        (seen_type_name (TypeName (spec_trees (map spec_view list.now)) (declarator_view one.now) []) (view_scope scope.old)) }
+    ensures laid { IsLaid (view_scope scope.new).types layouts.new }
+{
+    let mut context = Context::take(alloc, scope, layouts);
+    let found = type_in(&mut context, list, one);
+    context.put_back(scope, layouts);
+    type_names_stop();
+    found
+}
+
+// An expression before its value is taken.
+fn expr_walked(
+    alloc: Global,
+    scope: &mut Scope,
+    layouts: &mut Layouts,
+    e: &Expr,
+) -> Result<Operand, Stop>
+    requires laid { IsLaid (view_scope scope.old).types layouts.old }
+    ensures tells { Tells (λ made operand. view_operand made ≡ operand) result (view_scope scope.new) (seen_expr (expr_view e.now) (view_scope scope.old)) }
+    ensures laid { IsLaid (view_scope scope.new).types layouts.new }
+{
+    let mut context = Context::take(alloc, scope, layouts);
+    let found = expr(&mut context, e);
+    context.put_back(scope, layouts);
+    expressions_stop();
+    found
+}
+
+#[tactic(auto, unfolding(cx_rules::specs::Readings::check_chain))]
+fn type_in(context: &mut Context, list: &[Spec], one: &Declarator) -> Result<Boxed<Ty>, Stop>
+    ensures { Checks view_type result (scope_of context.new) (check_type_name (TypeName (spec_trees (map spec_view list.now)) (declarator_view one.now) []) (scope_of context.old)) }
+{
+    let line = specs_line(list);
+    let all = specs(context, false, list)?;
+    specs_seen(context, SpecsPlace::Plain, line, &all)?;
+    let shape = declarator(context, one)?;
+    let from = all.base_type(context.alloc())?;
+    derives_seen(context, declarator_line(line, one), from, &shape)
+}

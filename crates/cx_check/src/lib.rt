@@ -1,0 +1,7 @@
+//! The checks of expressions and type names (ISO C99, 6.5 and 6.7): what they mean, or the first node that breaks a rule.
+#![tactic(auto)]
+
+mod calls;
+mod walk;
+
+pub use calls::{check_expr, constant, read_type};
