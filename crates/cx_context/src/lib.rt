@@ -4,6 +4,7 @@
 mod changes;
 mod context;
 mod laws;
+mod numbers;
 mod parts;
 mod records;
 mod steps;
@@ -11,3 +12,4 @@ mod steps;
 pub use changes::Begun;
 pub use context::Context;
 pub use laws::none_is_laid;
+pub use numbers::LiteralBegun;

@@ -17,5 +17,5 @@ pub use kinds::{
 pub use known::Known;
 pub use limits::is_too_large;
 pub use meeting::{alike, compatible, keeps_qualifiers, point_alike};
-pub use qualifiers::{holds_const, record_at};
+pub use qualifiers::{completed_count, holds_const, record_at};
 pub use same::same_type;

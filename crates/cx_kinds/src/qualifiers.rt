@@ -16,7 +16,7 @@ use cx_core::{Member, RecordTy, Ty, TyForm, Types};
 pub fn holds_const(types: &Types, t: &Ty) -> bool
     ensures { result ≡ holds_const (view_types types.now) (view_type t.now) }
 {
-    const_in(types, completed(types.records.as_slice()), t)
+    const_in(types, completed_count(types.records.as_slice()), t)
 }
 
 // The same, where records hold each other at most so deep.
@@ -92,8 +92,8 @@ fn const_on_way(t: &Ty) -> bool
     }
 }
 
-// How many records are completed.
-fn completed(records: &[Option<RecordTy>]) -> usize
+/// How many records are completed (ISO C99, 6.7.2.3).
+pub fn completed_count(records: &[Option<RecordTy>]) -> usize
     ensures { result ≡ completed_count (map (option_map view_record) records.now) }
 {
     let mut count = 0;

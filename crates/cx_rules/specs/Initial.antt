@@ -16,24 +16,24 @@ use Rattle.cx_rules.specs.Types.{is_array, is_pointer, is_character_array, recor
 
 -- ---- what stands in an object
 
-abbrev members_of : Option CRecord → List CMember
+abbrev pub members_of : Option CRecord → List CMember
 members_of None = []
 members_of (Some one) = one.members
 
-abbrev is_union_of : Option CRecord → Bool
+abbrev pub is_union_of : Option CRecord → Bool
 is_union_of None = false
 is_union_of (Some one) = one.is_union
 
-abbrev record_at : CTypes → ℕ → Option CRecord
+abbrev pub record_at : CTypes → ℕ → Option CRecord
 record_at types number = option_flatten (slice_get types.records number)
 
 -- how many elements of a size an array without length may have: none ends past 2^63 bytes (a choice of the profile)
-abbrev most_elements : Option ℕ → ℕ
+abbrev pub most_elements : Option ℕ → ℕ
 most_elements None = 0
 most_elements (Some zero) = 0
 most_elements (Some (suc n)) = 2 ^ 63 / suc n
 
-abbrev has_element : CTypes → CTy → Option ℕ → ℕ → Bool
+abbrev pub has_element : CTypes → CTy → Option ℕ → ℕ → Bool
 has_element types element None index = nat_lt index (most_elements (size_of types element))
 has_element types element (Some length) index = nat_lt index length
 
@@ -44,11 +44,11 @@ part_type types (ty (record_type number) is_const) index = option_map (λ one. o
 part_type types (ty form is_const) index = None
 
 -- the number of the first named member, counted from a number on
-abbrev first_named : ℕ → List CMember → Option ℕ
+abbrev pub first_named : ℕ → List CMember → Option ℕ
 first_named from [] = None
 first_named from (one ∷ others) = if is_some one.name then Some from else first_named (from + 1) others
 
-abbrev behind : ℕ → List CMember → List CMember
+abbrev pub behind : ℕ → List CMember → List CMember
 behind zero members = members
 behind (suc n) [] = []
 behind (suc n) (one ∷ others) = behind n others
@@ -60,20 +60,20 @@ first_part types (ty (record_type number) is_const) = first_named 0 (members_of 
 first_part types (ty form is_const) = None
 
 -- the part behind one; of a union only the first is initialised in turn
-abbrev next_part : CTypes → CTy → ℕ → Option ℕ
+abbrev pub next_part : CTypes → CTy → ℕ → Option ℕ
 next_part types (ty (array element length) is_const) index = if has_element types element length (index + 1) then Some (index + 1) else None
 next_part types (ty (record_type number) is_const) index =
     if is_union_of (record_at types number) then None else first_named (index + 1) (behind (index + 1) (members_of (record_at types number)))
 next_part types (ty form is_const) index = None
 
-abbrev one_step : Option ℕ → Option (List ℕ)
+abbrev pub one_step : Option ℕ → Option (List ℕ)
 one_step index = option_map (λ one. one ∷ []) index
 
-abbrev later_or : Option (List ℕ) → Option (List ℕ) → Option (List ℕ)
+abbrev pub later_or : Option (List ℕ) → Option (List ℕ) → Option (List ℕ)
 later_or None other = other
 later_or (Some path) other = Some path
 
-abbrev following_in : CTypes → Option CTy → List ℕ → Option (List ℕ)
+abbrev pub following_in : CTypes → Option CTy → List ℕ → Option (List ℕ)
 following_in types None path = None
 following_in types (Some type) [] = None
 following_in types (Some type) (index ∷ path) =
@@ -90,37 +90,37 @@ pub data CKind : Type 0 where
   of_text : CKind
   of_type : CTy → CKind
 
-abbrev is_aggregate : CTyForm → Bool
+abbrev pub is_aggregate : CTyForm → Bool
 is_aggregate (array element length) = true
 is_aggregate (record_type number) = true
 is_aggregate _ = false
 
 -- a string literal initialises an array of characters, and a structure or union a whole one of its type
-abbrev stays : CTypes → CKind → CTy → Bool
+abbrev pub stays : CTypes → CKind → CTy → Bool
 stays types of_text type = is_character_array (form_of_type type)
 stays types (of_type given) type = is_some (record_of type) && compatible types (unqualified type) (unqualified given)
 
-abbrev down : Bool → Option (List ℕ) → Option (List ℕ)
+abbrev pub down : Bool → Option (List ℕ) → Option (List ℕ)
 down true path = Some []
 down false path = path
 
-abbrev lands_in : (ℕ → Option (List ℕ)) → CTypes → CKind → CTy → Option (List ℕ)
+abbrev pub lands_in : (ℕ → Option (List ℕ)) → CTypes → CKind → CTy → Option (List ℕ)
 lands_in of_record types kind (ty (array element length) is_const) =
     down (stays types kind (ty (array element length) is_const)) (option_map (λ path. 0 ∷ path) (lands_in of_record types kind element))
 lands_in of_record types kind (ty (record_type number) is_const) =
     down (stays types kind (ty (record_type number) is_const)) (of_record number)
 lands_in of_record types kind (ty form is_const) = Some []
 
-abbrev in_member : (CTy → Option (List ℕ)) → ℕ → Option CMember → Option (List ℕ)
+abbrev pub in_member : (CTy → Option (List ℕ)) → ℕ → Option CMember → Option (List ℕ)
 in_member lands index None = None
 in_member lands index (Some one) = option_map (λ path. index ∷ path) (lands one.type)
 
-abbrev in_first : (CTy → Option (List ℕ)) → List CMember → Option ℕ → Option (List ℕ)
+abbrev pub in_first : (CTy → Option (List ℕ)) → List CMember → Option ℕ → Option (List ℕ)
 in_first lands members None = None
 in_first lands members (Some index) = in_member lands index (slice_get members index)
 
 -- records hold each other at most so deep
-abbrev record_lands : CTypes → CKind → ℕ → ℕ → Option (List ℕ)
+abbrev pub record_lands : CTypes → CKind → ℕ → ℕ → Option (List ℕ)
 record_lands types kind zero number = None
 record_lands types kind (suc depth) number =
     in_first (lands_in (record_lands types kind depth) types kind) (members_of (record_at types number)) (first_named 0 (members_of (record_at types number)))
@@ -139,12 +139,12 @@ pub record CAt : Type 0 where
 abbrev pub whole_of : CTy → CAt
 whole_of type = record { path = []; type = type }
 
-abbrev type_by : CTypes → Option CTy → List ℕ → Option CTy
+abbrev pub type_by : CTypes → Option CTy → List ℕ → Option CTy
 type_by types None path = None
 type_by types (Some type) [] = Some type
 type_by types (Some type) (index ∷ path) = type_by types (part_type types type index) path
 
-abbrev at_path : CTypes → CTy → List ℕ → Option CAt
+abbrev pub at_path : CTypes → CTy → List ℕ → Option CAt
 at_path types type path = option_map (λ found. record { path = path; type = found }) (type_by types (Some type) path)
 
 -- a part of a part
@@ -152,7 +152,7 @@ abbrev pub at_within : CTypes → CAt → List ℕ → Option CAt
 at_within types at path = option_map (λ found. record { path = at.path ++ path; type = found }) (type_by types (Some at.type) path)
 
 -- where the first value of a list in braces stands: a scalar takes it itself (6.7.8p11)
-abbrev first_path : CTypes → CTy → Option (List ℕ)
+abbrev pub first_path : CTypes → CTy → Option (List ℕ)
 first_path types type = if is_aggregate (form_of_type type) then one_step (first_part types type) else Some []
 
 abbrev pub first_at : CTypes → CTy → Option CAt
@@ -168,7 +168,7 @@ landed_at types kind at = option_and_then (at_within types at) (landing types ki
 
 -- ---- designators (6.7.8p6, p7)
 
-abbrev index_in : CTypes → CAt → ℤ → Option CAt
+abbrev pub index_in : CTypes → CAt → ℤ → Option CAt
 index_in types at (pos index) = if is_array at.type then at_within types at (index ∷ []) else None
 index_in types at (negsuc n) = None
 
@@ -177,15 +177,15 @@ element_at types None index = None
 element_at types (Some at) None = None
 element_at types (Some at) (Some index) = index_in types at index
 
-abbrev is_called : List ℕ → Option (List ℕ) → Bool
+abbrev pub is_called : List ℕ → Option (List ℕ) → Bool
 is_called name None = false
 is_called name (Some other) = bytes_eq other name
 
-abbrev called_from : ℕ → List ℕ → List CMember → Option ℕ
+abbrev pub called_from : ℕ → List ℕ → List CMember → Option ℕ
 called_from from name [] = None
 called_from from name (one ∷ others) = if is_called name one.name then Some from else called_from (from + 1) name others
 
-abbrev members_by : CTypes → Option ℕ → List CMember
+abbrev pub members_by : CTypes → Option ℕ → List CMember
 members_by types None = []
 members_by types (Some number) = members_of (record_at types number)
 
@@ -200,7 +200,7 @@ pub record CStored : Type 0 where
   pub type : CTy
   pub value : CExpr
 
-abbrev is_union_type : CTypes → CTy → Bool
+abbrev pub is_union_type : CTypes → CTy → Bool
 is_union_type types (ty (record_type number) is_const) = is_union_of (record_at types number)
 is_union_type types (ty form is_const) = false
 
@@ -238,7 +238,7 @@ in_order (one ∷ others) = put_in_order one (in_order others)
 -- ---- the whole
 
 -- the numbers of elements that are stored in, one more than the greatest
-abbrev least_length : List CStored → ℕ
+abbrev pub least_length : List CStored → ℕ
 least_length [] = 0
 least_length (one ∷ others) = elim one.path as (λ _. ℕ) [ [] ↦ least_length others | index ∷ path ↦ max (index + 1) (least_length others) ]
 
@@ -247,7 +247,7 @@ abbrev pub completed_type : CTy → List CStored → CTy
 completed_type (ty (array element None) is_const) stored = ty (array element (Some (least_length stored))) is_const
 completed_type type stored = type
 
-abbrev put_at : CStored → Option CPart → CPuts → CPuts
+abbrev pub put_at : CStored → Option CPart → CPuts → CPuts
 put_at one None others = others
 put_at one (Some part) others = more_puts (put part.spot part.type one.value) others
 
@@ -265,7 +265,7 @@ abbrev pub char_type : CTy
 char_type = ty (basic basics.Char) false
 
 -- a byte as a value of a character type
-abbrev as_scalar : Option Scalar → ℕ → ℤ
+abbrev pub as_scalar : Option Scalar → ℕ → ℤ
 as_scalar None byte = pos byte
 as_scalar (Some kind) byte = wrapped kind (pos byte)
 
@@ -279,7 +279,7 @@ bytes_from types at where_is element length index (byte ∷ bytes) =
     then record { path = where_is.path ++ index ∷ []; type = element; value = byte_value types at element byte } ∷ bytes_from types at where_is element length (index + 1) bytes
     else []
 
-abbrev text_in : CTypes → TextPlace → CAt → List ℕ → CTyForm → List CStored
+abbrev pub text_in : CTypes → TextPlace → CAt → List ℕ → CTyForm → List CStored
 text_in types at where_is bytes (array element length) = bytes_from types at where_is element length 0 bytes
 text_in types at where_is bytes _ = []
 
@@ -287,11 +287,11 @@ text_in types at where_is bytes _ = []
 abbrev pub text_stored : CTypes → TextPlace → CAt → List ℕ → List CStored
 text_stored types at where_is bytes = text_in types at where_is bytes (form_of_type where_is.type)
 
-abbrev fits_length : ℕ → Option ℕ → Bool
+abbrev pub fits_length : ℕ → Option ℕ → Bool
 fits_length count None = true
 fits_length count (Some length) = nat_le count (length + 1)
 
-abbrev text_fits_in : ℕ → CTyForm → Bool
+abbrev pub text_fits_in : ℕ → CTyForm → Bool
 text_fits_in count (array element length) = fits_length count length
 text_fits_in count _ = false
 

@@ -51,7 +51,7 @@ text_parts (Text parts lines) = parts
 text_parts _ = []
 
 -- what is used by its name is mentioned where it has external linkage or is a function (6.9p3, p5)
-abbrev use_linked : ℕ → List ℕ → CTy → Linkage → CScope → CScope
+abbrev pub use_linked : ℕ → List ℕ → CTy → Linkage → CScope → CScope
 use_linked line name type External scope = with_mention (mention_of scope name line type External uses) scope
 use_linked line name type Internal scope = scope
 use_linked line name type Nothing scope = scope
@@ -143,7 +143,7 @@ text_meaning scope line bytes = a_place false (expr (text_type bytes) (at_line s
 abbrev pub with_literal : CTy → CScope → CScope
 with_literal type scope = with_made (record { object = scope.next_object; type = type; is_text = false; fixed = None }) (with_object_number scope)
 
-abbrev if_outside : Bool → CPuts → Option CPuts
+abbrev pub if_outside : Bool → CPuts → Option CPuts
 if_outside true puts = None
 if_outside false puts = Some puts
 
@@ -157,7 +157,7 @@ literal_meaning false at number type puts = a_place false (expr type at (object 
 
 -- ---- specifiers
 
-abbrev typedef_type : Option CMeant → CTy
+abbrev pub typedef_type : Option CMeant → CTy
 typedef_type (Some (a_type_name type)) = type
 typedef_type _ = int_type
 
@@ -182,12 +182,12 @@ abbrev pub with_used : Option CTag → Option (List ℕ) → Bool → CScope →
 with_used None name is_union scope = with_tag name true false (length scope.types.records) (with_record name is_union scope)
 with_used (Some one) name is_union scope = scope
 
-abbrev is_same_kind : Bool → Option CRecordTag → Bool
+abbrev pub is_same_kind : Bool → Option CRecordTag → Bool
 is_same_kind is_union None = false
 is_same_kind is_union (Some one) = beq one.is_union is_union
 
 -- a list of members completes what its tag declares in the same scope, where that isn't completed (6.7.2.3p6)
-abbrev continues : CTypes → Bool → CTag → Bool
+abbrev pub continues : CTypes → Bool → CTag → Bool
 continues types is_union one =
     one.is_record && (is_same_kind is_union (slice_get types.record_tags one.number) && is_none (option_flatten (slice_get types.records one.number)))
 
@@ -220,11 +220,11 @@ abbrev pub no_more_declarators : MemberDeclaratorTrees → Bool
 no_more_declarators no_member_declarators = true
 no_more_declarators (more_member_declarators m ms) = false
 
-abbrev natural : ℤ → ℕ
+abbrev pub natural : ℤ → ℕ
 natural (pos n) = n
 natural value = 0
 
-abbrev width_as : Option ℤ → Option ℕ
+abbrev pub width_as : Option ℤ → Option ℕ
 width_as None = None
 width_as (Some value) = Some (natural value)
 
@@ -256,7 +256,7 @@ abbrev pub param_list : Option CParam → List CParam → List CParam
 param_list None others = others
 param_list (Some one) others = one ∷ others
 
-abbrev param_as : CScope → CSpecs → Option (List ℕ) → CTy → CParam
+abbrev pub param_as : CScope → CSpecs → Option (List ℕ) → CTy → CParam
 param_as scope specs name type = record {
   name = name;
   object = scope.next_object;
@@ -268,7 +268,7 @@ param_as scope specs name type = record {
 abbrev pub param_of : CScope → CSpecs → Option (List ℕ) → CTy → Option CParam
 param_of scope specs name type = if is_void type then None else Some (param_as scope specs name type)
 
-abbrev declared_param : Option (List ℕ) → CParam → CScope → CScope
+abbrev pub declared_param : Option (List ℕ) → CParam → CScope → CScope
 declared_param None one scope = scope
 declared_param (Some name) one scope = with_declared name (an_object one.object one.type one.is_register Nothing) scope
 
@@ -294,18 +294,18 @@ pub record CFilling : Type 0 where
   pub stored : List CStored
   pub next : Option CAt
 
-abbrev is_within : (part path : List ℕ) → Bool
+abbrev pub is_within : (part path : List ℕ) → Bool
 is_within [] path = true
 is_within (index ∷ part) [] = false
 is_within (index ∷ part) (other ∷ path) = (index == other) && is_within part path
 
-abbrev kept_outside : List ℕ → List CStored → List CStored
+abbrev pub kept_outside : List ℕ → List CStored → List CStored
 kept_outside part [] = []
 kept_outside part (one ∷ others) = if is_within part one.path then kept_outside part others else one ∷ kept_outside part others
 
 -- what was stored in a part goes where the part as a whole is given anew, by a value, a string literal or a list in braces: the rest of
 -- the part is then zero (6.7.8p19, p21)
-abbrev outside : Option CAt → List CStored → List CStored
+abbrev pub outside : Option CAt → List CStored → List CStored
 outside None stored = stored
 outside (Some at) stored = kept_outside at.path stored
 
@@ -313,19 +313,19 @@ abbrev pub begins_at : CTypes → CTarget → List CStored → CFilling
 begins_at types target stored = record { stored = stored; next = option_and_then (λ base. first_at types base.type) target.base }
 
 -- the path of a part from the whole object
-abbrev inside : CAt → CAt → CAt
+abbrev pub inside : CAt → CAt → CAt
 inside base at = record at { path = base.path ++ at.path }
 
 abbrev pub from_whole : Option CAt → Option CAt → Option CAt
 from_whole None at = None
 from_whole (Some base) at = option_map (inside base) at
 
-abbrev next_of : CTypes → Option CAt → Option CAt → Option CAt
+abbrev pub next_of : CTypes → Option CAt → Option CAt → Option CAt
 next_of types None at = None
 next_of types (Some base) None = None
 next_of types (Some base) (Some at) = next_at types base.type at
 
-abbrev with_more : Option CAt → List CStored → List CStored → List CStored
+abbrev pub with_more : Option CAt → List CStored → List CStored → List CStored
 with_more at [] stored = stored
 with_more at (first ∷ more) stored = outside at stored ++ first ∷ more
 
@@ -335,15 +335,15 @@ filled types target at more filling = record { stored = with_more (from_whole ta
 
 -- an object that lives as long as the program: one of a literal outside of functions or a string literal, one with linkage, or one
 -- that is declared `static`
-abbrev made_static : ℕ → CMade → Bool
+abbrev pub made_static : ℕ → CMade → Bool
 made_static number made = made.object == number && is_some made.fixed
 
-abbrev has_linkage : Linkage → Bool
+abbrev pub has_linkage : Linkage → Bool
 has_linkage External = true
 has_linkage Internal = true
 has_linkage Nothing = false
 
-abbrev object_static : ℕ → CObject → Bool
+abbrev pub object_static : ℕ → CObject → Bool
 object_static number one = one.object == number && (has_linkage one.linkage || is_some one.puts)
 
 abbrev pub is_static_object : CScope → ℕ → Bool
@@ -357,7 +357,7 @@ may_initialise scope true value = is_initial scope.types (is_static_object scope
 abbrev pub landed : CTypes → COperand → Option CAt → Option CAt
 landed types value at = option_and_then (landed_at types (of_type (value_type value))) at
 
-abbrev assignable_at : CTypes → COperand → Option CAt → Bool
+abbrev pub assignable_at : CTypes → COperand → Option CAt → Bool
 assignable_at types value None = true
 assignable_at types value (Some at) = is_assignable types at.type (value_of value)
 
@@ -370,7 +370,7 @@ value_facts scope target value at = record {
   is_constant = may_initialise scope target.is_static (value_of value);
 }
 
-abbrev stored_value : CTypes → COperand → Option CAt → List CStored
+abbrev pub stored_value : CTypes → COperand → Option CAt → List CStored
 stored_value types value None = []
 stored_value types value (Some at) = record { path = at.path; type = at.type; value = fitted types at.type (value_of value) } ∷ []
 
@@ -381,21 +381,21 @@ value_stored types target value at = stored_value types value (from_whole target
 abbrev pub text_landed : CTypes → Option CAt → Option CAt
 text_landed types at = option_and_then (landed_at types of_text) at
 
-abbrev is_array_at : Option CAt → Bool
+abbrev pub is_array_at : Option CAt → Bool
 is_array_at None = false
 is_array_at (Some at) = is_character_array (form_of_type at.type)
 
 abbrev pub fills : CTypes → Option CAt → Bool
 fills types at = is_array_at (text_landed types at)
 
-abbrev text_fits_at : List ℕ → Option CAt → Bool
+abbrev pub text_fits_at : List ℕ → Option CAt → Bool
 text_fits_at bytes None = false
 text_fits_at bytes (Some at) = text_fits at bytes
 
 abbrev pub text_facts : List ℕ → Option CAt → CGivenFacts
 text_facts bytes at = record { value = None; has_place = text_fits_at bytes at; is_assignable = true; is_constant = true }
 
-abbrev bytes_stored : CTypes → TextPlace → List ℕ → Option CAt → List CStored
+abbrev pub bytes_stored : CTypes → TextPlace → List ℕ → Option CAt → List CStored
 bytes_stored types place bytes None = []
 bytes_stored types place bytes (Some at) = text_stored types place at bytes
 
@@ -407,7 +407,7 @@ abbrev pub holds_text : EntryTrees → Bool
 holds_text (more_entries (Entry no_designators (Single (Text parts lines)) entry_lines) no_entries) = true
 holds_text _ = false
 
-abbrev base_is_text : Option CAt → Bool
+abbrev pub base_is_text : Option CAt → Bool
 base_is_text None = false
 base_is_text (Some base) = is_character_array (form_of_type base.type)
 

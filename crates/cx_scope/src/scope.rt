@@ -2,7 +2,7 @@
 #![tactic(auto, unfolding(crate::specs::Views::view_scope))]
 
 ghost use Rattle.std.specs.Prelude.{◌≡◌, ◌≤◌, ◌<◌, map, length, IfOk, OnOk, OnErr};
-ghost use Rattle.cx_core.specs.Views.{view_types};
+ghost use Rattle.cx_core.specs.Views.{view_object, view_types};
 ghost use Rattle.cx_rules.specs.Scope.{new_scope, no_labels, with_declared, with_object_number, left};
 ghost use Rattle.cx_rules.specs.Pieces.{declared_since};
 ghost use Rattle.cx_scope.specs.Changes.{begun_at, dropped_to, inside};
@@ -119,6 +119,13 @@ impl Scope {
         ensures { map view_made result.now ≡ (view_scope self.now).literals }
     {
         self.literals.as_slice()
+    }
+
+    /// The objects that the unit declared so far, of file scope and of blocks.
+    pub fn objects(&self) -> &[CoreObject]
+        ensures { map view_object result.now ≡ (view_scope self.now).objects }
+    {
+        self.objects.as_slice()
     }
 
     /// The number of the unit.

@@ -1,7 +1,7 @@
 use Rattle.std.proofs.Common.{◌≡◌, ◌+◌, ◌≤◌, map, option_map, drop}
 use Rattle.cx_core.specs.Layouts.{completed_count}
 use Rattle.cx_core.specs.Views.{view_record}
-use Rattle.cx_kinds.proofs.qualifiers.completed.Given as goal
+use Rattle.cx_kinds.proofs.qualifiers.completed_count.Given as goal
 
 abbrev pub invariant-loop-record : goal.invariant-loop-record
 invariant-loop-record l = record {

@@ -1,0 +1,5 @@
+pub mod Initials
+pub mod Ordering
+pub mod PartsLaws
+pub mod Taking
+pub mod TextBytes

@@ -1,0 +1,4 @@
+pub mod Constants
+pub mod Orders
+pub mod Parts
+pub mod Views

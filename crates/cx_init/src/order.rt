@@ -1,0 +1,133 @@
+//! What later values leave, in the order of places (ISO C99, 6.7.8p19).
+
+ghost use Rattle.std.specs.Prelude.{◌≡◌, ◌≤◌, [], ◌∷◌, if◌then◌else◌, map, length, Some, IfOk, OnOk};
+ghost use Rattle.cx_core.specs.Views.{view_type};
+ghost use Rattle.cx_init.specs.Orders.{kept_flags, chosen, ordered_onto, place_among};
+ghost use Rattle.cx_init.specs.Views.{view_stored};
+ghost use Rattle.cx_kinds.specs.Known.{IsKnown, types_in};
+ghost use Rattle.cx_rules.specs.Initial.{takes_away, kept_by, kept, put_in_order, in_order};
+
+use crate::paths::comes_before;
+use crate::stored::Stored;
+use cr_base::{Items, Memory};
+use cx_core::Ty;
+use cx_kinds::Known;
+use cx_parts::{is_union_type, part_type};
+use std::alloc::Global;
+
+// Whether a later value takes an earlier one away: it is stored in a part that held the earlier one, or in another member of a union.
+fn takes_away(known: Known, t: &Ty, later: &[u64], earlier: &[u64]) -> bool
+    requires { IsKnown known }
+    ensures { result ≡ takes_away (types_in known.entry) (Some (view_type t.now)) later.now earlier.now }
+{
+    let Some((index, later)) = later.split_first() else {
+        return true;
+    };
+    let Some((other, earlier)) = earlier.split_first() else {
+        return false;
+    };
+    if *index != *other {
+        return is_union_type(known.types, t);
+    }
+    match part_type(known, t, *index) {
+        None => false,
+        Some(part) => takes_away(known, part, later, earlier),
+    }
+}
+
+// Whether none of later values takes one away.
+fn kept_by(known: Known, t: &Ty, later: &[Stored], one: &Stored) -> bool
+    requires { IsKnown known }
+    ensures { result ≡ kept_by (types_in known.entry) (view_type t.now) (map view_stored later.now) (view_stored one.now) }
+{
+    for other in later {
+        if takes_away(known, t, other.path.as_slice(), one.path.as_slice()) {
+            return false;
+        }
+    }
+    true
+}
+
+// Which of the values are kept.
+fn kept_flags(alloc: Global, known: Known, t: &Ty, stored: &[Stored]) -> Result<Items<bool>, Memory>
+    requires { IsKnown known }
+    ensures { IfOk result (λ flags. flags ≡ kept_flags (types_in known.entry) (view_type t.now) (map view_stored stored.now)) }
+{
+    let mut flags = Items::new(alloc);
+    for index in 0..stored.len() {
+        flags.push(kept_by(known, t, &stored[index + 1..], &stored[index]))?;
+    }
+    Ok(flags)
+}
+
+// How many of the values stand before a part, up to the first that doesn't.
+fn place_among(sorted: &[Stored], path: &[u64]) -> usize
+    ensures place { result ≡ place_among (map view_stored sorted.now) path.now }
+    ensures within { result ≤ length sorted.now }
+{
+    for index in 0..sorted.len() {
+        if !comes_before(sorted[index].path.as_slice(), path) {
+            return index;
+        }
+    }
+    sorted.len()
+}
+
+// A value gets its place among others that are in order.
+fn put_in_order(sorted: &mut Vec<Stored>, one: Stored) -> Result<(), Memory>
+    ensures { OnOk result (map view_stored sorted.new.items ≡ put_in_order (view_stored one) (map view_stored sorted.old.items)) }
+{
+    let place = place_among(sorted.as_slice(), one.path.as_slice());
+    sorted.insert(place, one)?;
+    Ok(())
+}
+
+/// What later values leave of what an initialiser stores in an object of a type, in the order of the places; a whole part stands before
+/// what is stored in it. Refused only for want of memory.
+pub(crate) fn kept_in_order(
+    alloc: Global,
+    known: Known,
+    t: &Ty,
+    stored: Items<Stored>,
+) -> Result<Items<Stored>, Memory>
+    requires { IsKnown known }
+    ensures { IfOk result (λ made. map view_stored made ≡ in_order (kept (types_in known.entry) (view_type t.now) (map view_stored stored))) }
+{
+    let flags = kept_flags(alloc, known, t, stored.as_slice())?;
+    chosen_in_order(alloc, flags, stored)
+}
+
+fn keep_flagged(is_kept: bool, one: Stored, sorted: &mut Vec<Stored>) -> Result<(), Memory>
+    ensures { OnOk result (map view_stored sorted.new.items ≡ ordered_onto (if is_kept then view_stored one ∷ [] else []) (map view_stored sorted.old.items)) }
+{
+    if is_kept {
+        put_in_order(sorted, one)
+    } else {
+        Ok(())
+    }
+}
+
+// The values whose flag is set, in order.
+#[tactic(auto, using(crate::proofs::Ordering::chosen_last, crate::proofs::Ordering::onto_append, crate::proofs::Ordering::onto_nothing))]
+fn chosen_in_order(
+    alloc: Global,
+    flags: Items<bool>,
+    stored: Items<Stored>,
+) -> Result<Items<Stored>, Memory>
+    requires { length flags ≡ length stored }
+    ensures { IfOk result (λ made. map view_stored made ≡ in_order (chosen flags (map view_stored stored))) }
+{
+    let mut flags = flags;
+    let mut left = stored;
+    let mut sorted = Vec::new(alloc);
+    for _index in 0..left.len() {
+        let Some(one) = left.pop() else {
+            return Ok(Items::of(sorted));
+        };
+        let Some(is_kept) = flags.pop() else {
+            return Ok(Items::of(sorted));
+        };
+        keep_flagged(is_kept, one, &mut sorted)?;
+    }
+    Ok(Items::of(sorted))
+}

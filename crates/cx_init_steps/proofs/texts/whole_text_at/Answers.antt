@@ -1,0 +1,37 @@
+use Rattle.std.proofs.Common.{rules, ◌≡◌, refl, sym, ap, subst, ◌∙◌, None, option_map, is_some, map, true, false}
+use Rattle.cx_breaks.specs.Placed.{placed}
+use Rattle.cx_kinds.specs.Known.{types_in}
+use Rattle.cx_rules.specs.Rules.{rule_at}
+use Rattle.cx_context.specs.Checks.{refusal_of}
+use Rattle.cx_context.specs.Views.{scope_of}
+use Rattle.cx_context.proofs.Settling.{refused_step, settled_no, settled_ok, changed_no, changed_ok}
+use Rattle.cx_core.specs.Views.{view_type, view_puts}
+use Rattle.cx_init.specs.Views.{view_filling, view_target, view_stored, view_filled}
+use Rattle.cx_operands.specs.Views.{view_operand}
+use Rattle.cx_parts.specs.Views.{view_at}
+use Rattle.cx_rules.specs.Initial.{element_at, member_at}
+use Rattle.cx_rules.specs.Nodes.{given_node, element_node, designated_node, literal_node}
+use Rattle.cx_rules.specs.Operands.{constant_of, value_of}
+use Rattle.cx_rules.specs.Pieces.{at_line, filled, value_facts, value_stored, text_facts, text_stored_at, whole_at, literal_made, literal_meaning}
+use Rattle.cx_rules.specs.Readings.{fine, check_chain, check_here}
+use Rattle.cx_rules.specs.Scope.{with_object_number, with_made_at}
+use Rattle.cx_init_steps.proofs.texts.whole_text_at.Goals as goal
+
+pub returns-in-Some : goal.returns-in-Some
+unfolding check_chain check_here
+returns-in-Some c = refused_step view_filling _ (scope_of c.args.context.now) _ (refusal_of (scope_of c.args.context.now).unit c.args.line c.in-Some.rule) c.refused.ensures
+    (changed_no _ (scope_of c.args.context.now).types (scope_of c.args.context.now) c.args.line (given_node (text_facts c.args.bytes.now (option_map (λ one. view_at one.now) c.args.at)))
+    (with_object_number (scope_of c.args.context.now))
+    (record { stored = text_stored_at (scope_of c.args.context.now).types (at_line (scope_of c.args.context.now) c.args.line) (view_target c.args.target.now) c.args.bytes.now (option_map (λ one. view_at one.now) c.args.at); next = None })
+    c.text_rule.result c.in-Some.rule refl (c.text_rule.ensures c.args.line) c.in-Some.is)
+
+pub returns : goal.returns
+unfolding check_chain check_here
+returns c =
+    let made : view_filling (record { stored = c.in_ok-stored.stored; next = None }) ≡ (record { stored = text_stored_at (scope_of c.args.context.now).types (at_line (scope_of c.args.context.now) c.args.line) (view_target c.args.target.now) c.args.bytes.now (option_map (λ one. view_at one.now) c.args.at); next = None }) = search rules in
+    let after : scope_of c.count_object.new.self ≡ (with_object_number (scope_of c.args.context.now)) = search rules in
+    changed_ok _ (scope_of c.args.context.now).types (scope_of c.args.context.now) c.args.line (given_node (text_facts c.args.bytes.now (option_map (λ one. view_at one.now) c.args.at)))
+    (with_object_number (scope_of c.args.context.now))
+    (record { stored = text_stored_at (scope_of c.args.context.now).types (at_line (scope_of c.args.context.now) c.args.line) (view_target c.args.target.now) c.args.bytes.now (option_map (λ one. view_at one.now) c.args.at); next = None })
+    c.text_rule.result refl (c.text_rule.ensures c.args.line) c.in_default.is
+    ∙ (ap (λ meaning. fine meaning (with_object_number (scope_of c.args.context.now))) (sym made) ∙ ap (λ scope. fine (view_filling (record { stored = c.in_ok-stored.stored; next = None })) scope) (sym after))

@@ -1,0 +1,34 @@
+use Rattle.std.proofs.Common.{rules, ◌≡◌, refl, sym, ap, subst, ◌∙◌, None, option_map, is_some, map, true, false}
+use Rattle.cx_breaks.specs.Placed.{placed}
+use Rattle.cx_kinds.specs.Known.{types_in}
+use Rattle.cx_rules.specs.Rules.{rule_at}
+use Rattle.cx_context.specs.Checks.{refusal_of}
+use Rattle.cx_context.specs.Views.{scope_of}
+use Rattle.cx_context.proofs.Settling.{refused_step, settled_no, settled_ok, changed_no, changed_ok}
+use Rattle.cx_core.specs.Views.{view_type, view_puts}
+use Rattle.cx_init.specs.Views.{view_filling, view_target, view_stored, view_filled}
+use Rattle.cx_operands.specs.Views.{view_operand}
+use Rattle.cx_parts.specs.Views.{view_at}
+use Rattle.cx_rules.specs.Initial.{element_at, member_at}
+use Rattle.cx_rules.specs.Nodes.{given_node, element_node, designated_node, literal_node}
+use Rattle.cx_rules.specs.Operands.{constant_of, value_of}
+use Rattle.cx_rules.specs.Pieces.{at_line, filled, value_facts, value_stored, text_facts, text_stored_at, whole_at, literal_made, literal_meaning}
+use Rattle.cx_rules.specs.Readings.{fine, check_chain, check_here}
+use Rattle.cx_rules.specs.Scope.{with_object_number, with_made_at}
+use Rattle.cx_init_steps.proofs.values.value_given_at.Goals as goal
+
+pub returns-in-Some : goal.returns-in-Some
+unfolding check_chain check_here
+returns-in-Some c = refused_step (λ (_ : Unit {0}). view_filling c.args.filling.now) _ (scope_of c.args.context.now) _ (refusal_of (scope_of c.args.context.now).unit c.args.line c.in-Some.rule) c.refused.ensures
+    (settled_no _ (scope_of c.args.context.now).types (scope_of c.args.context.now) c.args.line (given_node (value_facts (scope_of c.args.context.now) (view_target c.args.target.now) (view_operand c.args.value) (option_map (λ one. view_at one.now) c.args.at)))
+    (filled (scope_of c.args.context.now).types (view_target c.args.target.now) (option_map (λ one. view_at one.now) c.args.at) (value_stored (scope_of c.args.context.now).types (view_target c.args.target.now) (view_operand c.args.value) (option_map (λ one. view_at one.now) c.args.at)) (view_filling c.args.filling.now))
+    c.value_rule.result c.in-Some.rule refl (c.value_rule.ensures c.args.line) c.in-Some.is)
+
+pub returns : goal.returns
+unfolding check_chain check_here
+returns c =
+    let made : view_filling c.fill_value.new.filling ≡ (filled (scope_of c.args.context.now).types (view_target c.args.target.now) (option_map (λ one. view_at one.now) c.args.at) (value_stored (scope_of c.args.context.now).types (view_target c.args.target.now) (view_operand c.args.value) (option_map (λ one. view_at one.now) c.args.at)) (view_filling c.args.filling.now)) = search rules in
+    settled_ok _ (scope_of c.args.context.now).types (scope_of c.args.context.now) c.args.line (given_node (value_facts (scope_of c.args.context.now) (view_target c.args.target.now) (view_operand c.args.value) (option_map (λ one. view_at one.now) c.args.at)))
+    (filled (scope_of c.args.context.now).types (view_target c.args.target.now) (option_map (λ one. view_at one.now) c.args.at) (value_stored (scope_of c.args.context.now).types (view_target c.args.target.now) (view_operand c.args.value) (option_map (λ one. view_at one.now) c.args.at)) (view_filling c.args.filling.now))
+    c.value_rule.result refl (c.value_rule.ensures c.args.line) c.in_default.is
+    ∙ ap (λ meaning. fine meaning (scope_of c.args.context.now)) (sym made)

@@ -1,0 +1,4 @@
+pub mod Views
+pub mod Designators
+pub mod Landing
+pub mod Paths
