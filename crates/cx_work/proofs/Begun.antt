@@ -17,5 +17,5 @@ pub begun_at_end : (made : List Work) (exprs : List CoreExpr) (index : ℕ) → 
     map view_work made ++ map begun_of (drop index exprs) ≡ map begun_of exprs → view_works made ≡ all_begun (exprs_of (map view_expr exprs))
 begun_at_end made exprs index behind left =
     ap works_of (sym (append-nil (map view_work made))
-    ∙ ap (λ (rest : List CoreExpr). map view_work made ++ map begun_of rest) (sym (drop_of_length-le exprs index behind)) ∙ left)
+    ∙ ap (λ (rest : List CoreExpr). map view_work made ++ map begun_of rest) (sym (drop_of_length-le exprs behind)) ∙ left)
     ∙ sym (begun_in_order exprs)
