@@ -1,5 +1,5 @@
-ghost use Rattle.std.specs.Prelude.{◌≡◌, [], ◌∷◌, ◌++◌, take, drop, length, OnOk, OnErr};
-ghost use Rattle.std.specs.Borrow.{Lends, Array, sem};
+ghost use Rattle.std.specs.Prelude.{◌≡◌, [], ◌∷◌, ◌++◌, ◌<◌, length, slice_get, slice_set, Some, OnOk, OnErr};
+ghost use Rattle.std.specs.Borrow.{Lends, sem};
 
 use cr_base::Memory;
 use std::alloc::Global;
@@ -49,12 +49,13 @@ impl<T> Children<T> {
         self.elements.as_slice()
     }
 
-    /// All parts, to change them where they are.
-    pub fn as_mut_slice(&mut self) -> &mut [T]
-        ensures* writes_back { sem 𝓛 (Lends (the_row T.row) (Array T.row 0) self.entry result (λ parts. take (length self.old) (parts ++ drop (length parts) self.old))) }
-        ensures value { result.now ≡ self.old }
+    /// The part at an index below their number, to change it where it is.
+    pub fn at_mut(&mut self, index: usize) -> &mut T
+        requires { index < length self.old }
+        ensures* writes_back { sem 𝓛 (Lends (the_row T.row) T.row self.entry result (slice_set self.old index)) }
+        ensures value { slice_get self.old index ≡ Some result.now }
     {
-        self.elements.as_mut_slice()
+        &mut self.elements[index]
     }
 
     /// How many parts there are.

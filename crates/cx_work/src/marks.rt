@@ -1,6 +1,6 @@
 //! What the operands of an expression have read and written (ISO C99, 6.5p2).
 
-ghost use Rattle.std.specs.Prelude.{◌≡◌, IfOk};
+ghost use Rattle.std.specs.Prelude.{◌≡◌, OnOk};
 ghost use Rattle.std.specs.List.{list_any};
 ghost use Rattle.cx_mean.specs.Marks.{any_overlap, at_sequence_point, both, conflict, no_marks, overlap, with_read, with_write};
 
@@ -105,69 +105,39 @@ impl Marks {
         }
     }
 
-    /// The accesses of two operands together. Refused only for want of memory.
-    pub fn both(self, other: Marks) -> Result<Marks, Memory>
-        ensures { IfOk result (λ made. made ≡ both self other) }
-    {
-        let Marks {
-            mut reads,
-            mut writes,
-            mut still,
-        } = self;
-        reads.append(other.reads)?;
-        writes.append(other.writes)?;
-        still.append(other.still)?;
-        Ok(Marks {
-            reads,
-            writes,
-            still,
-        })
-    }
-
-    /// The accesses with one more that reads. Refused only for want of memory.
-    pub fn with_read(self, range: Range) -> Result<Marks, Memory>
-        ensures { IfOk result (λ made. made ≡ with_read range self) }
-    {
-        let Marks {
-            mut reads,
-            writes,
-            still,
-        } = self;
-        reads.push(range)?;
-        Ok(Marks {
-            reads,
-            writes,
-            still,
-        })
-    }
-
-    /// The accesses with one more that writes. Refused only for want of memory.
-    pub fn with_write(self, range: Range) -> Result<Marks, Memory>
-        ensures { IfOk result (λ made. made ≡ with_write range self) }
+    /// Adds the accesses of another operand. Refused only for want of memory.
+    pub fn join(&mut self, other: Marks) -> Result<(), Memory>
+        ensures { OnOk result (self.new ≡ both self.old other) }
     {
         let Marks {
             reads,
-            mut writes,
-            mut still,
-        } = self;
-        writes.push(range)?;
-        still.push(range)?;
-        Ok(Marks {
-            reads,
             writes,
             still,
-        })
+        } = other;
+        self.reads.append(reads)?;
+        self.writes.append(writes)?;
+        self.still.append(still)
     }
 
-    /// The accesses with a sequence point behind them (5.1.2.3p2).
-    pub fn at_sequence_point(self, alloc: Global) -> Marks
-        ensures { result ≡ at_sequence_point self }
+    /// Adds what is read. Refused only for want of memory.
+    pub fn read(&mut self, range: Range) -> Result<(), Memory>
+        ensures { OnOk result (self.new ≡ with_read range self.old) }
     {
-        let Marks { reads, writes, .. } = self;
-        Marks {
-            reads,
-            writes,
-            still: Items::new(alloc),
-        }
+        self.reads.push(range)
+    }
+
+    /// Adds what is written. Refused only for want of memory.
+    pub fn write(&mut self, range: Range) -> Result<(), Memory>
+        ensures { OnOk result (self.new ≡ with_write range self.old) }
+    {
+        self.writes.push(range)?;
+        self.still.push(range)
+    }
+
+    /// There is a sequence point behind all accesses (5.1.2.3p2).
+    pub fn end_sequence(&mut self, alloc: Global)
+        ensures { self.new ≡ at_sequence_point self.old }
+    {
+        self.still = Items::new(alloc);
     }
 }
