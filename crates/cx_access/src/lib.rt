@@ -2,16 +2,20 @@
 //! 6.5p2, 6.5.16.1 and 6.7.2.1).
 #![tactic(auto)]
 
+mod cells;
 mod kinds;
 mod loads;
+mod objects;
 mod places;
 mod ranges;
+mod records;
 mod setting;
 mod stores;
 mod trouble;
 mod values;
 
 pub use kinds::{Kind, extent_of, kind_of, scalar_of};
+pub use objects::{loaded, stored};
 pub use places::{object_at, place_of, place_value};
 pub use setting::Setting;
 pub use trouble::{Trouble, rule_of};

@@ -15,7 +15,7 @@ use cx_work::Marks;
 use mem_bytes::{Ptr, Store, Value, bytes_touched, scalar_size};
 
 #[tactic(auto, using(crate::proofs::Parts::by_fault))]
-fn loaded_scalar<S: Store>(
+pub(crate) fn loaded_scalar<S: Store>(
     store: &S,
     at: Ptr,
     marks: &mut Marks,
@@ -45,7 +45,7 @@ fn loaded_scalar<S: Store>(
 }
 
 #[tactic(auto, using(crate::proofs::Parts::by_fault))]
-fn loaded_bits<S: Store>(
+pub(crate) fn loaded_bits<S: Store>(
     store: &S,
     at: Ptr,
     bit: u32,
