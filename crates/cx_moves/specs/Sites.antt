@@ -6,7 +6,7 @@ use Rattle.cx_core.specs.Views.{puts_of, view_expr, view_object, view_put, view_
 use Rattle.cx_mean.specs.Moves.{CBehind, in_body, of_statics, CPurpose, puts_it, drops_it, turns_on, gives_it, chooses_by, CGoal, does_form, follows, CMove, values, reaches, begins, leaves, calls_main, goes_nowhere}
 use Rattle.cx_mean.specs.Operands.{CValue, scalar, missing}
 use Rattle.cx_mean.specs.Paths.{CLevel, CSite, site_at}
-use Rattle.cx_mean.specs.State.{no_place, statics_in, value_at_end}
+use Rattle.cx_mean.specs.State.{statics_in, value_at_end}
 use Rattle.mem_bytes.specs.declared.value.Value.TheVariants.{Whole as Number}
 use Rattle.cx_moves.specs.declared.moves.Behind.{Behind}
 use Rattle.cx_moves.specs.declared.moves.Behind.TheVariants as behind
@@ -65,10 +65,10 @@ abbrev pub view_goal : List Opened → Goal → CGoal
 view_goal way (goal.Does place) = does_form place
 view_goal way (goal.Follows target) = follows (view_way target.now way)
 
--- an object of the innermost open statement begins
+-- an object of the innermost open statement begins; there always is one then
 abbrev pub begins_in : ℕ → List ℕ → CGoal → CSite → CMove
 begins_in object others goal site = elim site.levels as (λ _. CMove) [
-  | [] ↦ goes_nowhere no_place
+  | [] ↦ calls_main
   | level ∷ outer ↦ begins (record { object = object; others = others; level = level; outer = site_at outer site.bottom; goal = goal })
 ]
 
