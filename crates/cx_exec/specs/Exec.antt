@@ -1,7 +1,7 @@
 -- What a run of a program over a store and a host is to the meaning of the program.
 use Rattle.std.specs.Prelude.{◌≡◌, ℕ, suc, ◌<◌, ◌≤◌, ℤ, true, false, List, Option}
 use Rattle.cr_base.specs.Count.{Rose}
-use Rattle.cr_world.specs.World.{World, Outside, trail_of}
+use Rattle.cr_world.specs.World.{World, trail_of}
 use Rattle.cx_core.specs.Trees.{CProgram}
 use Rattle.cx_mean.specs.Run.{CProgress, going, ended, undefined, is_full, asks_for, c_start, c_after, c_trailed}
 use Rattle.cx_mean.specs.Settings.{setting_of}

@@ -2,5 +2,6 @@
 #![tactic(auto)]
 
 mod outcome;
+mod stop;
 
 pub use outcome::{COutcome, CRun};
