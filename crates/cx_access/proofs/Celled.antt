@@ -37,8 +37,8 @@ pub read_on : (memory : Blocks) (at : Ptr) (count index : ℕ) (made new : List 
 read_on memory at count index made new cell within found new_is before others rest =
     let left : count - index ≡ suc (count - (index + 1)) = omega (arith, within) in
     let step : cells_read memory (behind at index) (suc (count - (index + 1))) ≡ Ok (cell ∷ others) =
-        one_read memory (behind at index) (count - (index + 1)) cell others found
-        (subst (λ (place : Ptr). cells_read memory place (count - (index + 1)) ≡ Ok others) (sym (behind_one at index)) rest) in
+    one_read memory (behind at index) (count - (index + 1)) cell others found
+    (subst (λ (place : Ptr). cells_read memory place (count - (index + 1)) ≡ Ok others) (sym (behind_one at index)) rest) in
     before (cell ∷ others) (subst (λ (number : ℕ). cells_read memory (behind at index) number ≡ Ok (cell ∷ others)) (sym left) step)
     ∙ ap (λ (list : List Cell). Ok list) (sym (append_assoc made (cell ∷ []) others) ∙ ap (λ (list : List Cell). list ++ others) (sym new_is))
 

@@ -19,4 +19,4 @@ pub use objects::{loaded, stored};
 pub use places::{object_at, place_of, place_value};
 pub use setting::Setting;
 pub use trouble::{Trouble, rule_of};
-pub use values::{number_in, scalar_value, value_of_kind};
+pub use values::{field_value, is_field_place, number_in, scalar_value, value_of_kind};

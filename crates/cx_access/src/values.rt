@@ -120,7 +120,7 @@ fn whole_bits(width: u32, signed: bool, bits: u64) -> Int
 }
 
 /// The value that a bit-field of a declared type has, by its bits (6.7.2.1p9).
-pub(crate) fn field_value(kind: Scalar, width: u32, bits: u64) -> Result<Value, Trouble>
+pub fn field_value(kind: Scalar, width: u32, bits: u64) -> Result<Value, Trouble>
     requires least { 1 ≤ width }
     requires most { width ≤ 32 }
     ensures { Finds (λ one. one) result (field_value kind width bits) }
@@ -134,7 +134,7 @@ pub(crate) fn field_value(kind: Scalar, width: u32, bits: u64) -> Result<Value, 
 }
 
 /// Whether a bit-field may begin at a bit of its first byte and have so many bits.
-pub(crate) fn is_field_place(bit: u32, width: u32) -> bool
+pub fn is_field_place(bit: u32, width: u32) -> bool
     ensures value { result ≡ is_field_place bit width }
     ensures place { IsTrue result → IsFieldPlace bit width }
 {
