@@ -1,16 +1,17 @@
 -- The states of a running program, as the engine holds them.
-use Rattle.std.specs.Prelude.{◌≡◌, List, map, reverse, Option, Some, None}
+use Rattle.std.specs.Prelude.{◌≡◌, List, map, reverse, Option, Some, None, option_map, Bool}
 use Rattle.cr_world.specs.World.{World}
 use Rattle.cx_core.specs.Views.{view_function, view_object}
 use Rattle.cx_mean.specs.Moves.{CPurpose, drops_it, turns_on, calls_main, CStand, next_of, turning_on}
 use Rattle.cx_mean.specs.State.{CCaller, CControl, begins_static, moves, evaluates, uses, takes, CState, evaluating, statics_in, control_of}
-use Rattle.cx_mean.specs.Operands.{COperand}
-use Rattle.cx_mean.specs.Work.{CWork, finished}
+use Rattle.cx_mean.specs.Operands.{COperand, CValue}
+use Rattle.cx_mean.specs.Work.{CWork, finished, is_finished, resumed}
 use Rattle.mem_bytes.specs.Memory.{Blocks}
 use Rattle.cx_machine.specs.declared.machine.Caller.{Caller}
 use Rattle.cx_machine.specs.declared.machine.Control.{Control}
 use Rattle.cx_machine.specs.declared.machine.Control.TheVariants as control
 use Rattle.cx_machine.specs.declared.machine.Machine.{Machine}
+use Rattle.cx_moves.specs.declared.moves.Purpose.{Purpose}
 use Rattle.cx_moves.specs.Sites.{view_move, view_purpose, view_site}
 use Rattle.cx_work.specs.declared.work.Work.{Work}
 use Rattle.cx_work.specs.Views.{view_finished, view_work}
@@ -77,3 +78,20 @@ finished_next operand purpose blocks = record { control = uses operand purpose; 
 abbrev pub going_next : CWork → CPurpose → Blocks → CNext
 going_next (finished operand) purpose blocks = finished_next operand purpose blocks
 going_next work purpose blocks = record { control = evaluates work purpose; blocks = blocks }
+
+-- what follows a full expression that is held, of which more or less is left
+abbrev pub work_next : Option Work → CPurpose → Blocks → CNext
+work_next None purpose blocks = record { control = moves calls_main; blocks = blocks }
+work_next (Some work) purpose blocks = going_next (view_work work) purpose blocks
+
+-- whether it is finished
+abbrev pub is_over : Option Work → Option Bool
+is_over work = option_map (λ one. is_finished (view_work one)) work
+
+-- a caller is taken up with a value
+pub record TakesUp (old new : Machine) (caller : Caller) (value : CValue) (purpose : Purpose) : Type 0 where
+  pub work : option_map view_work new.work ≡ Some (resumed value (view_work caller.work))
+  pub purpose_is : view_purpose (view_site new.site) purpose ≡ view_purpose (view_site caller.site) caller.purpose
+  pub statics : new.statics ≡ old.statics
+  pub callers : new.callers ≡ old.callers
+  pub order : new.order.now ≡ old.order.now
