@@ -1,0 +1,3 @@
+mod Celled
+mod Parts
+mod Scalars

@@ -1,0 +1,5 @@
+pub mod Calls
+pub mod Fields
+pub mod Finds
+pub mod Records
+pub mod Views

@@ -1,0 +1,3 @@
+pub mod Moving
+pub mod Sites
+pub mod Ways

@@ -1,0 +1,6 @@
+-- Parts of lists.
+use Rattle.std.proofs.Common.{◌≡◌, refl, ℕ, List, take, take_all, length, subst, ◌≤◌, arith}
+use Rattle.mem_bytes.specs.declared.cell.Cell.{Cell}
+
+pub whole_part : (part : List Cell) (count : ℕ) → length part ≡ count → take count part ≡ part
+whole_part part count is = take_all count part (omega (arith, is))

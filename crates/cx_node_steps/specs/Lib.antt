@@ -1,0 +1,3 @@
+pub mod Parts
+pub mod Unites
+pub mod Views

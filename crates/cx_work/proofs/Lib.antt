@@ -1,0 +1,6 @@
+mod Begun
+mod Carried
+mod Filled
+mod Opened
+mod Resumed
+mod Summed
