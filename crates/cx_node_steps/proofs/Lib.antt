@@ -1,2 +1,5 @@
+mod Given
+mod Grouped
 mod Single
 mod Sliced
+mod Stepped

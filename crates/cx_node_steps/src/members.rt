@@ -21,7 +21,9 @@ use cx_access::{
 use cx_core::Ty;
 use cx_operations::pointer_trouble;
 use cx_work::{Finished, Objects, OperandTy};
-use mem_bytes::{Cell, Ptr, Store, Value, bytes_touched, decode, field_in, place_moved, scalar_size};
+use mem_bytes::{
+    Cell, Ptr, Store, Value, bytes_touched, decode, field_in, place_moved, scalar_size,
+};
 use std::alloc::Global;
 
 /// What a pointer points to; by itself that is never wrong.
