@@ -6,7 +6,9 @@
 Each expression stands in a function of its own behind NAMES, the declarations of what it names. PROGRAM is that of
 crates/check_rows: an expression is a row, whose answer is a type where no rule is broken, and else the rule. gcc tells by
 `-std=c99 -pedantic-errors -fsyntax-only` in which lines it finds an error. The profile's own rules (O1 to O12, N1) are apart:
-what breaks one of them isn't compared. Ends with 1 if the two differ, with the texts of the first ones.
+what breaks one of them isn't compared. One kind of difference is known: gcc refuses `*pinc`, an lvalue of incomplete type, as a
+statement of its own; no node of the expression takes its value, so what a statement says of it isn't asked here. Ends with 1 if the
+two differ otherwise, with the texts of the first ones.
 """
 
 import sys
@@ -86,6 +88,10 @@ def expression(random, depth):
     return f"{part()}, {part()}"
 
 
+# An expression that is an lvalue of incomplete type.
+INCOMPLETE = re.compile(r"(.*, )?\(*\*\(*pinc\)*")
+
+
 def gcc_says(texts):
     """What gcc says of each expression: its errors, by the line on which they stand."""
     unit = NAMES + "\n" + "\n".join(f"void check{k}(void) {{ {text}; }}" for k, text in enumerate(texts)) + "\n"
@@ -134,18 +140,20 @@ def main():
         print(f"{len(texts)} expressions, of which gcc takes {sum(not one for one in said)}")
         return
     rules = rows_say(words.rows, texts)
-    apart, alike, others = 0, Counter(), []
+    apart, known, alike, others = 0, 0, Counter(), []
     for text, rule, errors in zip(texts, rules, said):
         refused = errors != ""
         if rule is not None and rule[0] in "ON":
             apart += 1
         elif refused == (rule is not None):
             alike["refused" if refused else "taken"] += 1
+        elif refused and INCOMPLETE.fullmatch(text) and "undefined type" in errors:
+            known += 1
         else:
             others.append(f"{text}: {rule or 'taken'}, gcc: {errors or 'taken'}")
     print(
         f"{len(texts)} expressions: {alike['taken']} taken, {alike['refused']} refused, {apart} break rules of the profile's own, "
-        f"{len(others)} differ"
+        f"{known} differ as is known, {len(others)} otherwise"
     )
     for one in others[:40]:
         print("  " + one)
