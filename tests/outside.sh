@@ -32,6 +32,8 @@ built() {
 
 built rows || exit 1
 rows=$program
+built check_rows || exit 1
+check_rows=$program
 built c2rs || exit 1
 
 # The exit status of a unit, as gcc builds it.
@@ -224,6 +226,17 @@ syntax_mutants() {
   fi
 }
 
+# Random expressions: those break a constraint in which gcc finds an error, the profile's own rules apart.
+random_expressions() {
+  local said
+  tools_for 'random expressions' python3 gcc || return
+  if ! said=$(python3 "$top/tests/expressions.py" --rows "$check_rows" 2>&1); then
+    bad "random expressions: $said"
+  else
+    ok "random expressions: $said"
+  fi
+}
+
 # Random control flow graphs: their shapes fit them, with a dispatch exactly where one is irreducible.
 relooper_graphs() {
   local said
@@ -274,6 +287,7 @@ refused_in_turn
 straight_units
 straight_mutants
 syntax_mutants
+random_expressions
 relooper_graphs
 random_records
 crate_runs
