@@ -63,27 +63,27 @@ compatible_in types first second =
 
 -- ---- functions from outside (7.20.3, 7.20.4, 7.21)
 
-abbrev same_lists : List CTy → List CTy → Bool
+abbrev pub same_lists : List CTy → List CTy → Bool
 same_lists [] [] = true
 same_lists (first ∷ firsts) (second ∷ seconds) = same_type first second && same_lists firsts seconds
 same_lists _ _ = false
 
-abbrev has_signature : CSignature → CTyForm → Bool
+abbrev pub has_signature : CSignature → CTyForm → Bool
 has_signature signature (function result params variadic) =
     same_type (unqualified result) signature.result && (same_lists (params_in params) signature.params && not variadic)
 has_signature signature _ = false
 
-abbrev is_void_form : CTyForm → Bool
+abbrev pub is_void_form : CTyForm → Bool
 is_void_form void = true
 is_void_form _ = false
 
-abbrev is_opaque : CTypes → CTyForm → Bool
+abbrev pub is_opaque : CTypes → CTyForm → Bool
 is_opaque types (function result params variadic) =
     (is_void_form (form_of_type result) || is_integer types result)
     && list_all (λ type. same_form (form_of_type type) const_text || is_integer types type) (params_in params)
 is_opaque types _ = false
 
-abbrev has_type_of : CTypes → CTyForm → Option CKnown → Bool
+abbrev pub has_type_of : CTypes → CTyForm → Option CKnown → Bool
 has_type_of types form (Some one) = has_signature one.signature form
 has_type_of types form None = is_opaque types form
 
@@ -92,7 +92,7 @@ unfoldable pub is_external_type : CTypes → List ℕ → CTyForm → Bool
 is_external_type types name form = has_type_of types form (known_as name)
 
 -- an argument behind those that parameters take: an integer, as it is promoted, or a pointer to a character type
-abbrev is_text_form : CTyForm → Bool
+abbrev pub is_text_form : CTyForm → Bool
 is_text_form (pointer to) = is_character_form (form_of_type to)
 is_text_form _ = false
 
@@ -142,12 +142,12 @@ is_defined_there all one =
 
 -- ---- `main` (5.1.2.2.1)
 
-abbrev takes_nothing : CParams → Bool
+abbrev pub takes_nothing : CParams → Bool
 takes_nothing unlisted = true
 takes_nothing (listed no_types) = true
 takes_nothing (listed (more_types first others)) = false
 
-abbrev is_main_form : CTyForm → Bool
+abbrev pub is_main_form : CTyForm → Bool
 is_main_form (function result params variadic) = same_form (form_of_type result) (basic basics.Int) && takes_nothing params
 is_main_form _ = false
 

@@ -1,0 +1,2 @@
+pub mod LibraryTypes
+pub mod Opaque
