@@ -1,1 +1,4 @@
+pub mod Answering
 pub mod Going
+pub mod Landing
+pub mod StaticsBegin

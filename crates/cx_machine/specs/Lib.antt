@@ -1,1 +1,5 @@
+pub mod Answers
 pub mod Machines
+pub mod Returns
+pub mod Statics
+pub mod Steps
