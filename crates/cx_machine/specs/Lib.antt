@@ -1,4 +1,5 @@
 pub mod Answers
+pub mod Entries
 pub mod Machines
 pub mod Returns
 pub mod Statics
