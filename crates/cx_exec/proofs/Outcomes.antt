@@ -18,10 +18,11 @@ use Rattle.ext_calls.specs.Host.{HostState}
 use Rattle.mem_bytes.specs.Counted.{Limit}
 use Rattle.cx_exec.specs.declared.outcome.COutcome.{COutcome}
 use Rattle.cx_exec.specs.declared.outcome.COutcome.TheVariants.{Ended, Undefined, StepsUsed, StoreFull, HostRefused, HostFault}
-use Rattle.cx_exec.specs.declared.stop.Stop.{Stop}
-use Rattle.cx_exec.specs.declared.stop.Stop.TheVariants as stop
+use Rattle.cx_machine.specs.declared.stop.Stop.{Stop}
+use Rattle.cx_machine.specs.declared.stop.Stop.TheVariants as stop
 use Rattle.cx_exec.specs.Exec.{Ran, progress_within, state_within, world_within, IsProgress, IsLeast, TookSteps, AsksHost, HasFailed}
-use Rattle.cx_exec.specs.Steps.{IsOutcome, IsStopped, Stops, Asks, Advances, taken_of, Reached, start_in, start_around}
+use Rattle.cx_machine.specs.Steps.{IsStopped, Stops, Asks, Advances, taken_of}
+use Rattle.cx_exec.specs.Steps.{IsOutcome, Reached, start_in, start_around}
 use Rattle.cx_exec.proofs.Runs.{last_or_before, stays_ended, stays_stopped, stays}
 
 rose_more : (one two three : ℕ) → one ≤ two → Rose two three → Rose one three

@@ -2,19 +2,10 @@ ghost use Rattle.std.specs.Prelude.{◌≡◌, IfOk};
 ghost use Rattle.cx_exec.specs.Steps.{IsOutcome};
 
 use crate::outcome::COutcome;
-use cr_base::{Memory, Name, Place, URule};
+use cr_base::{Memory, Name};
+use cx_machine::Stop;
 use cx_outside::Lack;
 use std::alloc::Global;
-
-/// Why a run goes no further.
-#[derive(Clone, Copy)]
-pub(crate) enum Stop<'a> {
-    /// The program ended with a status.
-    Ended(i32),
-    /// Its step is undefined.
-    Undefined(URule, Place),
-    Lacks(Lack<'a>),
-}
 
 fn refused(alloc: Global, name: &[u8]) -> Result<COutcome, Memory>
     ensures { IfOk result (λ outcome. outcome ≡ COutcome.HostRefused name.now) }

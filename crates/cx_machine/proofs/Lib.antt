@@ -1,1 +1,5 @@
+pub mod Answering
+pub mod Entered
 pub mod Going
+pub mod Landing
+pub mod StaticsBegin

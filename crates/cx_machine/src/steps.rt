@@ -148,7 +148,7 @@ pub fn goes_on<'a, S: Store>(
 }
 
 // The function that called goes on with what it was given; its full expression is the one that is held.
-fn takes_up<'a>(
+pub(crate) fn takes_up<'a>(
     alloc: Global,
     machine: &mut Machine<'a>,
     caller: Caller<'a>,

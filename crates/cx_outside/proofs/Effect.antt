@@ -7,14 +7,14 @@ use Rattle.cr_world.specs.Known.{Known, Effect, effect, gives, gives_nothing, en
 use Rattle.cr_world.specs.World.{World, Got, granted, trail_of}
 use Rattle.cx_access.specs.declared.trouble.Trouble.{Trouble}
 use Rattle.cx_access.specs.declared.trouble.Trouble.TheVariants as trouble
-use Rattle.cx_mean.specs.Calls.{returns_value, ends_with, COutcome, by_effect, with_block}
+use Rattle.cx_mean.specs.Calls.{returns_value, COutcome, by_effect, with_block}
 use Rattle.cx_mean.specs.Operands.{CStop, CWhy, breaks, stops, scalar, missing, why_held}
 use Rattle.ext_calls.specs.declared.call.Made.{Made}
 use Rattle.ext_calls.specs.Host.{HostState}
 use Rattle.mem_bytes.specs.Counted.{Limit}
 use Rattle.mem_bytes.specs.Memory.{Blocks}
 use Rattle.mem_bytes.specs.declared.value.Value.{Value}
-use Rattle.cx_outside.specs.Called.{IsHalt, Ends, Granted, Calls, library_piece}
+use Rattle.cx_outside.specs.Called.{IsEnded, IsHalt, Ends, Granted, Calls, library_piece}
 use Rattle.cx_outside.specs.Comes.{Comes, Lacks, Steps}
 use Rattle.cx_outside.specs.Effects.{held_of, fault_in, Effects}
 use Rattle.cx_outside.specs.States.{KeptState, Around, around, world_at, Between, Quiet}
@@ -74,23 +74,16 @@ module _ (does : Known) (place : Place) (values : List Value) (old new : KeptSta
       Comes (library_piece does place values) (λ world. Ok (returns_value missing world)) was now
   effect_gives_nothing is = left_by (λ world. Ok (returns_value missing world)) (λ made ahead. ap (λ (one : Effect). by_effect place (world_at was made ahead) one) is)
 
-  world_same : held_of new after ≡ held_of old before → (made : List Made) (ahead : List ℤ) →
-      world_at was made ahead ≡ record { held = held_of new after; made = made; answers = ahead; terms = trail_of limit }
-  world_same is made ahead = ap (λ (held : Held). record { held = held; made = made; answers = ahead; terms = trail_of limit }) (sym is)
+  effect_ends : (status : ℤ) → effect does values (held_of old before) ≡ ends_program status → IsEnded (library_piece does place values) status was now
+  effect_ends status is = record { quiet = quiet; ends = λ made ahead. ap (λ (one : Effect). by_effect place (world_at was made ahead) one) is }
 
-  effect_ends : (status : ℤ) → effect does values (held_of old before) ≡ ends_program status → held_of new after ≡ held_of old before →
-      Comes (library_piece does place values) (λ world. Ok (ends_with status world)) was now
-  effect_ends status is held =
-      left_by (λ world. Ok (ends_with status world))
-      (λ made ahead. ap (λ (one : Effect). by_effect place (world_at was made ahead) one) is ∙ ap (λ (world : World). Ok (ends_with status world)) (world_same held made ahead))
-
-  pub effect_ends_by : (status : ℤ) (result : Result Returned Halt) → effect does values (held_of old before) ≡ ends_program status → held_of new after ≡ held_of old before →
+  pub effect_ends_by : (status : ℤ) (result : Result Returned Halt) → effect does values (held_of old before) ≡ ends_program status →
       Ends result status → Calls (library_piece does place values) result was now
-  effect_ends_by status (Ok (returned.Ends one)) is held ends =
-      subst (λ (n : ℤ). Comes (library_piece does place values) (λ world. Ok (ends_with n world)) was now) (sym ends) (effect_ends status is held)
-  effect_ends_by status (Ok (returned.Gives value)) is held ends = absurd ends
-  effect_ends_by status (Err (halt.Undefined rule place)) is held ends = absurd ends
-  effect_ends_by status (Err (halt.Lacks why)) is held ends = subst (λ (one : Lack). Lacks (library_piece does place values) one was now) (sym ends) tt
+  effect_ends_by status (Ok (returned.Ends one)) is ends =
+      subst (λ (n : ℤ). IsEnded (library_piece does place values) n was now) (sym ends) (effect_ends status is)
+  effect_ends_by status (Ok (returned.Gives value)) is ends = absurd ends
+  effect_ends_by status (Err (halt.Undefined rule place)) is ends = absurd ends
+  effect_ends_by status (Err (halt.Lacks why)) is ends = subst (λ (one : Lack). Lacks (library_piece does place values) one was now) (sym ends) tt
 
   fails_as : (one : Effect) (rule : URule) (world : World) → fault_in one ≡ Some (breaks rule) → by_effect place world one ≡ Err (stops (breaks rule) place)
   fails_as (gives value held) rule world is = absurd cc

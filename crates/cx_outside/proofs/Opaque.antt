@@ -21,6 +21,7 @@ use Rattle.cx_outside.specs.States.{Around, world_at, Quiet}
 use Rattle.cx_outside.specs.declared.calls.Halt.{Halt}
 use Rattle.cx_outside.specs.declared.calls.Halt.TheVariants as halt
 use Rattle.cx_outside.specs.declared.calls.Returned.{Returned}
+use Rattle.cx_outside.specs.declared.calls.Returned.TheVariants as returned
 use Rattle.cx_outside.specs.declared.library.Library.{Library}
 use Rattle.cx_outside.specs.declared.outside.Lack.{Lack}
 use Rattle.cx_outside.specs.declared.outside.Lack.TheVariants as lack
@@ -45,7 +46,8 @@ module _ (piece other : World → COutcome) (before after : Around) (is : (world
   lacks_by lack.Memory one = tt
 
   pub calls_by : (result : Result Returned Halt) → Calls other result before after → Calls piece result before after
-  calls_by (Ok value) one = record { between = one.between; goes = λ made ahead. is _ ∙ one.goes made ahead }
+  calls_by (Ok (returned.Gives value)) one = record { between = one.between; goes = λ made ahead. is _ ∙ one.goes made ahead }
+  calls_by (Ok (returned.Ends status)) one = record { quiet = one.quiet; ends = λ made ahead. is _ ∙ one.ends made ahead }
   calls_by (Err (halt.Undefined rule place)) one = record { quiet = one.quiet; stops = λ made ahead. is _ ∙ one.stops made ahead }
   calls_by (Err (halt.Lacks why)) one = lacks_by why one
 

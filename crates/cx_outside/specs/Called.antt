@@ -47,13 +47,15 @@ pub record IsUndefined {B : Type 0} (piece : World → Result B CStop) (rule : U
   pub quiet : Quiet before after
   pub stops : (made : List Made) (ahead : List ℤ) → piece (world_at before made ahead) ≡ Err (stops (breaks rule) place)
 
-abbrev pub gives_back : Returned → World → COutcome
-gives_back (returned.Gives value) world = Ok (returns_value (view_finished value) world)
-gives_back (returned.Ends status) world = Ok (ends_with status world)
+-- the program ends with a status, and nothing was taken
+pub record IsEnded (piece : World → COutcome) (status : ℤ) (before after : Around) : Type 0 where
+  pub quiet : Quiet before after
+  pub ends : (made : List Made) (ahead : List ℤ) → piece (world_at before made ahead) ≡ Ok (ends_with status (world_at before made ahead))
 
 -- what came of a call
 abbrev pub Calls : (World → COutcome) → Result Returned Halt → Around → Around → Type 0
-Calls piece (Ok one) before after = Comes piece (gives_back one) before after
+Calls piece (Ok (returned.Gives value)) before after = Comes piece (λ world. Ok (returns_value (view_finished value) world)) before after
+Calls piece (Ok (returned.Ends status)) before after = IsEnded piece status before after
 Calls piece (Err (halt.Undefined rule place)) before after = IsUndefined piece rule place before after
 Calls piece (Err (halt.Lacks why)) before after = Lacks piece why before after
 

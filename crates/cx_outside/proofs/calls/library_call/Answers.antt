@@ -27,7 +27,7 @@ returns-in-Ends-clause-calls g c = λ host.
     let is = rw c.in-Ends.is at c.in-Ok.ensures.effect in
     let same : to_z w128 (of_z w128 c.in-Ends.status) ≡ c.in-Ends.status = search rules in
     effect_ends_by (library_view c.args.which).does c.args.place c.args.values.now c.args.kept.now c.effect_of.new.kept _ _ _ _ host
-    c.effect_of.ensures.kept c.effect_of.ensures.limit c.in-Ends.status c.ends.result is.0 is.1 (rw same at c.ends.ensures)
+    c.effect_of.ensures.kept c.effect_of.ensures.limit c.in-Ends.status c.ends.result is.0 (rw same at c.ends.ensures)
 
 pub returns-in-Wants-clause-calls : goal.returns-in-Wants-clause-calls
 returns-in-Wants-clause-calls g c = λ host.
