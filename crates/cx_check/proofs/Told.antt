@@ -1,14 +1,17 @@
 -- What the walk that stops at the first broken node answers says what is broken of all nodes.
-use Rattle.std.proofs.Common.{◌≡◌, refl, sym, ap, ◌∙◌, subst, ℕ, ℤ, Option, None, Some, Result, Ok, Err}
+use Rattle.std.proofs.Common.{◌≡◌, refl, sym, ap, ◌∙◌, ℕ, ℤ, [], Option, None, Some, Result, Ok, Err}
 use Rattle.cr_base.specs.declared.refusal.Refusal.{Refusal}
 use Rattle.cr_base.specs.declared.refusal.Stop.{Stop}
 use Rattle.cr_base.specs.declared.refusal.Stop.TheVariants as stop
 use Rattle.cr_base.specs.declared.rule.Rule.TheVariants as rule
-use Rattle.cx_check.specs.Tells.{Tells, constant_in, needed, broken_constant, TellsConstant}
+use Rattle.cx_check.specs.Tells.{Tells, constant_in, needed, broken_constant, TellsConstant, seen_type}
 use Rattle.cx_context.specs.Checks.{Checks}
+use Rattle.cx_rules.specs.Laws.{TypeNamesStop}
 use Rattle.cx_rules.specs.Operands.{COperand, value_of, constant_of}
 use Rattle.cx_rules.specs.Readings.{CSeen, first_broken, or_else, CChecked, stops, fine, verdict_by, verdict}
 use Rattle.cx_rules.specs.Scope.{CScope}
+use Rattle.cx_rules.specs.Units.{check_type_name}
+use Rattle.cx_tree.specs.Trees.{SpecTrees, DeclaratorTree, TypeName}
 
 fine_by : {B : Type 0} (seen : CSeen B) (found : Option Refusal) (meaning : B) (after : CScope) → verdict_by seen found ≡ fine meaning after →
     (found ≡ None) × (after ≡ seen.scope) × (meaning ≡ seen.meaning)
@@ -60,3 +63,10 @@ broken_by line unit (Some other) found refusal e = e
 
 pub is_broken : (line : ℕ) (seen : CSeen COperand) (refusal : Refusal) → first_broken seen.nodes ≡ Some refusal → broken_constant line seen ≡ Some refusal
 is_broken line seen refusal e = broken_by line seen.scope.unit (first_broken seen.nodes) (constant_in seen) refusal e
+
+-- ---- types
+
+pub type_stops : TypeNamesStop → (specs : SpecTrees) (declarator : DeclaratorTree) (scope : CScope) →
+    check_type_name (TypeName specs declarator []) scope ≡ verdict (seen_type specs declarator scope)
+unfolding seen_type
+type_stops law specs declarator scope = law (TypeName specs declarator []) scope

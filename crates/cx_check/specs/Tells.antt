@@ -1,12 +1,15 @@
 -- What calls of the checks answer, by all nodes of a tree.
-use Rattle.std.specs.Prelude.{◌≡◌, ℕ, ℤ, List, Option, None, Some, Result, Ok, Err}
+use Rattle.std.specs.Prelude.{◌≡◌, ℕ, ℤ, [], Option, None, Some, Result, Ok, Err}
 use Rattle.cr_base.specs.declared.refusal.Refusal.{Refusal}
 use Rattle.cr_base.specs.declared.refusal.Stop.{Stop}
 use Rattle.cr_base.specs.declared.refusal.Stop.TheVariants as stop
 use Rattle.cr_base.specs.declared.rule.Rule.TheVariants as rule
+use Rattle.cx_core.specs.Trees.{CTy}
 use Rattle.cx_rules.specs.Operands.{COperand, value_of, constant_of}
-use Rattle.cx_rules.specs.Readings.{CSeen, first_broken, or_else}
+use Rattle.cx_rules.specs.Readings.{CSeen, Seen, first_broken, or_else}
 use Rattle.cx_rules.specs.Scope.{CScope}
+use Rattle.cx_rules.specs.Units.{seen_type_name}
+use Rattle.cx_tree.specs.Trees.{SpecTrees, DeclaratorTree, TypeName}
 
 -- Either no node is broken, and the answer is what the tree means, with the scope behind it; or the answer is the first broken node.
 -- Want of memory may come in place of both.
@@ -32,3 +35,7 @@ broken_constant line seen = or_else (first_broken seen.nodes) (needed line seen.
 abbrev pub TellsConstant : Result ℤ Stop → CScope → (line : ℕ) → CSeen COperand → Type 0
 TellsConstant (Ok value) after line seen = (broken_constant line seen ≡ None) × (after ≡ seen.scope) × (constant_in seen ≡ Some value)
 TellsConstant (Err why) after line seen = (refusal : Refusal) → why ≡ stop.Refused refusal → broken_constant line seen ≡ Some refusal
+
+-- all nodes of the type to which specifiers and a declarator lead, as of a type name
+unfoldable pub seen_type : SpecTrees → DeclaratorTree → Seen CTy
+seen_type specs declarator = seen_type_name (TypeName specs declarator [])

@@ -2,7 +2,7 @@
 //! layouts of its types, and adds what the tree declares. Of both nothing is said after a refusal, but that they belong together.
 
 ghost use Rattle.std.specs.Prelude.{◌≡◌, [], false, map};
-ghost use Rattle.cx_check.specs.Tells.{Tells, TellsConstant};
+ghost use Rattle.cx_check.specs.Tells.{Tells, TellsConstant, seen_type};
 ghost use Rattle.cx_context.specs.Checks.{Checks};
 ghost use Rattle.cx_context.specs.Laid.{IsLaid};
 ghost use Rattle.cx_context.specs.Views.{scope_of};
@@ -11,7 +11,7 @@ ghost use Rattle.cx_operands.specs.Views.{view_operand};
 ghost use Rattle.cx_plain.specs.Literals.{literal_in, literal_in_declarator, literal_in_specs};
 ghost use Rattle.cx_rules.specs.Lines.{expr_line};
 ghost use Rattle.cx_rules.specs.Operands.{value_of};
-ghost use Rattle.cx_rules.specs.Units.{check_type_name, seen_expr, seen_type_name};
+ghost use Rattle.cx_rules.specs.Units.{check_type_name, seen_expr};
 ghost use Rattle.cx_scope.specs.Views.{view_scope};
 ghost use Rattle.cx_tree.specs.Trees.{TypeName};
 ghost use Rattle.cx_tree.specs.Views.{expr_view, declarator_view, spec_view, specs as spec_trees};
@@ -89,7 +89,7 @@ pub fn read_type(
     requires laid { IsLaid (view_scope scope.old).types layouts.old }
     requires plain { (literal_in_specs (spec_trees (map spec_view list.now)) ≡ false) × (literal_in_declarator (declarator_view one.now) ≡ false) }
     ensures tells { Tells (λ made type. view_type made ≡ type) result (view_scope scope.new)
-        (seen_type_name (TypeName (spec_trees (map spec_view list.now)) (declarator_view one.now) []) (view_scope scope.old)) }
+        (seen_type (spec_trees (map spec_view list.now)) (declarator_view one.now) (view_scope scope.old)) }
     ensures laid { IsLaid (view_scope scope.new).types layouts.new }
 {
     let mut context = Context::take(alloc, scope, layouts);
