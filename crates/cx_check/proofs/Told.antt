@@ -2,7 +2,6 @@
 use Rattle.std.proofs.Common.{◌≡◌, refl, sym, ap, ◌∙◌, ℕ, ℤ, [], Option, None, Some, Result, Ok, Err}
 use Rattle.cr_base.specs.declared.refusal.Refusal.{Refusal}
 use Rattle.cr_base.specs.declared.refusal.Stop.{Stop}
-use Rattle.cr_base.specs.declared.refusal.Stop.TheVariants as stop
 use Rattle.cr_base.specs.declared.rule.Rule.TheVariants as rule
 use Rattle.cx_check.specs.Tells.{Tells, constant_in, needed, broken_constant, TellsConstant, seen_type}
 use Rattle.cx_context.specs.Checks.{Checks}

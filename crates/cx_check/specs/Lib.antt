@@ -1,3 +1,4 @@
 pub mod Loops
+pub mod Objects
 pub mod Tells
 pub mod Walks

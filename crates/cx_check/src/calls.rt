@@ -1,31 +1,36 @@
-//! The calls of the checks: an expression, an integer constant expression, and the type of a declarator. Each takes a scope and the
+//! The calls of the checks: an expression, an integer constant expression, the type of a declarator, and an initialiser. Each takes a scope and the
 //! layouts of its types, and adds what the tree declares. Of both nothing is said after a refusal, but that they belong together.
 
-ghost use Rattle.std.specs.Prelude.{◌≡◌, [], false, map};
+ghost use Rattle.std.specs.Prelude.{◌≡◌, [], map};
+ghost use Rattle.cx_check.specs.Objects.{object_target};
 ghost use Rattle.cx_check.specs.Tells.{Tells, TellsConstant, seen_type};
 ghost use Rattle.cx_context.specs.Checks.{Checks};
 ghost use Rattle.cx_context.specs.Laid.{IsLaid};
 ghost use Rattle.cx_context.specs.Views.{scope_of};
 ghost use Rattle.cx_core.specs.Views.{view_expr, view_type};
+ghost use Rattle.cx_init.specs.Views.{view_filled, view_stored};
 ghost use Rattle.cx_operands.specs.Views.{view_operand};
-ghost use Rattle.cx_plain.specs.Literals.{literal_in, literal_in_declarator, literal_in_specs};
 ghost use Rattle.cx_rules.specs.Lines.{expr_line};
 ghost use Rattle.cx_rules.specs.Operands.{value_of};
-ghost use Rattle.cx_rules.specs.Units.{check_type_name, seen_expr};
+ghost use Rattle.cx_rules.specs.Pieces.{filled_object};
+ghost use Rattle.cx_rules.specs.Units.{check_type_name, seen_expr, seen_initialiser};
 ghost use Rattle.cx_scope.specs.Views.{view_scope};
 ghost use Rattle.cx_tree.specs.Trees.{TypeName};
-ghost use Rattle.cx_tree.specs.Views.{expr_view, declarator_view, spec_view, specs as spec_trees};
+ghost use Rattle.cx_tree.specs.Views.{expr_view, declarator_view, initialiser_view, spec_view, specs as spec_trees};
 
+use crate::initialisers::stored_for;
 use crate::walk::{declarator, expr, specs};
-use cr_base::{Boxed, Int, Refusal, Rule, Stop};
+use cr_base::{Boxed, Int, Items, Refusal, Rule, Stop};
 use cx_context::Context;
 use cx_core::{CoreExpr, Ty};
+use cx_init::{Filled, Stored, filled_object};
+use cx_kinds::Known;
 use cx_layout::Layouts;
 use cx_operands::{Operand, operand_constant};
-use cx_rules::{SpecsPlace, expressions_stop, type_names_stop};
+use cx_rules::{SpecsPlace, expressions_stop, initialisers_stop, type_names_stop};
 use cx_scope::Scope;
 use cx_shapes::{declarator_line, expr_line, specs_line};
-use cx_tree::{Declarator, Expr, Spec};
+use cx_tree::{Declarator, Expr, Initialiser, Spec};
 use cx_type_steps::{derives_seen, specs_seen};
 use cx_values::value_of;
 use std::alloc::Global;
@@ -39,7 +44,6 @@ pub fn check_expr(
     e: &Expr,
 ) -> Result<Boxed<CoreExpr>, Stop>
     requires laid { IsLaid (view_scope scope.old).types layouts.old }
-    requires plain { literal_in (expr_view e.now) ≡ false }
     ensures tells { Tells (λ made operand. view_expr made ≡ value_of operand) result (view_scope scope.new) (seen_expr (expr_view e.now) (view_scope scope.old)) }
     ensures laid { IsLaid (view_scope scope.new).types layouts.new }
 {
@@ -59,7 +63,6 @@ pub fn constant(
     e: &Expr,
 ) -> Result<Int, Stop>
     requires laid { IsLaid (view_scope scope.old).types layouts.old }
-    requires plain { literal_in (expr_view e.now) ≡ false }
     ensures tells { TellsConstant result (view_scope scope.new) (expr_line (expr_view e.now)) (seen_expr (expr_view e.now) (view_scope scope.old)) }
     ensures laid { IsLaid (view_scope scope.new).types layouts.new }
 {
@@ -87,7 +90,6 @@ pub fn read_type(
     one: &Declarator,
 ) -> Result<Boxed<Ty>, Stop>
     requires laid { IsLaid (view_scope scope.old).types layouts.old }
-    requires plain { (literal_in_specs (spec_trees (map spec_view list.now)) ≡ false) × (literal_in_declarator (declarator_view one.now) ≡ false) }
     ensures tells { Tells (λ made type. view_type made ≡ type) result (view_scope scope.new)
         (seen_type (spec_trees (map spec_view list.now)) (declarator_view one.now) (view_scope scope.old)) }
     ensures laid { IsLaid (view_scope scope.new).types layouts.new }
@@ -97,6 +99,34 @@ pub fn read_type(
     context.put_back(scope, layouts);
     type_names_stop();
     found
+}
+
+/// What an initialiser leaves of an object of a type (ISO C99, 6.7.8): its type, which an array without length gets by it, and the puts
+/// in the order of their places. `fixed` asks for constants, as an object that is initialised before the program begins does (6.7.8p4).
+/// Refused by the first node that breaks a rule, and for want of memory.
+pub fn init(
+    alloc: Global,
+    ty: &Ty,
+    init: &Initialiser,
+    scope: &mut Scope,
+    layouts: &mut Layouts,
+    fixed: bool,
+) -> Result<Filled, Stop>
+    requires laid { IsLaid (view_scope scope.old).types layouts.old }
+    ensures tells { Tells (λ made stored. view_filled made ≡ filled_object (view_scope scope.new).types (view_type ty.now) stored) result (view_scope scope.new)
+        (seen_initialiser (object_target (view_scope scope.old).types fixed (view_type ty.now)) (initialiser_view init.now) (view_scope scope.old)) }
+    ensures laid { IsLaid (view_scope scope.new).types layouts.new }
+{
+    let stored = match stored_walked(alloc, ty, init, scope, layouts, fixed) {
+        Ok(stored) => stored,
+        Err(stop) => return Err(stop),
+    };
+    let known = Known {
+        types: scope.types(),
+        layouts,
+    };
+    let ty = ty.copy(alloc)?;
+    Ok(filled_object(alloc, known, ty, stored)?)
 }
 
 // An expression before its value is taken.
@@ -114,6 +144,27 @@ fn expr_walked(
     let found = expr(&mut context, e);
     context.put_back(scope, layouts);
     expressions_stop();
+    found
+}
+
+// What an initialiser gives the parts of an object, before they are put in order.
+fn stored_walked(
+    alloc: Global,
+    ty: &Ty,
+    init: &Initialiser,
+    scope: &mut Scope,
+    layouts: &mut Layouts,
+    fixed: bool,
+) -> Result<Items<Stored>, Stop>
+    requires laid { IsLaid (view_scope scope.old).types layouts.old }
+    ensures tells { Tells (λ made stored. map view_stored made ≡ stored) result (view_scope scope.new)
+        (seen_initialiser (object_target (view_scope scope.old).types fixed (view_type ty.now)) (initialiser_view init.now) (view_scope scope.old)) }
+    ensures laid { IsLaid (view_scope scope.new).types layouts.new }
+{
+    let mut context = Context::take(alloc, scope, layouts);
+    let found = stored_for(&mut context, ty, init, fixed);
+    context.put_back(scope, layouts);
+    initialisers_stop();
     found
 }
 

@@ -1,7 +1,8 @@
-//! The checks of expressions and type names (ISO C99, 6.5 and 6.7): what they mean, or the first node that breaks a rule.
+//! The checks of expressions, type names and initialisers (ISO C99, 6.5 and 6.7): what they mean, or the first node that breaks a rule.
 #![tactic(auto)]
 
 mod calls;
+mod initialisers;
 mod walk;
 
-pub use calls::{check_expr, constant, read_type};
+pub use calls::{check_expr, constant, init, read_type};

@@ -11,8 +11,12 @@ ghost use Rattle.cx_rules.specs.Shapes.{no_specs_yet};
 ghost use Rattle.cx_rules.specs.Units.{check_expr, check_type_name};
 ghost use Rattle.cx_scope.specs.Views.{view_param};
 ghost use Rattle.cx_shapes.specs.Views.{view_specs, view_shape, view_step};
-ghost use Rattle.cx_tree.specs.Views.{expr_view, exprs as expr_trees, option_expr as option_expr_tree, type_name_view, spec_view, specs as spec_trees, member_decl_view, member_decls as member_decl_trees, member_declarator_view, member_declarators as member_declarator_trees, enumerator_view, enumerators as enumerator_trees, declarator_view, brackets_view, param_view as param_tree_view, params as param_trees};
+ghost use Rattle.cx_tree.specs.Views.{expr_view, exprs as expr_trees, option_expr as option_expr_tree, type_name_view, spec_view, specs as spec_trees, member_decl_view, member_decls as member_decl_trees, member_declarator_view, member_declarators as member_declarator_trees, enumerator_view, enumerators as enumerator_trees, declarator_view, brackets_view, param_view as param_tree_view, params as param_trees, initialiser_view, initialiser_list_view, entry_view, entries as entry_trees, designator_view, designators as designator_trees};
+ghost use Rattle.cx_tree.specs.Trees.{Single};
+ghost use Rattle.cx_init.specs.Views.{view_filling, view_stored, view_target};
+ghost use Rattle.cx_parts.specs.Views.{view_at};
 
+use crate::initialisers::is_direct;
 use cr_base::{Boxed, Int, Items, Stop};
 use cx_context::Context;
 use cx_core::{Member, Ty};
@@ -21,22 +25,29 @@ use cx_expr_steps::{
     index_seen, letter_seen, name_seen, number_seen, sizeof_seen, sizeof_type_seen, step_seen,
     text_seen, unary_seen,
 };
+use cx_init::{Filling, Stored, Target, next_at, object_target, part_target, whole_at};
+use cx_init_steps::{
+    element_seen, is_text, list_begins, list_given, literal_begins, literal_ended,
+    member_designated, text_given, text_parts, value_given,
+};
 use cx_kept::expressions_keep;
 use cx_operands::Operand;
+use cx_parts::At;
 use cx_rules::SpecsPlace;
 use cx_scope::Param;
 use cx_shapes::{
     Shape, Specs, Step, declarator_line, expr_line, own_line, pointer_step, specs_line,
 };
 use cx_tree::{
-    Brackets, Declarator, Enumerator, Expr, MemberDecl, MemberDeclarator, Param as ParamTree, Spec,
-    TypeName,
+    Brackets, Declarator, Designator, Entry, Enumerator, Expr, Initialiser, InitialiserList,
+    MemberDecl, MemberDeclarator, Param as ParamTree, Spec, TypeName,
 };
 use cx_type_steps::{
     array_seen, derives_seen, ends_declarators, ends_decls, enum_ended, enum_use_seen,
     enumerator_seen, identifiers_seen, is_single, member_seen, param_derived, params_ended,
     record_ended, record_use_seen, specs_seen, typedef_seen,
 };
+use std::mem;
 
 /// An expression (ISO C99, 6.5).
 #[cycle(walk)]
@@ -62,7 +73,7 @@ pub(crate) fn expr(context: &mut Context, e: &Expr) -> Result<Operand, Stop>
         Expr::SizeofExpr { .. } => sizeof_form(context, e),
         Expr::Cond { .. } => cond_form(context, e),
         Expr::Call { .. } => call_form(context, e),
-        Expr::Literal { .. } => Err(Stop::Memory),
+        Expr::Literal { .. } => literal_form(context, e),
     }
 }
 
@@ -550,4 +561,174 @@ fn param(context: &mut Context, is_only: bool, one: &ParamTree) -> Result<Option
     let own = declarator_line(line, one.declarator.get());
     let shape = declarator(context, one.declarator.get())?;
     param_derived(context, is_only, line, own, &all, shape)
+}
+
+// A compound literal.
+#[cycle(walk)]
+fn literal_form(context: &mut Context, e: &Expr) -> Result<Operand, Stop>
+    ensures { Checks view_operand result (scope_of context.new) (check_expr (expr_view e.now) (scope_of context.old)) }
+{
+    match e {
+        Expr::Literal { of, list, lines } => {
+            let ty = type_name(context, of.get())?;
+            literal_of(context, list.get(), own_line(lines), ty)
+        }
+        // No other form comes here.
+        _ => Err(Stop::Memory),
+    }
+}
+
+// The list of a compound literal of a type.
+#[cycle(walk)]
+fn literal_of(
+    context: &mut Context,
+    list: &InitialiserList,
+    line: u32,
+    ty: Boxed<Ty>,
+) -> Result<Operand, Stop>
+    ensures { Checks view_operand result (scope_of context.new) (walks.literal_walk (view_type ty) line (initialiser_list_view list.now) (scope_of context.old)) }
+{
+    let is_inside = context.is_inside();
+    let target = object_target(context.alloc(), !is_inside, ty.get())?;
+    let begun = literal_begins(context, ty.get())?;
+    let empty = Items::new(context.alloc());
+    let stored = initialiser_list(context, list, &target, empty)?;
+    literal_ended(context, begun, line, ty, stored)
+}
+
+/// A list in braces (ISO C99, 6.7.8).
+#[cycle(walk)]
+pub(crate) fn initialiser_list(
+    context: &mut Context,
+    list: &InitialiserList,
+    target: &Target,
+    stored: Items<Stored>,
+) -> Result<Items<Stored>, Stop>
+    ensures { Checks (map view_stored) result (scope_of context.new) (walks.list_walk (view_target target.now) (map view_stored stored) (initialiser_list_view list.now) (scope_of context.old)) }
+{
+    let entries = list.entries.as_slice();
+    let mut filling = list_begins(context, target, entries, stored)?;
+    entries_given(context, entries, target, &mut filling)?;
+    Ok(filling.stored)
+}
+
+// Entries of a list from the left.
+#[cycle(walk)]
+fn entries_given(
+    context: &mut Context,
+    list: &[Entry],
+    target: &Target,
+    filling: &mut Filling,
+) -> Result<(), Stop>
+    ensures { Checks (λ _. map view_stored filling.new.stored) result (scope_of context.new) (walks.entries_walk (view_target target.now) (view_filling filling.old) (entry_trees (map entry_view list.now)) (scope_of context.old)) }
+{
+    for one in list {
+        entry_given(context, one, target, filling)?;
+    }
+    Ok(())
+}
+
+// An entry of a list.
+#[cycle(walk)]
+#[tactic(auto, using(crate::proofs::Forms::entry_is), unfolding(cx_rules::specs::Readings::check_chain, cx_rules::specs::Readings::check_gives, cx_rules::specs::Readings::check_here, cx_rules::specs::Readings::check_becomes))]
+fn entry_given(
+    context: &mut Context,
+    one: &Entry,
+    target: &Target,
+    filling: &mut Filling,
+) -> Result<(), Stop>
+    ensures { Checks (λ _. view_filling filling.new) result (scope_of context.new) (walks.entry_walk (view_target target.now) (view_filling filling.old) (entry_view one.now) (scope_of context.old)) }
+{
+    let at = entry_at(context, one, target, filling)?;
+    given(context, one.init.get(), target, &at, filling)
+}
+
+// The part that an entry of a list is for.
+#[cycle(walk)]
+fn entry_at(
+    context: &mut Context,
+    one: &Entry,
+    target: &Target,
+    filling: &Filling,
+) -> Result<Option<At>, Stop>
+    ensures { Checks (option_map view_at) result (scope_of context.new) (walks.entry_part (view_target target.now) (view_filling filling.now) (entry_view one.now) (scope_of context.old)) }
+{
+    let list = one.designators.as_slice();
+    if is_direct(list) {
+        return Ok(next_at(context.alloc(), filling)?);
+    }
+    let whole = whole_at(context.alloc(), target)?;
+    designators(context, list, whole)
+}
+
+// Designators from the left, each from where the one before leads.
+#[cycle(walk)]
+fn designators(
+    context: &mut Context,
+    list: &[Designator],
+    from: Option<At>,
+) -> Result<Option<At>, Stop>
+    ensures { Checks (option_map view_at) result (scope_of context.new) (walks.designators_walk (option_map view_at from) (designator_trees (map designator_view list.now)) (scope_of context.old)) }
+{
+    let mut at = from;
+    for one in list {
+        at = designator(context, one, &at)?;
+    }
+    Ok(at)
+}
+
+// A designator.
+#[cycle(walk)]
+fn designator(context: &mut Context, one: &Designator, at: &Option<At>) -> Result<Option<At>, Stop>
+    ensures { Checks (option_map view_at) result (scope_of context.new) (walks.designator_walk (option_map view_at at.now) (designator_view one.now) (scope_of context.old)) }
+{
+    match one {
+        Designator::Element { at: index, lines } => {
+            let value = expr(context, index.get())?;
+            element_seen(context, own_line(lines), at, value)
+        }
+        Designator::Member { name, lines } => member_designated(context, own_line(lines), at, name),
+    }
+}
+
+// What is given for a part.
+#[cycle(walk)]
+fn given(
+    context: &mut Context,
+    init: &Initialiser,
+    target: &Target,
+    at: &Option<At>,
+    filling: &mut Filling,
+) -> Result<(), Stop>
+    ensures { Checks (λ _. view_filling filling.new) result (scope_of context.new) (walks.given_walk (view_target target.now) (option_map view_at at.now) (view_filling filling.old) (initialiser_view init.now) (scope_of context.old)) }
+{
+    match init {
+        Initialiser::Single(value) => single_given(context, value.get(), target, at, filling),
+        Initialiser::Braced(list) => {
+            let inner = part_target(context.alloc(), target, at.as_ref())?;
+            let empty = Items::new(context.alloc());
+            let earlier = mem::replace(&mut filling.stored, empty);
+            let stored = initialiser_list(context, list.get(), &inner, earlier)?;
+            list_given(context, target, at, stored, filling)
+        }
+    }
+}
+
+// A value that is given for a part.
+#[cycle(walk)]
+fn single_given(
+    context: &mut Context,
+    value: &Expr,
+    target: &Target,
+    at: &Option<At>,
+    filling: &mut Filling,
+) -> Result<(), Stop>
+    ensures { Checks (λ _. view_filling filling.new) result (scope_of context.new) (walks.given_walk (view_target target.now) (option_map view_at at.now) (view_filling filling.old) (Single (expr_view value.now)) (scope_of context.old)) }
+{
+    let line = expr_line(value);
+    if is_text(value) {
+        return text_given(context, line, target, at, text_parts(value), filling);
+    }
+    let one = expr(context, value)?;
+    value_given(context, line, target, at, one, filling)
 }

@@ -169,14 +169,19 @@ pub fn text_at(
 }
 
 // A part of what the innermost list is for, by its path from the whole object.
-fn whole_place(alloc: Global, base: &Option<At>, at: Option<&At>) -> Result<Option<At>, Memory>
+pub(crate) fn whole_place(
+    alloc: Global,
+    base: &Option<At>,
+    at: Option<&At>,
+) -> Result<Option<At>, Memory>
     ensures { IfOk result (λ made. option_map view_at made ≡ from_whole (option_map view_at base.now) (option_map (λ one. view_at one.now) at.entry)) }
 {
-    let copied = copied(alloc, at)?;
+    let copied = copy_at(alloc, at)?;
     from_whole(alloc, base, copied)
 }
 
-fn copied(alloc: Global, at: Option<&At>) -> Result<Option<At>, Memory>
+/// A part, copied. Refused only for want of memory.
+pub(crate) fn copy_at(alloc: Global, at: Option<&At>) -> Result<Option<At>, Memory>
     ensures { IfOk result (λ made. option_map view_at made ≡ option_map (λ one. view_at one.now) at.entry) }
 {
     match at {

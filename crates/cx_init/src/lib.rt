@@ -18,5 +18,7 @@ pub use facts::assignable_at;
 pub use filling::{fill, fill_text, fill_value, text_at, value_at};
 pub use puts::{Filled, filled_object};
 pub use stored::{Filling, Stored, Target};
-pub use targets::{begin_list, is_text_target, list_at_text, object_target, part_target, whole_at};
+pub use targets::{
+    begin_list, is_text_target, list_at_text, next_at, object_target, part_target, whole_at,
+};
 pub use texts::fits_text;

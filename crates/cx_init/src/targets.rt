@@ -10,6 +10,7 @@ ghost use Rattle.cx_rules.specs.Types.{is_void, is_function};
 ghost use Rattle.cx_core.specs.Views.{view_type};
 ghost use Rattle.std.specs.Option.{option_and_then};
 
+use crate::filling::{copy_at, whole_place};
 use crate::stored::{Filling, Stored, Target};
 use crate::taken::drop_within;
 use cr_base::{Items, Memory};
@@ -47,10 +48,10 @@ fn inside(alloc: Global, base: &At, at: At) -> Result<At, Memory>
 }
 
 /// What a list in braces is for that is given for a part. Refused only for want of memory.
-pub fn part_target(alloc: Global, target: &Target, at: Option<At>) -> Result<Target, Memory>
-    ensures { IfOk result (λ made. view_target made ≡ target_at (view_target target.now) (option_map view_at at)) }
+pub fn part_target(alloc: Global, target: &Target, at: Option<&At>) -> Result<Target, Memory>
+    ensures { IfOk result (λ made. view_target made ≡ target_at (view_target target.now) (option_map (λ one. view_at one.now) at.entry)) }
 {
-    let base = from_whole(alloc, &target.base, at)?;
+    let base = whole_place(alloc, &target.base, at)?;
     Ok(Target {
         is_static: target.is_static,
         base,
@@ -69,6 +70,13 @@ pub fn whole_at(alloc: Global, target: &Target) -> Result<Option<At>, Memory>
             Ok(Some(whole_of(alloc, ty)))
         }
     }
+}
+
+/// The part behind the value before, copied, where there is one (ISO C99, 6.7.8p17). Refused only for want of memory.
+pub fn next_at(alloc: Global, filling: &Filling) -> Result<Option<At>, Memory>
+    ensures { IfOk result (λ made. option_map view_at made ≡ (view_filling filling.now).next) }
+{
+    copy_at(alloc, filling.next.as_ref())
 }
 
 /// Whether it is an array of characters, which a string literal fills (ISO C99, 6.7.8p14).

@@ -1,13 +1,16 @@
-use Rattle.std.proofs.Common.{ap, sym, ◌∙◌, subst, map}
-use Rattle.cx_check.proofs.Forms.{call_is, sizeof_is}
-use Rattle.cx_check.proofs.Opened.{call_view, sizeof_view}
+use Rattle.std.proofs.Common.{ap, sym, ◌∙◌, subst, map, option_map}
+use Rattle.cx_check.proofs.Forms.{call_is, entry_fine, sizeof_is}
+use Rattle.cx_check.proofs.Opened.{call_view, init_view, sizeof_view}
+use Rattle.cx_check.specs.Walks as walks
 use Rattle.cx_context.specs.Checks.{Checks}
 use Rattle.cx_context.specs.Views.{scope_of}
+use Rattle.cx_init.specs.Views.{view_filling, view_target}
 use Rattle.cx_operands.specs.Views.{view_operand}
+use Rattle.cx_parts.specs.Views.{view_at}
 use Rattle.cx_rules.specs.Units.{check_expr}
 use Rattle.cx_expr_steps.specs.Steps as steps
 use Rattle.cx_tree.specs.Trees.{Call, SizeofExpr}
-use Rattle.cx_tree.specs.Views.{expr_view, exprs as expr_trees}
+use Rattle.cx_tree.specs.Views.{entry_view, expr_view, exprs as expr_trees, initialiser_view}
 use Rattle.cx_check.proofs.walk.+walk.Goals as goal
 
 pub call_form-returns-in_ok-given-in-Call : goal.call_form-returns-in_ok-given-in-Call
@@ -34,3 +37,12 @@ sizeof_form-returns-in_ok-one-in-SizeofExpr n c =
     ∙ (ap (λ tree. check_expr tree (scope_of c.args.context.now)) (sym (sizeof_view c.in-SizeofExpr.on c.in-SizeofExpr.lines))
     ∙ ap (λ e. check_expr (expr_view e) (scope_of c.args.context.now)) (sym c.in-SizeofExpr.is)))))
     c.sizeof_seen.ensures
+
+pub entry_given-returns : goal.entry_given-returns
+entry_given-returns n c =
+    subst (λ walked. Checks (λ _. view_filling c.given.new.filling) c.given.result (scope_of c.given.new.context) walked)
+    (ap (λ init. walks.given_walk (view_target c.args.target.now) (option_map view_at c.in_ok-at.at) (view_filling c.args.filling.now) init (scope_of c.entry_at.new.context))
+    (ap initialiser_view c.get.ensures ∙ sym (init_view c.args.one.now))
+    ∙ entry_fine (view_target c.args.target.now) (view_filling c.args.filling.now) (entry_view c.args.one.now) (scope_of c.args.context.now)
+    (option_map view_at c.in_ok-at.at) (scope_of c.entry_at.new.context) c.in_ok-at.ensures)
+    c.given.ensures
