@@ -11,7 +11,6 @@ use cx_check::{check_expr, constant, read_type};
 use cx_context::none_is_laid;
 use cx_core::{CoreExpr, Ty};
 use cx_layout::Layouts;
-use cx_plain::{literal_in, literal_in_declarator, literal_in_specs};
 use cx_scope::{Declared, Scope};
 use cx_tree::{BlockItem, Decl, Declarator, Definition, Expr, External, Spec, Stmt, Unit};
 use std::alloc::Global;
@@ -22,9 +21,6 @@ pub(crate) fn value_in(alloc: Global, unit: &Unit) -> Result<Boxed<CoreExpr>, Ro
     let mut layouts = Layouts::new(alloc);
     none_is_laid();
     let e = expression_behind(alloc, &mut scope, &mut layouts, unit)?;
-    if literal_in(e) {
-        return Err(RowFault::Form);
-    }
     given(check_expr(alloc, &mut scope, &mut layouts, e))
 }
 
@@ -34,9 +30,6 @@ pub(crate) fn constant_in(alloc: Global, unit: &Unit) -> Result<Int, RowFault> {
     let mut layouts = Layouts::new(alloc);
     none_is_laid();
     let e = expression_behind(alloc, &mut scope, &mut layouts, unit)?;
-    if literal_in(e) {
-        return Err(RowFault::Form);
-    }
     given(constant(alloc, &mut scope, &mut layouts, e))
 }
 
@@ -116,9 +109,6 @@ fn type_of(
     requires { IsLaid (view_scope scope.old).types layouts.old }
     ensures { IsLaid (view_scope scope.new).types layouts.new }
 {
-    if literal_in_specs(specs) || literal_in_declarator(declarator) {
-        return Err(RowFault::Form);
-    }
     given(read_type(alloc, scope, layouts, specs, declarator))
 }
 
