@@ -237,6 +237,17 @@ random_expressions() {
   fi
 }
 
+# Random compound literals: those break a constraint in which gcc finds an error, and the others are as long.
+random_initialisers() {
+  local said
+  tools_for 'random compound literals' python3 gcc || return
+  if ! said=$(python3 "$top/tests/initialisers.py" --rows "$check_rows" 2>&1); then
+    bad "random compound literals: $said"
+  else
+    ok "random compound literals: $said"
+  fi
+}
+
 # Random control flow graphs: their shapes fit them, with a dispatch exactly where one is irreducible.
 relooper_graphs() {
   local said
@@ -288,6 +299,7 @@ straight_units
 straight_mutants
 syntax_mutants
 random_expressions
+random_initialisers
 relooper_graphs
 random_records
 crate_runs
