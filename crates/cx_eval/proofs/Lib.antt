@@ -1,0 +1,9 @@
+mod Behind
+mod Bridged
+mod Lasts
+mod Moving
+mod Opened
+mod Outcomes
+mod Readied
+mod Staged
+mod Twos

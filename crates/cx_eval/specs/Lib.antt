@@ -1,0 +1,8 @@
+pub mod Added
+pub mod Halts
+pub mod Next
+pub mod Nodes
+pub mod Parts
+pub mod Ready
+pub mod Steps
+pub mod Taken

@@ -1,0 +1,36 @@
+ghost use Rattle.std.specs.Prelude.{◌≡◌};
+ghost use Rattle.cx_eval.specs.Halts.{halted};
+
+use cr_base::{Place, URule};
+use cx_access::Trouble;
+use cx_work::{Called, Child};
+
+/// Why a step isn't taken.
+#[derive(Clone, Copy)]
+pub enum Halt {
+    /// C leaves it undefined, by this rule at the node with this place.
+    Undefined(URule, Place),
+    /// Want of memory, or a step that no typed program has.
+    Memory,
+}
+
+/// How far a walk to a ready node has come.
+#[derive(Drop)]
+pub enum Walked<'a> {
+    /// The node lies behind so many ready ones.
+    Passed(u64),
+    /// The node took its step.
+    Stepped,
+    /// The node calls a function, and waits.
+    Calls(Child<Called<'a>>),
+}
+
+/// What is wrong at the node with a place.
+pub(crate) fn halted(trouble: Trouble, place: Place) -> Halt
+    ensures { result ≡ halted trouble place }
+{
+    match trouble {
+        Trouble::Undefined(rule) => Halt::Undefined(rule, place),
+        Trouble::Memory => Halt::Memory,
+    }
+}
