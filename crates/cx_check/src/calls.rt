@@ -2,7 +2,7 @@
 //! layouts of its types, and adds what the tree declares. Of both nothing is said after a refusal, but that they belong together.
 
 ghost use Rattle.std.specs.Prelude.{◌≡◌, [], map};
-ghost use Rattle.cx_check.specs.Objects.{object_target};
+ghost use Rattle.cx_check.specs.Objects.{declared_target};
 ghost use Rattle.cx_check.specs.Tells.{Tells, TellsConstant, seen_type};
 ghost use Rattle.cx_context.specs.Checks.{Checks};
 ghost use Rattle.cx_context.specs.Laid.{IsLaid};
@@ -114,7 +114,7 @@ pub fn init(
 ) -> Result<Filled, Stop>
     requires laid { IsLaid (view_scope scope.old).types layouts.old }
     ensures tells { Tells (λ made stored. view_filled made ≡ filled_object (view_scope scope.new).types (view_type ty.now) stored) result (view_scope scope.new)
-        (seen_initialiser (object_target (view_scope scope.old).types fixed (view_type ty.now)) (initialiser_view init.now) (view_scope scope.old)) }
+        (seen_initialiser (declared_target (view_scope scope.old).types fixed (view_type ty.now)) (initialiser_view init.now) (view_scope scope.old)) }
     ensures laid { IsLaid (view_scope scope.new).types layouts.new }
 {
     let stored = match stored_walked(alloc, ty, init, scope, layouts, fixed) {
@@ -158,7 +158,7 @@ fn stored_walked(
 ) -> Result<Items<Stored>, Stop>
     requires laid { IsLaid (view_scope scope.old).types layouts.old }
     ensures tells { Tells (λ made stored. map view_stored made ≡ stored) result (view_scope scope.new)
-        (seen_initialiser (object_target (view_scope scope.old).types fixed (view_type ty.now)) (initialiser_view init.now) (view_scope scope.old)) }
+        (seen_initialiser (declared_target (view_scope scope.old).types fixed (view_type ty.now)) (initialiser_view init.now) (view_scope scope.old)) }
     ensures laid { IsLaid (view_scope scope.new).types layouts.new }
 {
     let mut context = Context::take(alloc, scope, layouts);

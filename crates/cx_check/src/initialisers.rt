@@ -2,7 +2,7 @@
 #![tactic(auto, unfolding(cx_rules::specs::Readings::check_chain, cx_rules::specs::Readings::check_gives))]
 
 ghost use Rattle.std.specs.Prelude.{◌≡◌, false, map, option_map, IfOk};
-ghost use Rattle.cx_check.specs.Objects.{has_initialiser, object_target};
+ghost use Rattle.cx_check.specs.Objects.{may_have_initialiser, declared_target};
 ghost use Rattle.cx_check.specs.Walks as walks;
 ghost use Rattle.cx_context.specs.Checks.{Checks};
 ghost use Rattle.cx_context.specs.Views.{scope_of};
@@ -68,16 +68,16 @@ pub(crate) fn is_direct(designators: &[Designator]) -> bool
 }
 
 // Whether an object of a type may have an initialiser (6.7.8p3).
-fn has_initialiser(known: Known, t: &Ty) -> bool
+fn may_have_initialiser(known: Known, t: &Ty) -> bool
     requires { IsKnown known }
-    ensures { result ≡ has_initialiser (types_in known.entry) (view_type t.now) }
+    ensures { result ≡ may_have_initialiser (types_in known.entry) (view_type t.now) }
 {
     !is_function(t) && (has_size(known, t) || is_array(t))
 }
 
 // What an initialiser by itself is for: an object of a type. Refused only for want of memory.
 fn whole_target(context: &Context, is_static: bool, t: &Ty) -> Result<Target, Memory>
-    ensures { IfOk result (λ made. view_target made ≡ object_target (scope_of context.now).types is_static (view_type t.now)) }
+    ensures { IfOk result (λ made. view_target made ≡ declared_target (scope_of context.now).types is_static (view_type t.now)) }
 {
     let base = whole_base(context, t)?;
     Ok(Target { is_static, base })
@@ -90,16 +90,16 @@ pub(crate) fn stored_for(
     init: &Initialiser,
     is_static: bool,
 ) -> Result<Items<Stored>, Stop>
-    ensures { Checks (map view_stored) result (scope_of context.new) (check_initialiser (object_target (scope_of context.old).types is_static (view_type t.now)) (initialiser_view init.now) (scope_of context.old)) }
+    ensures { Checks (map view_stored) result (scope_of context.new) (check_initialiser (declared_target (scope_of context.old).types is_static (view_type t.now)) (initialiser_view init.now) (scope_of context.old)) }
 {
     let target = whole_target(context, is_static, t)?;
     initialiser(context, init, &target)
 }
 
 fn whole_base(context: &Context, t: &Ty) -> Result<Option<At>, Memory>
-    ensures { IfOk result (λ made. option_map view_at made ≡ (object_target (scope_of context.now).types false (view_type t.now)).base) }
+    ensures { IfOk result (λ made. option_map view_at made ≡ (declared_target (scope_of context.now).types false (view_type t.now)).base) }
 {
-    if !has_initialiser(context.known(), t) {
+    if !may_have_initialiser(context.known(), t) {
         return Ok(None);
     }
     let alloc = context.alloc();
