@@ -18,12 +18,10 @@ sys.dont_write_bytecode = True
 
 import argparse
 import re
-import subprocess
 from collections import Counter
 from random import Random
 
-SECONDS = 300
-GCC = ["gcc", "-x", "c", "-std=c99", "-pedantic-errors", "-fsyntax-only", "-fno-diagnostics-show-caret", "-fmax-errors=0", "-"]
+from checked_rows import gcc_says, rows_say, rule_in
 
 # What the expressions name (one line, so that an expression stands on a line of its own behind it).
 NAMES = " ".join(
@@ -96,37 +94,6 @@ INCOMPLETE = re.compile(r"(.*, )?\(*\*\(*pinc\)*")
 TRUTH_MOVED = re.compile(r"(.*\W)?\(*tb\)* [+-]= .*")
 
 
-def gcc_says(texts):
-    """What gcc says of each expression: its errors, by the line on which they stand."""
-    unit = NAMES + "\n" + "\n".join(f"void check{k}(void) {{ {text}; }}" for k, text in enumerate(texts)) + "\n"
-    done = subprocess.run(GCC, input=unit, capture_output=True, text=True, timeout=SECONDS)
-    said = [""] * len(texts)
-    for line in done.stderr.split("\n"):
-        found = re.match(r"<stdin>:(\d+):\d+: error: (.*)", line)
-        if found:
-            number = int(found[1]) - 2
-            if number < 0:
-                sys.exit(f"gcc refuses the names: {line}")
-            said[number] += found[2] + "; "
-    return said
-
-
-def rows_say(program, texts):
-    """What the program says of each expression: the rule that it breaks, or None."""
-    rows = "".join(f"expression {NAMES} void check(void) {{ {text}; }}\n" for text in texts)
-    done = subprocess.run([program], input=rows, capture_output=True, text=True, timeout=SECONDS)
-    answers = done.stdout.split("\n")[: len(texts)]
-    if done.returncode != 0 or len(answers) != len(texts):
-        sys.exit(f"the program of the rows ends with {done.returncode}: {done.stdout[-200:]}{done.stderr[-200:]}")
-    rules = []
-    for answer in answers:
-        found = re.match(r"([A-Z]\d+) on line \d+$", answer)
-        rules.append(found[1] if found else None)
-        if answer.startswith("not a row") or answer == "out of memory":
-            sys.exit(f"no answer: {answer}")
-    return rules
-
-
 def main():
     reader = argparse.ArgumentParser()
     reader.add_argument("--rows")
@@ -139,11 +106,11 @@ def main():
         text = expression(random, random.choice([1, 1, 2, 2, 3]))
         if text not in texts:
             texts.append(text)
-    said = gcc_says(texts)
+    said = gcc_says(NAMES, texts)
     if words.rows is None:
         print(f"{len(texts)} expressions, of which gcc takes {sum(not one for one in said)}")
         return
-    rules = rows_say(words.rows, texts)
+    rules = [rule_in(answer) for answer in rows_say(words.rows, NAMES, texts)]
     apart, known, alike, others = 0, 0, Counter(), []
     for text, rule, errors in zip(texts, rules, said):
         refused = errors != ""

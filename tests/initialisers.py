@@ -14,14 +14,12 @@ import sys
 sys.dont_write_bytecode = True
 
 import argparse
-import re
 import subprocess
 import tempfile
 from pathlib import Path
 from random import Random
 
-SECONDS = 300
-GCC = ["gcc", "-x", "c", "-std=c99", "-pedantic-errors", "-fsyntax-only", "-fno-diagnostics-show-caret", "-fmax-errors=0", "-"]
+from checked_rows import SECONDS, gcc_says, rows_say, rule_in
 
 # What the literals name (one line, so that a literal stands on a line of its own behind it).
 NAMES = " ".join(
@@ -113,22 +111,6 @@ def literal(random):
     return f"({written}){listed(random, kind, 2)}"
 
 
-def gcc_says(texts):
-    """What gcc says of each literal, or an empty text."""
-    lines = [f"void check{number}(void) {{ &{text}; }}" for number, text in enumerate(texts)]
-    unit = NAMES + "\n" + "\n".join(lines) + "\n"
-    done = subprocess.run(GCC, input=unit, capture_output=True, text=True, timeout=SECONDS)
-    said = [""] * len(texts)
-    for line in done.stderr.split("\n"):
-        found = re.match(r"<stdin>:(\d+):\d+: error: (.*)", line)
-        if found:
-            number = int(found[1]) - 2
-            if number < 0:
-                sys.exit(f"gcc refuses the names: {line}")
-            said[number] += found[2] + "; "
-    return said
-
-
 def gcc_lengths(texts):
     """How long the array of each literal is, of literals that gcc takes."""
     asked = [f'printf("%zu\\n", sizeof{text} / sizeof({text}[0]));' for text in texts]
@@ -140,26 +122,14 @@ def gcc_lengths(texts):
     return done.stdout.split()
 
 
-def rows_say(program, texts):
-    """The answer of each row."""
-    rows = "".join(f"expression {NAMES} void check(void) {{ &{text}; }}\n" for text in texts)
-    done = subprocess.run([program], input=rows, capture_output=True, text=True, timeout=SECONDS)
-    answers = done.stdout.split("\n")[: len(texts)]
-    if done.returncode != 0 or len(answers) != len(texts):
-        sys.exit(f"the program of the rows ends with {done.returncode}: {done.stdout[-200:]}{done.stderr[-200:]}")
-    return answers
-
-
 def refusals_differ(texts, said, answers):
     """The literals that one side refuses and the other takes."""
     differ = []
     for text, fault, answer in zip(texts, said, answers):
-        refused = re.match(r"([A-Z]\d+) on line \d+$", answer)
-        if not refused and not answer.startswith("pointer to "):
-            sys.exit(f"no answer to {text}: {answer}")
-        if refused and refused[1][0] == "O":
+        rule = rule_in(answer)
+        if rule and rule[0] == "O":
             continue
-        if bool(refused) != bool(fault):
+        if bool(rule) != bool(fault):
             differ.append(f"&{text}: rows {answer}, gcc {fault or 'takes it'}")
     return differ
 
@@ -190,8 +160,8 @@ def main():
         text = literal(random)
         if text not in texts:
             texts.append(text)
-    said = gcc_says(texts)
-    answers = rows_say(words.rows, texts)
+    said = gcc_says(NAMES, [f"&{text}" for text in texts])
+    answers = rows_say(words.rows, NAMES, [f"&{text}" for text in texts])
     differ = refusals_differ(texts, said, answers)
     longer, compared = lengths_differ(texts, said, answers)
     differ += longer

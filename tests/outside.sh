@@ -215,48 +215,36 @@ straight_mutants() {
   fi
 }
 
+# A script of tests/ that compares what a program of rows answers: its title, its name, the program and the tools that it needs.
+compared() {
+  local said title=$1 script=$2 answers=$3
+  shift 3
+  tools_for "$title" python3 "$@" || return
+  if ! said=$(python3 "$top/tests/$script" --rows "$answers" 2>&1); then
+    bad "$title: $said"
+  else
+    ok "$title: $said"
+  fi
+}
+
 # Units near C99: those have a syntax tree in which gcc finds no syntax error, but for kinds of difference that are known.
 syntax_mutants() {
-  local said
-  tools_for 'units near C99' python3 gcc || return
-  if ! said=$(python3 "$top/tests/syntax_mutants.py" --rows "$rows" 2>&1); then
-    bad "units near C99: $said"
-  else
-    ok "units near C99: $said"
-  fi
+  compared 'units near C99' syntax_mutants.py "$rows" gcc
 }
 
 # Random expressions: those break a constraint in which gcc finds an error, the profile's own rules apart.
 random_expressions() {
-  local said
-  tools_for 'random expressions' python3 gcc || return
-  if ! said=$(python3 "$top/tests/expressions.py" --rows "$check_rows" 2>&1); then
-    bad "random expressions: $said"
-  else
-    ok "random expressions: $said"
-  fi
+  compared 'random expressions' expressions.py "$check_rows" gcc
 }
 
 # Random compound literals: those break a constraint in which gcc finds an error, and the others are as long.
 random_initialisers() {
-  local said
-  tools_for 'random compound literals' python3 gcc || return
-  if ! said=$(python3 "$top/tests/initialisers.py" --rows "$check_rows" 2>&1); then
-    bad "random compound literals: $said"
-  else
-    ok "random compound literals: $said"
-  fi
+  compared 'random compound literals' initialisers.py "$check_rows" gcc
 }
 
 # Random control flow graphs: their shapes fit them, with a dispatch exactly where one is irreducible.
 relooper_graphs() {
-  local said
-  tools_for 'shapes of random graphs' python3 || return
-  if ! said=$(python3 "$top/tests/relooper_graphs.py" --rows "$rows" 2>&1); then
-    bad "shapes of random graphs: $said"
-  else
-    ok "shapes of random graphs: $said"
-  fi
+  compared 'shapes of random graphs' relooper_graphs.py "$rows"
 }
 
 # Random records of C: a model of the ABI and gcc lay them out alike. The model's answers are rows of the gate.
