@@ -109,7 +109,7 @@ jumps_at place name site blocks = jump_from place name site.levels site.bottom b
 
 -- an opened statement has an object that begins, or the way goes on
 abbrev pub Opens : Option CMove → (goes_on whole : CMove) → Type 0
-Opens (Some begins) goes_on whole = begins ≡ whole
+Opens (Some first) goes_on whole = first ≡ whole
 Opens None goes_on whole = goes_on ≡ whole
 
 -- ---- puts
