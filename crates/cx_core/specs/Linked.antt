@@ -6,7 +6,7 @@ use Rattle.cx_core.specs.declared.program.Linkage.TheVariants.{External, Interna
 use Rattle.cx_core.specs.declared.ty.Basic.TheVariants.{Char, Int}
 use Rattle.cx_core.specs.Externals.{IsExternalType}
 use Rattle.cx_core.specs.Statements.{objects_in, IsDefinitionOf}
-use Rattle.cx_core.specs.Trees.{CTy, CTyForm, basic, array, function, CParams, unlisted, listed, no_types, form_of_type, CPuts, CTypes, CObject, CFun, COuter, CProgram, CDoes, declares, defines, CMention, CUnit}
+use Rattle.cx_core.specs.Trees.{CTy, CTyForm, basic, array, function, CParams, unlisted, listed, no_types, form_of_type, CPuts, CTypes, CObject, CFun, COuter, CProgram, CDoes, declares, defines, calls, uses, CMention, CUnit}
 use Rattle.cx_core.specs.Typing.{CHome, IsMentionedIn, AreTypedPuts, AreConstantPuts}
 use Rattle.cx_core.specs.ValidTypes.{IsTypeIn, IsObjectForm, IsComplete, AreTypes}
 
@@ -155,9 +155,23 @@ abbrev does_by : Option CPuts → CDoes
 does_by None = declares
 does_by (Some puts) = defines
 
+abbrev is_declaring : CDoes → Bool
+is_declaring declares = true
+is_declaring defines = true
+is_declaring (calls trailing) = false
+is_declaring uses = false
+
+-- some declaration says whether the unit defines it, and some declaration its type in the end (6.2.7p4)
+pub record IsToldIn (mentions : List CMention) (name : List ℕ) (one : CObject) : Type 0 where
+  pub type_there : CTy
+  pub does_is : IsMentionedIn mentions name External type_there (does_by one.puts)
+  pub does_there : CDoes
+  pub type_is : IsMentionedIn mentions name External one.type does_there
+  pub declaring : is_declaring does_there ≡ true
+
 abbrev IsToldOf : List CMention → CObject → Option (List ℕ) → Type 0
 IsToldOf mentions one None = ⊥
-IsToldOf mentions one (Some name) = IsMentionedIn mentions name External one.type (does_by one.puts)
+IsToldOf mentions one (Some name) = IsToldIn mentions name one
 
 -- what has external linkage is mentioned where it is declared or defined
 pub record AreMentioned (one : CUnit) : Type 0 where

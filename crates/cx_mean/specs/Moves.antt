@@ -155,7 +155,7 @@ is_left_by_break (switch value body) = true
 is_left_by_break form = is_loop form
 
 -- `break`: the innermost loop or `switch` has nothing left
-abbrev breaking : Place → List CLevel → CBottom → Blocks → CStand
+abbrev pub breaking : Place → List CLevel → CBottom → Blocks → CStand
 breaking place [] bottom blocks = stand (goes_nowhere place) blocks
 breaking place (level ∷ outer) bottom blocks = elim (is_left_by_break level.form) as (λ _. CStand) [
   | true ↦ level_ended level outer bottom blocks
@@ -187,7 +187,7 @@ abbrev entered : CInside → CLevel → List CLevel → CBottom → CMove
 entered one level outer bottom = following one.way (site_at (with_rest one.rest level ∷ outer) bottom)
 
 -- `goto`: the innermost open statement that holds the label stays open, and those inside of it are left
-abbrev jumping : Place → List ℕ → List CLevel → CBottom → Blocks → CStand
+abbrev pub jumping : Place → List ℕ → List CLevel → CBottom → Blocks → CStand
 jumping place name [] bottom blocks = stand (goes_nowhere place) blocks
 jumping place name (level ∷ outer) bottom blocks = elim (way_in (named name) level.form) as (λ _. CStand) [
   | Some one ↦ stand (entered one level outer bottom) blocks

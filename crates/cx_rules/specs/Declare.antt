@@ -2,11 +2,11 @@
 use Rattle.std.specs.Prelude.{ℕ, ◌==◌, nat_le, Bool, true, false, not, ◌&&◌, ◌||◌, if◌then◌else◌, List, [], ◌∷◌, ◌++◌, map, length, Option, None, Some, is_some, is_none, bytes_eq, find}
 use Rattle.cx_core.specs.declared.program.Linkage.{Linkage}
 use Rattle.cx_core.specs.declared.program.Linkage.TheVariants.{External, Internal, Nothing}
-use Rattle.cx_core.specs.Trees.{CTy, ty, array, CTypes, CPuts, no_puts, CObject, COuter, CDoes, declares, defines, CMention, CUnit}
+use Rattle.cx_core.specs.Trees.{CTy, ty, CTyForm, array, form_of_type, CTypes, CPuts, no_puts, CObject, COuter, CDoes, declares, defines, CMention, CUnit}
 use Rattle.cx_lex.specs.declared.token.Keyword.TheVariants as keyword
 use Rattle.cx_rules.specs.declared.kinds.SpecsPlace.{SpecsPlace}
 use Rattle.cx_rules.specs.declared.kinds.SpecsPlace.TheVariants.{File, Definition, Block, ForClause, Parameter, Plain}
-use Rattle.cx_rules.specs.Scope.{CScope, CMeant, an_object, a_function, a_type_name, an_enumerator, a_tag, CDeclared, CMade, CThing, ordinary, innermost, with_declared, with_object_number, with_function_number, with_mention, mention_of}
+use Rattle.cx_rules.specs.Scope.{CScope, CMeant, an_object, a_function, a_type_name, an_enumerator, a_tag, CDeclared, CMade, CThing, ordinary, innermost, with_declared, with_object_number, with_function_number, with_mention, with_told_type, mention_of}
 use Rattle.cx_rules.specs.Shapes.{CSpecs, has_storage, CParam, CStep, to_function, last_step}
 use Rattle.cx_rules.specs.Types.{is_function, is_array, has_size, compatible, composite}
 use Rattle.cx_rules.specs.Pieces.{CTarget, whole_target}
@@ -184,6 +184,8 @@ pub record CBegun : Type 0 where
   -- an object that lives as long as the program
   pub is_static : Bool
   pub target : CTarget
+  -- which mention of the scope the declaration is, where it is one
+  pub mention : Option ℕ
 
 -- a tentative definition, a definition, or only a declaration of an object outside of functions (6.9.2)
 abbrev is_tentative : SpecsPlace → CSpecs → Bool → Bool
@@ -259,9 +261,17 @@ is_external Nothing = false
 abbrev is_told : CDeclaring → Bool
 is_told one = not (is_typedef one.specs) && (is_external one.linkage || (is_function one.type && is_linked one.linkage))
 
+-- the type that the unit gives to what is declared, from this declaration on (6.2.7p4)
+abbrev told_type : CDeclaring → Option CThing → CTy
+told_type one None = one.type
+told_type one (Some thing) = thing.type
+
 abbrev with_told : CDeclaring → CScope → CScope
 with_told one scope =
-    if is_told one then with_mention (mention_of scope one.name one.line one.type one.linkage (does_by (defines_object one))) scope else scope
+    if is_told one
+    then with_mention
+    (mention_of scope one.name one.line (told_type one (thing_named one.name scope.things)) one.linkage (does_by (defines_object one))) scope
+    else scope
 
 -- the scope once a declarator has ended (6.2.1p7)
 unfoldable pub with_declaration : CDeclaring → CScope → CScope
@@ -293,6 +303,7 @@ begun_as scope one written = record {
   object = if_object (not (is_typedef one.specs || is_function one.type)) (object_number scope one);
   is_static = lives_on one.linkage one.specs;
   target = whole_target (lives_on one.linkage one.specs) (target_type (may_be_initialised scope.types one.where_stands one.specs one.type) one.type);
+  mention = if is_told one then Some (length scope.mentions) else None;
 }
 
 -- what an initialiser stores in an object: at each time that its declaration is reached, or before the program begins
@@ -331,11 +342,17 @@ redeclare_first name type [] = []
 redeclare_first name type (one ∷ others) =
     if bytes_eq one.name name && is_object_meant one.meant then redeclared name type one ∷ others else one ∷ redeclare_first name type others
 
+-- the declaration says the type that its initialiser gives (6.7.8p22)
+abbrev completed_mention : Option ℕ → CTy → CScope → CScope
+completed_mention None type scope = scope
+completed_mention (Some index) type scope = with_told_type index type scope
+
 -- the scope once an initialiser has ended
 unfoldable pub with_content : CBegun → CTy → CPuts → CScope → CScope
 with_content begun type puts scope =
-    completed_thing begun.name type (if is_linked begun.linkage then thing_named begun.name scope.things else None)
-    (with_content_at begun type puts begun.object (record scope { declared = redeclare_first begun.name type scope.declared }))
+    completed_mention begun.mention type
+    (completed_thing begun.name type (if is_linked begun.linkage then thing_named begun.name scope.things else None)
+    (with_content_at begun type puts begun.object (record scope { declared = redeclare_first begun.name type scope.declared })))
 
 -- ---- definitions of functions (6.9.1)
 
@@ -437,18 +454,25 @@ outers_of (one ∷ others) =
     then record { function = one.number; name = one.name; linkage = one.linkage; type = one.type } ∷ outers_of others
     else outers_of others
 
-abbrev is_declaring : CDoes → Bool
-is_declaring declares = true
-is_declaring defines = true
-is_declaring _ = false
+abbrev is_defining : CDoes → Bool
+is_defining defines = true
+is_defining _ = false
 
--- what is declared, and what of it isn't the definition of a function, has one type in the end
+-- an array that no declaration of the unit gives a length
+abbrev has_no_length : CTyForm → Bool
+has_no_length (array element None) = true
+has_no_length _ = false
+
+-- a tentative definition of an array that no declaration of the unit gives a length defines one of one element
+abbrev ends_with_one_element : CThing → Bool
+ends_with_one_element one = is_some one.tentative && (not one.is_defined && has_no_length (form_of_type one.type))
+
 abbrev final_mention_by : CMention → Option CThing → CMention
 final_mention_by one None = one
-final_mention_by one (Some thing) = if thing.is_function && thing.is_defined then one else record one { type = final_type thing }
+final_mention_by one (Some thing) = if ends_with_one_element thing then record one { type = final_type thing } else one
 
 abbrev final_mention : List CThing → CMention → CMention
-final_mention things one = if is_declaring one.does then final_mention_by one (thing_named one.name things) else one
+final_mention things one = if is_defining one.does then final_mention_by one (thing_named one.name things) else one
 
 -- the typed unit
 unfoldable pub unit_of : CScope → CUnit

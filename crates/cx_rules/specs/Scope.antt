@@ -229,5 +229,13 @@ abbrev set_mention : ℕ → List CMention → Option CMention → List CMention
 set_mention index mentions None = mentions
 set_mention index mentions (Some one) = slice_set mentions index one
 
+abbrev with_type : CTy → Option CMention → Option CMention
+with_type type None = None
+with_type type (Some one) = Some (record one { type = type })
+
+-- a mention says a type that is known behind it
+abbrev pub with_told_type : ℕ → CTy → CScope → CScope
+with_told_type index type scope = record scope { mentions = set_mention index scope.mentions (with_type type (slice_get scope.mentions index)) }
+
 abbrev pub with_call : ℕ → List CTy → CScope → CScope
 with_call index types scope = record scope { mentions = set_mention index scope.mentions (with_trailing (slice_get scope.mentions index) types) }
