@@ -3,7 +3,7 @@ use Rattle.std.specs.Prelude.{ℕ, zero, suc, ◌+◌, ◌==◌, ◌&&◌, Bool,
 use Rattle.std.specs.List.{find}
 use Rattle.cx_core.specs.Linked.{is_external}
 use Rattle.cx_core.specs.Trees.{CTypes, no_types_yet, CObject, CFun, COuter, CProgram, CMention, CUnit}
-use Rattle.cx_link.specs.Numbers.{CCounts, no_counts, together, counts_of, CNumbers, record_there, object_there, function_there, outer_there, mention_there}
+use Rattle.cx_renumber.specs.Numbers.{CCounts, no_counts, together, counts_of, CNumbers, record_there, object_there, function_there, outer_there, mention_there}
 
 -- ---- the thing of an external name
 

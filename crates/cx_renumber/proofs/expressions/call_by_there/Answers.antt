@@ -1,0 +1,17 @@
+use Rattle.std.proofs.Common.{rules, ◌≡◌, sym, ap, subst, ◌∙◌, map, IfOk, option_map}
+use Rattle.cx_core.specs.Trees.{expr, call, call_by, literal}
+use Rattle.cx_core.specs.Views.{exprs_of, puts_of, view_expr, view_put, view_type}
+use Rattle.cx_renumber.specs.Numbers.{expr_there, exprs_there, put_there, puts_there, type_there}
+use Rattle.cx_renumber.specs.Views.{retyped, view_numbers}
+use Rattle.cx_renumber.proofs.Lists.{exprs_are}
+use Rattle.cx_renumber.proofs.Opened.{call_by_view}
+use Rattle.cx_renumber.proofs.expressions.call_by_there.Goals as goal
+
+pub returns : goal.returns
+returns c =
+    let same_args : map view_expr c.in_ok-args.args ≡ map (expr_there (view_numbers c.args.numbers.now)) (map view_expr c.args._args.now) = search rules in
+    let callee_is : view_expr c.in_ok-callee.callee ≡ expr_there (view_numbers c.args.numbers.now) (view_expr c.args._callee.now) = search rules in
+    let args_is : exprs_of (map view_expr c.in_ok-args.args) ≡ exprs_there (view_numbers c.args.numbers.now) (exprs_of (map view_expr c.args._args.now)) = ap exprs_of same_args ∙ sym (exprs_are (view_numbers c.args.numbers.now) (map view_expr c.args._args.now)) in
+    subst (λ part. IfOk c.made.result (λ made. view_expr made ≡ expr (type_there (view_numbers c.args.numbers.now) (view_type c.args.one.now.ty)) c.args.one.now.place (call_by (expr_there (view_numbers c.args.numbers.now) (view_expr c.args._callee.now)) (part)))) args_is
+    (subst (λ part. IfOk c.made.result (λ made. view_expr made ≡ expr (type_there (view_numbers c.args.numbers.now) (view_type c.args.one.now.ty)) c.args.one.now.place (call_by (part) (exprs_of (map view_expr c.in_ok-args.args))))) callee_is
+    (subst (λ tree. IfOk c.made.result (λ made. view_expr made ≡ retyped (type_there (view_numbers c.args.numbers.now) (view_type c.args.one.now.ty)) tree)) (call_by_view c.args.one.now.ty c.args.one.now.place c.in_ok-callee.callee c.in_ok-args.args) c.made.ensures))
