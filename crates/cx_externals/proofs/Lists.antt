@@ -8,7 +8,7 @@ use Rattle.cx_core.specs.Views.{view_type, types_of}
 use Rattle.cx_core.specs.declared.ty.Ty.{Ty}
 use Rattle.cx_externals.specs.LibraryTypes.{types_of_library}
 use Rattle.cx_externals.specs.declared.library.LibraryTy.{LibraryTy}
-use Rattle.cx_link.specs.Rules.{same_lists, takes_nothing}
+use Rattle.cx_externals.specs.Functions.{same_lists, takes_nothing}
 
 pub listed_again : (types : List CTy) → types_in (types_of types) ≡ types
 listed_again [] = refl

@@ -2,7 +2,7 @@
 use Rattle.std.specs.Prelude.{Bool, ◌||◌}
 use Rattle.cx_core.specs.Externals.{const_text}
 use Rattle.cx_core.specs.Trees.{CTy, CTypes, form_of_type}
-use Rattle.cx_link.specs.Rules.{is_void_form}
+use Rattle.cx_externals.specs.Functions.{is_void_form}
 use Rattle.cx_rules.specs.Types.{is_integer, same_form}
 
 abbrev pub is_opaque_result : CTypes → CTy → Bool

@@ -5,7 +5,7 @@ ghost use Rattle.cx_core.specs.Externals.{known_as, params_in};
 ghost use Rattle.cx_core.specs.Trees.{unqualified, ty, void, pointer};
 ghost use Rattle.cx_core.specs.Views.{view_type, view_params, view_function_type};
 ghost use Rattle.cx_externals.specs.LibraryTypes.{known_view, type_of, types_of_library};
-ghost use Rattle.cx_link.specs.Rules.{has_signature, same_lists};
+ghost use Rattle.cx_externals.specs.Functions.{has_signature, same_lists};
 ghost use Rattle.cx_rules.specs.Types.{same_type};
 
 use crate::basics::is_basic;

@@ -3,7 +3,7 @@
 ghost use Rattle.std.specs.Prelude.{◌≡◌};
 ghost use Rattle.cx_core.specs.Trees.{form_of_type};
 ghost use Rattle.cx_core.specs.Views.{view_type, view_params};
-ghost use Rattle.cx_link.specs.Rules.{is_main_form, takes_nothing};
+ghost use Rattle.cx_externals.specs.Functions.{is_main_form, takes_nothing};
 
 use crate::basics::is_basic;
 use cx_core::{Basic, Params, Ty, TyForm};

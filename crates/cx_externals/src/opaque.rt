@@ -7,7 +7,7 @@ ghost use Rattle.cx_core.specs.declared.ty.Basic.TheVariants.{Char};
 ghost use Rattle.cx_core.specs.Trees.{form_of_type, unqualified, ty, basic};
 ghost use Rattle.cx_core.specs.Views.{view_type, view_types, view_params, view_function_type};
 ghost use Rattle.cx_externals.specs.Opaque.{is_opaque_result, is_opaque_param};
-ghost use Rattle.cx_link.specs.Rules.{is_opaque, is_opaque_trailing};
+ghost use Rattle.cx_externals.specs.Functions.{is_opaque, is_opaque_trailing};
 ghost use Rattle.cx_rules.specs.Types.{is_integer, is_character_form, same_type};
 
 use crate::basics::is_basic;

@@ -1,2 +1,4 @@
+pub mod Chains
+pub mod Compatible
 pub mod Mains
 mod Worked

@@ -10,7 +10,8 @@ use Rattle.cx_core.specs.declared.program.Linkage.TheVariants.{External, Interna
 use Rattle.cx_core.specs.declared.ty.Basic.TheVariants.{Char, Int, Long, UnsignedLong}
 use Rattle.cx_core.specs.Trees.{CTy, ty, void, basic, pointer, record_type, function, listed, unlisted, CTys, no_types, more_types, CExpr, expr, object, load, no_puts, stmt, block, returns, no_stmts, more_stmts, CTypes, no_types_yet, CObject, CFun, COuter, CDoes, declares, defines, calls, uses, CMention, CUnit, CProgram}
 use Rattle.cx_link.specs.Program.{linked}
-use Rattle.cx_link.specs.Rules.{broken_links, compatible_in, first_in, is_external_type, rule_of}
+use Rattle.cx_externals.specs.Functions.{is_external_type}
+use Rattle.cx_link.specs.Rules.{broken_links, compatible_in, first_in, rule_of}
 
 -- ---- what the units are made of
 

@@ -127,12 +127,12 @@ types_with first second = record {
   enum_units = first.enum_units ++ second.enum_units;
 }
 
-abbrev pub own_types : CNumbers → CTypes → CTypes
-own_types numbers types = record types { records = map (option_map (record_there numbers)) types.records }
+abbrev pub own_types : CCounts → CTypes → CTypes
+own_types before types = record types { records = map (option_map (record_there before)) types.records }
 
 abbrev types_from : List CUnit → ℕ → List CUnit → CTypes
 types_from units unit [] = no_types_yet
-types_from units unit (one ∷ others) = types_with (own_types (numbers_of units one unit) one.types) (types_from units (suc unit) others)
+types_from units unit (one ∷ others) = types_with (own_types (counts_before unit units) one.types) (types_from units (suc unit) others)
 
 abbrev pub types_of_all : List CUnit → CTypes
 types_of_all units = types_from units 0 units
@@ -180,4 +180,4 @@ linked units = record {
 
 -- all mentions, unit by unit
 abbrev pub all_mentions : List CUnit → List CMention
-all_mentions units = from_each (λ one unit. map (mention_there (numbers_of units one unit)) one.mentions) 0 units
+all_mentions units = from_each (λ one unit. map (mention_there (counts_before unit units)) one.mentions) 0 units

@@ -42,7 +42,7 @@ pub record CNumbers : Type 0 where
   pub object_for : ℕ → ℕ
   pub function_for : ℕ → ℕ
 
-module _ (numbers : CNumbers) where
+module _ (before : CCounts) where
   -- ---- types
 
   abbrev mutual
@@ -52,10 +52,10 @@ module _ (numbers : CNumbers) where
     pub form_there : CTyForm → CTyForm
     form_there void = void
     form_there (basic which) = basic which
-    form_there (enum_type number) = enum_type (numbers.before.enums + number)
+    form_there (enum_type number) = enum_type (before.enums + number)
     form_there (pointer to) = pointer (type_there to)
     form_there (array element count) = array (type_there element) count
-    form_there (record_type number) = record_type (numbers.before.records + number)
+    form_there (record_type number) = record_type (before.records + number)
     form_there (function result params variadic) = function (type_there result) (params_there params) variadic
 
     pub params_there : CParams → CParams
@@ -70,13 +70,25 @@ module _ (numbers : CNumbers) where
   member_there one = record one { type = type_there one.type }
 
   abbrev pub record_there : CRecord → CRecord
-  record_there one = record one { number = numbers.before.records + one.number; members = map member_there one.members }
+  record_there one = record one { number = before.records + one.number; members = map member_there one.members }
 
+  -- ---- mentions
+
+  abbrev pub does_there : CDoes → CDoes
+  does_there declares = declares
+  does_there defines = defines
+  does_there (calls trailing) = calls (map type_there trailing)
+  does_there uses = uses
+
+  abbrev pub mention_there : CMention → CMention
+  mention_there one = record one { type = type_there one.type; does = does_there one.does }
+
+module _ (numbers : CNumbers) where
   -- ---- expressions
 
   abbrev mutual
     pub expr_there : CExpr → CExpr
-    expr_there (expr type place form) = expr (type_there type) place (value_there form)
+    expr_there (expr type place form) = expr (type_there numbers.before type) place (value_there form)
 
     pub value_there : CForm → CForm
     value_there (whole value) = whole value
@@ -94,7 +106,7 @@ module _ (numbers : CNumbers) where
     value_there (or left right) = or (expr_there left) (expr_there right)
     value_there (cond test first second) = cond (expr_there test) (expr_there first) (expr_there second)
     value_there (assign target value) = assign (expr_there target) (expr_there value)
-    value_there (assign_by op computes target value) = assign_by op (type_there computes) (expr_there target) (expr_there value)
+    value_there (assign_by op computes target value) = assign_by op (type_there numbers.before computes) (expr_there target) (expr_there value)
     value_there (step up post on) = step up post (expr_there on)
     value_there (call callee args) = call (numbers.function_for callee) (exprs_there args)
     value_there (call_by callee args) = call_by (expr_there callee) (exprs_there args)
@@ -106,7 +118,7 @@ module _ (numbers : CNumbers) where
     exprs_there (more_exprs first others) = more_exprs (expr_there first) (exprs_there others)
 
     pub put_there : CPut → CPut
-    put_there (put spot type value) = put spot (type_there type) (expr_there value)
+    put_there (put spot type value) = put spot (type_there numbers.before type) (expr_there value)
 
     pub puts_there : CPuts → CPuts
     puts_there no_puts = no_puts
@@ -144,31 +156,22 @@ module _ (numbers : CNumbers) where
     stmts_there no_stmts = no_stmts
     stmts_there (more_stmts first others) = more_stmts (stmt_there first) (stmts_there others)
 
-  -- ---- things and mentions
+  -- ---- things
 
   abbrev pub object_there : CObject → CObject
   object_there one = record one {
     object = numbers.object_for one.object;
-    type = type_there one.type;
+    type = type_there numbers.before one.type;
     puts = option_map puts_there one.puts;
   }
 
   abbrev pub function_there : CFun → CFun
   function_there one = record one {
     function = numbers.function_for one.function;
-    type = type_there one.type;
+    type = type_there numbers.before one.type;
     params = map numbers.object_for one.params;
     body = stmt_there one.body;
   }
 
   abbrev pub outer_there : COuter → COuter
-  outer_there one = record one { function = numbers.function_for one.function; type = type_there one.type }
-
-  abbrev pub does_there : CDoes → CDoes
-  does_there declares = declares
-  does_there defines = defines
-  does_there (calls trailing) = calls (map type_there trailing)
-  does_there uses = uses
-
-  abbrev pub mention_there : CMention → CMention
-  mention_there one = record one { type = type_there one.type; does = does_there one.does }
+  outer_there one = record one { function = numbers.function_for one.function; type = type_there numbers.before one.type }

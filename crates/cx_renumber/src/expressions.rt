@@ -182,10 +182,10 @@ fn made(
     one: &CoreExpr,
     form: Form,
 ) -> Result<Boxed<CoreExpr>, Memory>
-    ensures { IfOk result (λ made. view_expr made ≡ retyped (type_there (view_numbers numbers.now) (view_type one.now.ty))
+    ensures { IfOk result (λ made. view_expr made ≡ retyped (type_there (view_numbers numbers.now).before (view_type one.now.ty))
         (view_expr (record { ty = one.now.ty; place = one.now.place; form = form }))) }
 {
-    let there = type_there(alloc, numbers, &one.ty)?;
+    let there = type_there(alloc, numbers.before, &one.ty)?;
     Boxed::new(
         alloc,
         CoreExpr {
@@ -202,7 +202,7 @@ fn named(
     one: &CoreExpr,
     number: u32,
 ) -> Result<Boxed<CoreExpr>, Memory>
-    ensures { IfOk result (λ made. view_expr made ≡ expr (type_there (view_numbers numbers.now) (view_type one.now.ty)) one.now.place
+    ensures { IfOk result (λ made. view_expr made ≡ expr (type_there (view_numbers numbers.now).before (view_type one.now.ty)) one.now.place
         (object ((view_numbers numbers.now).object_for number))) }
 {
     let number = numbers.object_for(number)?;
@@ -215,7 +215,7 @@ fn pointed(
     one: &CoreExpr,
     number: u32,
 ) -> Result<Boxed<CoreExpr>, Memory>
-    ensures { IfOk result (λ made. view_expr made ≡ expr (type_there (view_numbers numbers.now) (view_type one.now.ty)) one.now.place
+    ensures { IfOk result (λ made. view_expr made ≡ expr (type_there (view_numbers numbers.now).before (view_type one.now.ty)) one.now.place
         (code ((view_numbers numbers.now).function_for number))) }
 {
     let number = numbers.function_for(number)?;
@@ -230,7 +230,7 @@ fn load_there(
     of: Result<Boxed<CoreExpr>, Memory>,
 ) -> Result<Boxed<CoreExpr>, Memory>
     requires of_there { IfOk of (λ there. view_expr there ≡ expr_there (view_numbers numbers.now) (view_expr _of.now)) }
-    ensures { IfOk result (λ made. view_expr made ≡ expr (type_there (view_numbers numbers.now) (view_type one.now.ty)) one.now.place
+    ensures { IfOk result (λ made. view_expr made ≡ expr (type_there (view_numbers numbers.now).before (view_type one.now.ty)) one.now.place
         (load (expr_there (view_numbers numbers.now) (view_expr _of.now)))) }
 {
     let of = of?;
@@ -245,7 +245,7 @@ fn deref_there(
     of: Result<Boxed<CoreExpr>, Memory>,
 ) -> Result<Boxed<CoreExpr>, Memory>
     requires of_there { IfOk of (λ there. view_expr there ≡ expr_there (view_numbers numbers.now) (view_expr _of.now)) }
-    ensures { IfOk result (λ made. view_expr made ≡ expr (type_there (view_numbers numbers.now) (view_type one.now.ty)) one.now.place
+    ensures { IfOk result (λ made. view_expr made ≡ expr (type_there (view_numbers numbers.now).before (view_type one.now.ty)) one.now.place
         (deref (expr_there (view_numbers numbers.now) (view_expr _of.now)))) }
 {
     let of = of?;
@@ -260,7 +260,7 @@ fn address_there(
     of: Result<Boxed<CoreExpr>, Memory>,
 ) -> Result<Boxed<CoreExpr>, Memory>
     requires of_there { IfOk of (λ there. view_expr there ≡ expr_there (view_numbers numbers.now) (view_expr _of.now)) }
-    ensures { IfOk result (λ made. view_expr made ≡ expr (type_there (view_numbers numbers.now) (view_type one.now.ty)) one.now.place
+    ensures { IfOk result (λ made. view_expr made ≡ expr (type_there (view_numbers numbers.now).before (view_type one.now.ty)) one.now.place
         (address (expr_there (view_numbers numbers.now) (view_expr _of.now)))) }
 {
     let of = of?;
@@ -275,7 +275,7 @@ fn convert_there(
     of: Result<Boxed<CoreExpr>, Memory>,
 ) -> Result<Boxed<CoreExpr>, Memory>
     requires of_there { IfOk of (λ there. view_expr there ≡ expr_there (view_numbers numbers.now) (view_expr _of.now)) }
-    ensures { IfOk result (λ made. view_expr made ≡ expr (type_there (view_numbers numbers.now) (view_type one.now.ty)) one.now.place
+    ensures { IfOk result (λ made. view_expr made ≡ expr (type_there (view_numbers numbers.now).before (view_type one.now.ty)) one.now.place
         (convert (expr_there (view_numbers numbers.now) (view_expr _of.now)))) }
 {
     let of = of?;
@@ -291,7 +291,7 @@ fn member_there(
     spot: Spot,
 ) -> Result<Boxed<CoreExpr>, Memory>
     requires of_there { IfOk of (λ there. view_expr there ≡ expr_there (view_numbers numbers.now) (view_expr _of.now)) }
-    ensures { IfOk result (λ made. view_expr made ≡ expr (type_there (view_numbers numbers.now) (view_type one.now.ty)) one.now.place
+    ensures { IfOk result (λ made. view_expr made ≡ expr (type_there (view_numbers numbers.now).before (view_type one.now.ty)) one.now.place
         (member (expr_there (view_numbers numbers.now) (view_expr _of.now)) spot)) }
 {
     let of = of?;
@@ -307,7 +307,7 @@ fn unary_there(
     of: Result<Boxed<CoreExpr>, Memory>,
 ) -> Result<Boxed<CoreExpr>, Memory>
     requires of_there { IfOk of (λ there. view_expr there ≡ expr_there (view_numbers numbers.now) (view_expr _of.now)) }
-    ensures { IfOk result (λ made. view_expr made ≡ expr (type_there (view_numbers numbers.now) (view_type one.now.ty)) one.now.place
+    ensures { IfOk result (λ made. view_expr made ≡ expr (type_there (view_numbers numbers.now).before (view_type one.now.ty)) one.now.place
         (unary op (expr_there (view_numbers numbers.now) (view_expr _of.now)))) }
 {
     let of = of?;
@@ -324,7 +324,7 @@ fn step_there(
     on: Result<Boxed<CoreExpr>, Memory>,
 ) -> Result<Boxed<CoreExpr>, Memory>
     requires on_there { IfOk on (λ there. view_expr there ≡ expr_there (view_numbers numbers.now) (view_expr _on.now)) }
-    ensures { IfOk result (λ made. view_expr made ≡ expr (type_there (view_numbers numbers.now) (view_type one.now.ty)) one.now.place
+    ensures { IfOk result (λ made. view_expr made ≡ expr (type_there (view_numbers numbers.now).before (view_type one.now.ty)) one.now.place
         (step up post (expr_there (view_numbers numbers.now) (view_expr _on.now)))) }
 {
     let on = on?;
@@ -343,7 +343,7 @@ fn binary_there(
 ) -> Result<Boxed<CoreExpr>, Memory>
     requires left_there { IfOk left (λ there. view_expr there ≡ expr_there (view_numbers numbers.now) (view_expr _left.now)) }
     requires right_there { IfOk right (λ there. view_expr there ≡ expr_there (view_numbers numbers.now) (view_expr _right.now)) }
-    ensures { IfOk result (λ made. view_expr made ≡ expr (type_there (view_numbers numbers.now) (view_type one.now.ty)) one.now.place
+    ensures { IfOk result (λ made. view_expr made ≡ expr (type_there (view_numbers numbers.now).before (view_type one.now.ty)) one.now.place
         (binary op (expr_there (view_numbers numbers.now) (view_expr _left.now)) (expr_there (view_numbers numbers.now) (view_expr _right.now)))) }
 {
     let left = left?;
@@ -362,7 +362,7 @@ fn and_there(
 ) -> Result<Boxed<CoreExpr>, Memory>
     requires left_there { IfOk left (λ there. view_expr there ≡ expr_there (view_numbers numbers.now) (view_expr _left.now)) }
     requires right_there { IfOk right (λ there. view_expr there ≡ expr_there (view_numbers numbers.now) (view_expr _right.now)) }
-    ensures { IfOk result (λ made. view_expr made ≡ expr (type_there (view_numbers numbers.now) (view_type one.now.ty)) one.now.place
+    ensures { IfOk result (λ made. view_expr made ≡ expr (type_there (view_numbers numbers.now).before (view_type one.now.ty)) one.now.place
         (and (expr_there (view_numbers numbers.now) (view_expr _left.now)) (expr_there (view_numbers numbers.now) (view_expr _right.now)))) }
 {
     let left = left?;
@@ -381,7 +381,7 @@ fn or_there(
 ) -> Result<Boxed<CoreExpr>, Memory>
     requires left_there { IfOk left (λ there. view_expr there ≡ expr_there (view_numbers numbers.now) (view_expr _left.now)) }
     requires right_there { IfOk right (λ there. view_expr there ≡ expr_there (view_numbers numbers.now) (view_expr _right.now)) }
-    ensures { IfOk result (λ made. view_expr made ≡ expr (type_there (view_numbers numbers.now) (view_type one.now.ty)) one.now.place
+    ensures { IfOk result (λ made. view_expr made ≡ expr (type_there (view_numbers numbers.now).before (view_type one.now.ty)) one.now.place
         (or (expr_there (view_numbers numbers.now) (view_expr _left.now)) (expr_there (view_numbers numbers.now) (view_expr _right.now)))) }
 {
     let left = left?;
@@ -400,7 +400,7 @@ fn comma_there(
 ) -> Result<Boxed<CoreExpr>, Memory>
     requires left_there { IfOk left (λ there. view_expr there ≡ expr_there (view_numbers numbers.now) (view_expr _left.now)) }
     requires right_there { IfOk right (λ there. view_expr there ≡ expr_there (view_numbers numbers.now) (view_expr _right.now)) }
-    ensures { IfOk result (λ made. view_expr made ≡ expr (type_there (view_numbers numbers.now) (view_type one.now.ty)) one.now.place
+    ensures { IfOk result (λ made. view_expr made ≡ expr (type_there (view_numbers numbers.now).before (view_type one.now.ty)) one.now.place
         (comma (expr_there (view_numbers numbers.now) (view_expr _left.now)) (expr_there (view_numbers numbers.now) (view_expr _right.now)))) }
 {
     let left = left?;
@@ -419,7 +419,7 @@ fn assign_there(
 ) -> Result<Boxed<CoreExpr>, Memory>
     requires target_there { IfOk target (λ there. view_expr there ≡ expr_there (view_numbers numbers.now) (view_expr _target.now)) }
     requires value_there { IfOk value (λ there. view_expr there ≡ expr_there (view_numbers numbers.now) (view_expr _value.now)) }
-    ensures { IfOk result (λ made. view_expr made ≡ expr (type_there (view_numbers numbers.now) (view_type one.now.ty)) one.now.place
+    ensures { IfOk result (λ made. view_expr made ≡ expr (type_there (view_numbers numbers.now).before (view_type one.now.ty)) one.now.place
         (assign (expr_there (view_numbers numbers.now) (view_expr _target.now)) (expr_there (view_numbers numbers.now) (view_expr _value.now)))) }
 {
     let target = target?;
@@ -441,7 +441,7 @@ fn cond_there(
     requires test_there { IfOk test (λ there. view_expr there ≡ expr_there (view_numbers numbers.now) (view_expr _test.now)) }
     requires first_there { IfOk first (λ there. view_expr there ≡ expr_there (view_numbers numbers.now) (view_expr _first.now)) }
     requires second_there { IfOk second (λ there. view_expr there ≡ expr_there (view_numbers numbers.now) (view_expr _second.now)) }
-    ensures { IfOk result (λ made. view_expr made ≡ expr (type_there (view_numbers numbers.now) (view_type one.now.ty)) one.now.place
+    ensures { IfOk result (λ made. view_expr made ≡ expr (type_there (view_numbers numbers.now).before (view_type one.now.ty)) one.now.place
         (cond (expr_there (view_numbers numbers.now) (view_expr _test.now)) (expr_there (view_numbers numbers.now) (view_expr _first.now)) (expr_there (view_numbers numbers.now) (view_expr _second.now)))) }
 {
     let test = test?;
@@ -463,12 +463,12 @@ fn assign_by_there(
 ) -> Result<Boxed<CoreExpr>, Memory>
     requires target_there { IfOk target (λ there. view_expr there ≡ expr_there (view_numbers numbers.now) (view_expr _target.now)) }
     requires value_there { IfOk value (λ there. view_expr there ≡ expr_there (view_numbers numbers.now) (view_expr _value.now)) }
-    ensures { IfOk result (λ made. view_expr made ≡ expr (type_there (view_numbers numbers.now) (view_type one.now.ty)) one.now.place
-        (assign_by op (type_there (view_numbers numbers.now) (view_type computes.now)) (expr_there (view_numbers numbers.now) (view_expr _target.now)) (expr_there (view_numbers numbers.now) (view_expr _value.now)))) }
+    ensures { IfOk result (λ made. view_expr made ≡ expr (type_there (view_numbers numbers.now).before (view_type one.now.ty)) one.now.place
+        (assign_by op (type_there (view_numbers numbers.now).before (view_type computes.now)) (expr_there (view_numbers numbers.now) (view_expr _target.now)) (expr_there (view_numbers numbers.now) (view_expr _value.now)))) }
 {
     let target = target?;
     let value = value?;
-    let computes = type_there(alloc, numbers, computes)?;
+    let computes = type_there(alloc, numbers.before, computes)?;
     made(
         alloc,
         numbers,
@@ -486,7 +486,7 @@ fn call_there(
     args: Result<Items<CoreExpr>, Memory>,
 ) -> Result<Boxed<CoreExpr>, Memory>
     requires args_there { IfOk args (λ there. map view_expr there ≡ map (expr_there (view_numbers numbers.now)) (map view_expr _args.now)) }
-    ensures { IfOk result (λ made. view_expr made ≡ expr (type_there (view_numbers numbers.now) (view_type one.now.ty)) one.now.place
+    ensures { IfOk result (λ made. view_expr made ≡ expr (type_there (view_numbers numbers.now).before (view_type one.now.ty)) one.now.place
         (call ((view_numbers numbers.now).function_for callee) (exprs_there (view_numbers numbers.now) (exprs_of (map view_expr _args.now))))) }
 {
     let args = args?;
@@ -505,7 +505,7 @@ fn call_by_there(
 ) -> Result<Boxed<CoreExpr>, Memory>
     requires callee_there { IfOk callee (λ there. view_expr there ≡ expr_there (view_numbers numbers.now) (view_expr _callee.now)) }
     requires args_there { IfOk args (λ there. map view_expr there ≡ map (expr_there (view_numbers numbers.now)) (map view_expr _args.now)) }
-    ensures { IfOk result (λ made. view_expr made ≡ expr (type_there (view_numbers numbers.now) (view_type one.now.ty)) one.now.place
+    ensures { IfOk result (λ made. view_expr made ≡ expr (type_there (view_numbers numbers.now).before (view_type one.now.ty)) one.now.place
         (call_by (expr_there (view_numbers numbers.now) (view_expr _callee.now)) (exprs_there (view_numbers numbers.now) (exprs_of (map view_expr _args.now))))) }
 {
     let callee = callee?;
@@ -522,7 +522,7 @@ fn literal_there(
     puts: Result<Items<Put>, Memory>,
 ) -> Result<Boxed<CoreExpr>, Memory>
     requires puts_there { IfOk puts (λ there. map view_put there ≡ map (put_there (view_numbers numbers.now)) (map view_put _puts.now)) }
-    ensures { IfOk result (λ made. view_expr made ≡ expr (type_there (view_numbers numbers.now) (view_type one.now.ty)) one.now.place
+    ensures { IfOk result (λ made. view_expr made ≡ expr (type_there (view_numbers numbers.now).before (view_type one.now.ty)) one.now.place
         (literal ((view_numbers numbers.now).object_for number) (puts_there (view_numbers numbers.now) (view_puts _puts.now)))) }
 {
     let puts = puts?;
@@ -549,7 +549,7 @@ fn exprs_there(
 fn put_there(alloc: Global, numbers: &Numbers, one: &Put) -> Result<Put, Memory>
     ensures { IfOk result (λ made. view_put made ≡ put_there (view_numbers numbers.now) (view_put one.now)) }
 {
-    let there = type_there(alloc, numbers, &one.ty)?;
+    let there = type_there(alloc, numbers.before, &one.ty)?;
     let value = expr_there(alloc, numbers, one.value.get())?;
     Ok(Put {
         spot: one.spot,

@@ -3,9 +3,9 @@
 ghost use Rattle.std.specs.Prelude.{◌≡◌, map, IfOk};
 ghost use Rattle.cx_core.specs.Views.{view_does, view_function, view_mention, view_object, view_outer};
 ghost use Rattle.cx_renumber.specs.Numbers.{does_there, function_there, mention_there, object_there, outer_there};
-ghost use Rattle.cx_renumber.specs.Views.{view_numbers};
+ghost use Rattle.cx_renumber.specs.Views.{view_counts, view_numbers};
 
-use crate::numbers::Numbers;
+use crate::numbers::{Counts, Numbers};
 use crate::statements::{option_puts_there, stmt_there};
 use crate::types::{name_copy, type_there, types_there};
 use cr_base::Memory;
@@ -22,7 +22,7 @@ pub fn object_there(
 {
     let object = numbers.object_for(one.object)?;
     let name = name_copy(&one.name)?;
-    let there = type_there(alloc, numbers, &one.ty)?;
+    let there = type_there(alloc, numbers.before, &one.ty)?;
     let puts = option_puts_there(alloc, numbers, &one.puts)?;
     Ok(CoreObject {
         object,
@@ -41,7 +41,7 @@ pub fn function_there(alloc: Global, numbers: &Numbers, one: &Fun) -> Result<Fun
 {
     let function = numbers.function_for(one.function)?;
     let name = one.name.copy()?;
-    let there = type_there(alloc, numbers, &one.ty)?;
+    let there = type_there(alloc, numbers.before, &one.ty)?;
     let params = numbers.objects_for(alloc, one.params.as_slice())?;
     let body = stmt_there(alloc, numbers, &one.body)?;
     Ok(Fun {
@@ -61,7 +61,7 @@ pub fn outer_there(alloc: Global, numbers: &Numbers, one: &Outer) -> Result<Oute
 {
     let function = numbers.function_for(one.function)?;
     let name = one.name.copy()?;
-    let there = type_there(alloc, numbers, &one.ty)?;
+    let there = type_there(alloc, numbers.before, &one.ty)?;
     Ok(Outer {
         function,
         name,
@@ -70,26 +70,26 @@ pub fn outer_there(alloc: Global, numbers: &Numbers, one: &Outer) -> Result<Oute
     })
 }
 
-fn does_there(alloc: Global, numbers: &Numbers, does: &Does) -> Result<Does, Memory>
-    ensures { IfOk result (λ made. view_does made ≡ does_there (view_numbers numbers.now) (view_does does.now)) }
+fn does_there(alloc: Global, before: Counts, does: &Does) -> Result<Does, Memory>
+    ensures { IfOk result (λ made. view_does made ≡ does_there (view_counts before) (view_does does.now)) }
 {
     match does {
         Does::Declares => Ok(Does::Declares),
         Does::Defines => Ok(Does::Defines),
         Does::Calls(trailing) => {
-            Ok(Does::Calls(types_there(alloc, numbers, trailing.as_slice())?))
+            Ok(Does::Calls(types_there(alloc, before, trailing.as_slice())?))
         }
         Does::Uses => Ok(Does::Uses),
     }
 }
 
 /// What the unit does with a thing that it names. Refused only for want of memory.
-pub fn mention_there(alloc: Global, numbers: &Numbers, one: &Mention) -> Result<Mention, Memory>
-    ensures { IfOk result (λ made. view_mention made ≡ mention_there (view_numbers numbers.now) (view_mention one.now)) }
+pub fn mention_there(alloc: Global, before: Counts, one: &Mention) -> Result<Mention, Memory>
+    ensures { IfOk result (λ made. view_mention made ≡ mention_there (view_counts before) (view_mention one.now)) }
 {
     let name = one.name.copy()?;
-    let there = type_there(alloc, numbers, &one.ty)?;
-    let does = does_there(alloc, numbers, &one.does)?;
+    let there = type_there(alloc, before, &one.ty)?;
+    let does = does_there(alloc, before, &one.does)?;
     Ok(Mention {
         name,
         place: one.place,

@@ -2,7 +2,7 @@ use Rattle.std.proofs.Common.{◌≡◌, map, drop}
 use Rattle.cx_core.specs.Trees.{unqualified}
 use Rattle.cx_core.specs.Views.{view_type}
 use Rattle.cx_externals.specs.LibraryTypes.{types_of_library}
-use Rattle.cx_link.specs.Rules.{same_lists}
+use Rattle.cx_externals.specs.Functions.{same_lists}
 use Rattle.cx_externals.proofs.library.are_library_types.Given as goal
 
 -- what is left answers for all

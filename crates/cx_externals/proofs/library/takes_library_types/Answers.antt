@@ -5,7 +5,7 @@ use Rattle.cx_core.specs.Views.{view_params, view_type}
 use Rattle.cx_externals.proofs.Opened.{params_view}
 use Rattle.cx_externals.proofs.Lists.{params_listed}
 use Rattle.cx_externals.specs.LibraryTypes.{types_of_library}
-use Rattle.cx_link.specs.Rules.{same_lists}
+use Rattle.cx_externals.specs.Functions.{same_lists}
 use Rattle.cx_externals.proofs.library.takes_library_types.Goals as goal
 
 pub returns-in-Listed : goal.returns-in-Listed

@@ -2,7 +2,7 @@ use Rattle.std.proofs.Common.{◌∙◌, ap, sym, length, nat_eq}
 use Rattle.cx_core.specs.Views.{view_params}
 use Rattle.cx_externals.proofs.Opened.{params_view}
 use Rattle.cx_externals.proofs.Lists.{nothing_listed}
-use Rattle.cx_link.specs.Rules.{takes_nothing}
+use Rattle.cx_externals.specs.Functions.{takes_nothing}
 use Rattle.cx_externals.proofs.main_type.takes_nothing.Goals as goal
 
 pub returns-in-Listed : goal.returns-in-Listed

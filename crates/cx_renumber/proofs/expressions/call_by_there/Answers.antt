@@ -12,6 +12,6 @@ returns c =
     let same_args : map view_expr c.in_ok-args.args ≡ map (expr_there (view_numbers c.args.numbers.now)) (map view_expr c.args._args.now) = search rules in
     let callee_is : view_expr c.in_ok-callee.callee ≡ expr_there (view_numbers c.args.numbers.now) (view_expr c.args._callee.now) = search rules in
     let args_is : exprs_of (map view_expr c.in_ok-args.args) ≡ exprs_there (view_numbers c.args.numbers.now) (exprs_of (map view_expr c.args._args.now)) = ap exprs_of same_args ∙ sym (exprs_are (view_numbers c.args.numbers.now) (map view_expr c.args._args.now)) in
-    subst (λ part. IfOk c.made.result (λ made. view_expr made ≡ expr (type_there (view_numbers c.args.numbers.now) (view_type c.args.one.now.ty)) c.args.one.now.place (call_by (expr_there (view_numbers c.args.numbers.now) (view_expr c.args._callee.now)) (part)))) args_is
-    (subst (λ part. IfOk c.made.result (λ made. view_expr made ≡ expr (type_there (view_numbers c.args.numbers.now) (view_type c.args.one.now.ty)) c.args.one.now.place (call_by (part) (exprs_of (map view_expr c.in_ok-args.args))))) callee_is
-    (subst (λ tree. IfOk c.made.result (λ made. view_expr made ≡ retyped (type_there (view_numbers c.args.numbers.now) (view_type c.args.one.now.ty)) tree)) (call_by_view c.args.one.now.ty c.args.one.now.place c.in_ok-callee.callee c.in_ok-args.args) c.made.ensures))
+    subst (λ part. IfOk c.made.result (λ made. view_expr made ≡ expr (type_there (view_numbers c.args.numbers.now).before (view_type c.args.one.now.ty)) c.args.one.now.place (call_by (expr_there (view_numbers c.args.numbers.now) (view_expr c.args._callee.now)) (part)))) args_is
+    (subst (λ part. IfOk c.made.result (λ made. view_expr made ≡ expr (type_there (view_numbers c.args.numbers.now).before (view_type c.args.one.now.ty)) c.args.one.now.place (call_by (part) (exprs_of (map view_expr c.in_ok-args.args))))) callee_is
+    (subst (λ tree. IfOk c.made.result (λ made. view_expr made ≡ retyped (type_there (view_numbers c.args.numbers.now).before (view_type c.args.one.now.ty)) tree)) (call_by_view c.args.one.now.ty c.args.one.now.place c.in_ok-callee.callee c.in_ok-args.args) c.made.ensures))
