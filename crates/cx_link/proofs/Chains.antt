@@ -172,7 +172,7 @@ pub chain_begins : {S : Type 0} (index : HashMap (Vec ℕ) ℕ S) (kind : CMenti
     → ((name : List ℕ) → indexed index name ≡ None) → IsChained index [] kind all 0
 chain_begins index kind all empty = record { last = empty; rest = refl }
 
-split_at : {A : Type 0} (xs : List A) (at : ℕ) (x : A) → slice_get xs at ≡ Some x → (take (suc at) xs ≡ take at xs ++ x ∷ []) × (drop at xs ≡ x ∷ drop (suc at) xs) × (length (take at xs) ≡ at)
+pub split_at : {A : Type 0} (xs : List A) (at : ℕ) (x : A) → slice_get xs at ≡ Some x → (take (suc at) xs ≡ take at xs ++ x ∷ []) × (drop at xs ≡ x ∷ drop (suc at) xs) × (length (take at xs) ≡ at)
 split_at [] at x is = cc
 split_at (y ∷ ys) zero x is = (ap (λ z. z ∷ []) (ap (λ o. unwrap_or o x) is), ap (λ z. z ∷ ys) (ap (λ o. unwrap_or o x) is), refl)
 split_at (y ∷ ys) (suc at) x is =

@@ -1,4 +1,5 @@
 pub mod Chains
 pub mod Laws
+pub mod Mains
 pub mod Program
 pub mod Rules

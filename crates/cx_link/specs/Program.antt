@@ -130,7 +130,7 @@ types_with first second = record {
 abbrev pub own_types : CCounts → CTypes → CTypes
 own_types before types = record types { records = map (option_map (record_there before)) types.records }
 
-abbrev types_from : List CUnit → ℕ → List CUnit → CTypes
+abbrev pub types_from : List CUnit → ℕ → List CUnit → CTypes
 types_from units unit [] = no_types_yet
 types_from units unit (one ∷ others) = types_with (own_types (counts_before unit units) one.types) (types_from units (suc unit) others)
 
@@ -179,5 +179,8 @@ linked units = record {
 }
 
 -- all mentions, unit by unit
+abbrev pub mentions_from : ℕ → List CUnit → List CUnit → List CMention
+mentions_from unit units others = from_each (λ one unit. map (mention_there (counts_before unit units)) one.mentions) unit others
+
 abbrev pub all_mentions : List CUnit → List CMention
-all_mentions units = from_each (λ one unit. map (mention_there (counts_before unit units)) one.mentions) 0 units
+all_mentions units = mentions_from 0 units units
