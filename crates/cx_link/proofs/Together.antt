@@ -39,9 +39,9 @@ counts_next (x ∷ xs) (suc n) one is =
 
 pub mentions_next : (front all : List CMention) (units : List CUnit) (n : ℕ) (one : CUnit) → slice_get units n ≡ Some one
     → front ++ mentions_from n units (drop n units) ≡ all
-    → (front ++ map (mention_there (counts_before n units)) one.mentions) ++ mentions_from (suc n) units (drop (suc n) units) ≡ all
+    → (front ++ map (mention_there (counts_before n units) n) one.mentions) ++ mentions_from (suc n) units (drop (suc n) units) ≡ all
 mentions_next front all units n one is before =
-    append_assoc front (map (mention_there (counts_before n units)) one.mentions) (mentions_from (suc n) units (drop (suc n) units))
+    append_assoc front (map (mention_there (counts_before n units) n) one.mentions) (mentions_from (suc n) units (drop (suc n) units))
     ∙ ap (λ others. front ++ mentions_from n units others) (sym (split_at units n one is).1) ∙ before
 
 types_assoc : (a b c : CTypes) → types_with (types_with a b) c ≡ types_with a (types_with b c)

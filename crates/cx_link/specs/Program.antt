@@ -180,7 +180,7 @@ linked units = record {
 
 -- all mentions, unit by unit
 abbrev pub mentions_from : ℕ → List CUnit → List CUnit → List CMention
-mentions_from unit units others = from_each (λ one unit. map (mention_there (counts_before unit units)) one.mentions) unit others
+mentions_from unit units others = from_each (λ one unit. map (mention_there (counts_before unit units) unit) one.mentions) unit others
 
 abbrev pub all_mentions : List CUnit → List CMention
 all_mentions units = mentions_from 0 units units

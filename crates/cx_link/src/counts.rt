@@ -10,7 +10,7 @@ use cx_core::{CoreObject, CoreUnit, Fun, Outer};
 use cx_renumber::Counts;
 
 // A number of 32 bits more than which there are none.
-fn narrow(count: usize) -> Result<u32, Memory>
+pub(crate) fn narrow(count: usize) -> Result<u32, Memory>
     ensures { IfOk result (λ made. made ≡ count) }
 {
     match u32::try_from(count) {

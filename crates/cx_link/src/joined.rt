@@ -6,7 +6,7 @@ ghost use Rattle.cx_link.specs.Program.{all_mentions, own_types, types_of_all, t
 ghost use Rattle.cx_renumber.specs.Numbers.{mention_there, record_there};
 ghost use Rattle.cx_renumber.specs.Views.{view_counts};
 
-use crate::counts::{counts_of, no_counts, together};
+use crate::counts::{counts_of, narrow, no_counts, together};
 use cr_base::{Items, Memory, Name};
 use cx_core::{CoreUnit, Mention, RecordTag, RecordTy, Types};
 use cx_renumber::{Counts, mention_there, record_there};
@@ -15,13 +15,14 @@ use std::alloc::Global;
 fn add_mentions(
     alloc: Global,
     before: Counts,
+    unit: u32,
     mentions: &[Mention],
     all: &mut Items<Mention>,
 ) -> Result<(), Memory>
-    ensures { OnOk result (map view_mention all.new ≡ map view_mention all.old ++ map (mention_there (view_counts before)) (map view_mention mentions.now)) }
+    ensures { OnOk result (map view_mention all.new ≡ map view_mention all.old ++ map (mention_there (view_counts before) unit) (map view_mention mentions.now)) }
 {
     for one in mentions {
-        all.push(mention_there(alloc, before, one)?)?;
+        all.push(mention_there(alloc, before, unit, one)?)?;
     }
     Ok(())
 }
@@ -32,8 +33,15 @@ pub(crate) fn all_mentions(alloc: Global, units: &[CoreUnit]) -> Result<Items<Me
 {
     let mut before = no_counts();
     let mut all = Items::new(alloc);
-    for one in units {
-        add_mentions(alloc, before, one.mentions.as_slice(), &mut all)?;
+    for number in 0..units.len() {
+        let one = &units[number];
+        add_mentions(
+            alloc,
+            before,
+            narrow(number)?,
+            one.mentions.as_slice(),
+            &mut all,
+        )?;
         before = together(before, counts_of(one)?)?;
     }
     Ok(all)

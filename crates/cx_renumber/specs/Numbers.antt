@@ -80,8 +80,13 @@ module _ (before : CCounts) where
   does_there (calls trailing) = calls (map type_there trailing)
   does_there uses = uses
 
-  abbrev pub mention_there : CMention → CMention
-  mention_there one = record one { type = type_there one.type; does = does_there one.does }
+  -- a mention stands in the unit with this number
+  abbrev pub mention_there : (unit : ℕ) → CMention → CMention
+  mention_there unit one = record one {
+    place = record { unit = unit; line = one.place.line };
+    type = type_there one.type;
+    does = does_there one.does;
+  }
 
 module _ (numbers : CNumbers) where
   -- ---- expressions

@@ -8,7 +8,7 @@ ghost use Rattle.cx_renumber.specs.Views.{view_counts, view_numbers};
 use crate::numbers::{Counts, Numbers};
 use crate::statements::{option_puts_there, stmt_there};
 use crate::types::{name_copy, type_there, types_there};
-use cr_base::Memory;
+use cr_base::{Memory, Place};
 use cx_core::{CoreObject, Does, Fun, Mention, Outer};
 use std::alloc::Global;
 
@@ -83,16 +83,24 @@ fn does_there(alloc: Global, before: Counts, does: &Does) -> Result<Does, Memory
     }
 }
 
-/// What the unit does with a thing that it names. Refused only for want of memory.
-pub fn mention_there(alloc: Global, before: Counts, one: &Mention) -> Result<Mention, Memory>
-    ensures { IfOk result (λ made. view_mention made ≡ mention_there (view_counts before) (view_mention one.now)) }
+/// What the unit with this number does with a thing that it names. Refused only for want of memory.
+pub fn mention_there(
+    alloc: Global,
+    before: Counts,
+    unit: u32,
+    one: &Mention,
+) -> Result<Mention, Memory>
+    ensures { IfOk result (λ made. view_mention made ≡ mention_there (view_counts before) unit (view_mention one.now)) }
 {
     let name = one.name.copy()?;
     let there = type_there(alloc, before, &one.ty)?;
     let does = does_there(alloc, before, &one.does)?;
     Ok(Mention {
         name,
-        place: one.place,
+        place: Place {
+            unit,
+            line: one.place.line,
+        },
         ty: there.into_inner(),
         linkage: one.linkage,
         does,
