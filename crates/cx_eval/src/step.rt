@@ -28,7 +28,7 @@ pub enum Next<'a> {
 /// # Errors
 ///
 /// `Memory` for want of memory. It stands, too, for a step that no typed program has, for a `pick` that isn't below the number of the
-/// ready nodes, and for a call through a pointer and a compound literal, whose steps aren't built yet.
+/// ready nodes, and for a call through a pointer, whose step isn't built yet.
 pub fn take_step<'a, S: Store, O: Objects>(
     alloc: Global,
     work: &mut Work<'a>,
