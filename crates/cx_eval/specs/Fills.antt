@@ -12,7 +12,7 @@ use Rattle.mem_bytes.specs.Memory.{Blocks}
 
 -- a tree is a compound literal that evaluates the value of this put
 abbrev pub IsFilling : Filling → CWork → Type 0
-IsFilling one (fills node marks put others value) = (view_put one.put.now ≡ put) × (view_puts one.others.now ≡ others)
+IsFilling one (fills node marks held others value) = (view_put one.put.now ≡ held) × (view_puts one.others.now ≡ others)
 IsFilling one (finished operand) = ⊥
 IsFilling one (needs node operands) = ⊥
 IsFilling one (chooses node first) = ⊥

@@ -12,4 +12,4 @@ mod step;
 mod walk;
 
 pub use operands::operand_of;
-pub use step::{Next, take_step};
+pub use step::{Next, take_step, take_step_in};

@@ -22,6 +22,13 @@ use cx_work::{Finished, Marks, Objects, Operand, Work};
 use mem_bytes::Store;
 use std::alloc::Global;
 
+/// A put whose value is evaluated, and the puts behind it.
+#[derive(Clone, Copy)]
+pub(crate) struct Filling<'a> {
+    put: &'a Put,
+    others: &'a [Put],
+}
+
 // The value of the next put is evaluated.
 fn put_fills<'a>(
     alloc: Global,
@@ -89,15 +96,8 @@ pub(crate) fn literal_step<'a, S: Store, O: Objects>(
     }
 }
 
-/// A put whose value is evaluated, and the puts behind it.
-#[derive(Clone, Copy)]
-pub(crate) struct Filling<'a> {
-    pub(crate) put: &'a Put,
-    pub(crate) others: &'a [Put],
-}
-
 // The put of a compound literal whose value is evaluated.
-fn filling<'a>(work: &Work<'a>) -> Option<Filling<'a>>
+fn current_put<'a>(work: &Work<'a>) -> Option<Filling<'a>>
     ensures { IfSome result (λ one. IsFilling one (view_work work.now)) }
 {
     match work {
@@ -117,7 +117,7 @@ fn literal_number(node: &CoreExpr) -> Option<u32>
 }
 
 // The value of a put is stored; there is a sequence point behind it.
-#[tactic(auto, using(crate::proofs::Outcomes::stops))]
+#[tactic(auto, using(crate::proofs::Filled::stored_stops, crate::proofs::Filled::stored_filled))]
 fn put_stored<'a, S: Store, O: Objects>(
     alloc: Global,
     store: &mut S,
@@ -143,7 +143,7 @@ fn put_stored<'a, S: Store, O: Objects>(
     } = operand;
     let put = filling.put;
     if let Err(trouble) = store_put(store, objects, setting, number, put, value, &mut own) {
-        return Err(halted(trouble, put.value.place));
+        return Err(halted(trouble, put.value.get().place));
     }
     let mut marks = marks;
     if marks.join(own).is_err() {
@@ -154,6 +154,7 @@ fn put_stored<'a, S: Store, O: Objects>(
 }
 
 /// The step of a compound literal once the value of a put is finished.
+#[tactic(auto, using(crate::proofs::Filled::fill_is))]
 pub(crate) fn fill_step<'a, S: Store, O: Objects>(
     alloc: Global,
     store: &mut S,
@@ -169,7 +170,7 @@ pub(crate) fn fill_step<'a, S: Store, O: Objects>(
     let Some(number) = literal_number(node) else {
         return Err(Halt::Memory);
     };
-    let Some(filling) = filling(work) else {
+    let Some(filling) = current_put(work) else {
         return Err(Halt::Memory);
     };
     match part_operand(alloc, node, work) {

@@ -278,7 +278,16 @@ pub(crate) fn needs_step<'a, S: Store, O: Objects>(
         Form::Step { .. } => step_step(alloc, store, objects, setting, work, node, operands),
         Form::Call(number, _) => call_step(alloc, setting, work, node, *number, operands),
         Form::Literal(number, puts) => {
-            literal_step(alloc, store, objects, setting, work, node, *number, puts.as_slice())
+            literal_step(
+                alloc,
+                store,
+                objects,
+                setting,
+                work,
+                node,
+                *number,
+                puts.as_slice(),
+            )
         }
         _ => Err(Halt::Memory),
     }
