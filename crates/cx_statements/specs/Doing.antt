@@ -1,5 +1,5 @@
 -- What an open statement does, by its form and the site around it.
-use Rattle.std.specs.Prelude.{ℕ, Option, Some, None, Result, Ok, Err, unwrap_or}
+use Rattle.std.specs.Prelude.{◌≡◌, ℕ, Option, Some, None, Result, Ok, Err, unwrap_or}
 use Rattle.cr_base.specs.declared.refusal.Place.{Place}
 use Rattle.cx_core.specs.Trees.{CExpr, CPuts, no_puts, CStmtForm, label, case, default, block, expression, if_then, switch, while, do_while, for_loop, goto, continue, break, returns, begin}
 use Rattle.cx_mean.specs.Initialisers.{CCleared, object_cleared}
@@ -22,6 +22,11 @@ returns_as place (Some value) level site = values value (gives_it place (with_le
 abbrev pub cleared_as : ℕ → Option CPuts → CSite → Result CCleared CWhy → Place → Blocks → CStand
 cleared_as number puts site (Ok one) place blocks = putting number (unwrap_or puts no_puts) (in_body site) one.blocks
 cleared_as number puts site (Err why) place blocks = stand (goes_nowhere place) blocks
+
+-- what is next behind it
+abbrev pub IsDeclared : Result CCleared CWhy → ℕ → Option CPuts → CSite → CStand → Type 0
+IsDeclared (Ok one) number puts site next = next ≡ putting number (unwrap_or puts no_puts) (in_body site) one.blocks
+IsDeclared (Err why) number puts site next = ⊥
 
 abbrev pub declares_as : CSetting → Place → ℕ → Option CPuts → CSite → Blocks → CStand
 declares_as setting place number puts site blocks = cleared_as number puts site (object_cleared setting (slots_in site.levels) number puts blocks) place blocks

@@ -4,11 +4,11 @@ ghost use Rattle.std.specs.Prelude.{◌≡◌, IfOk, option_map, unwrap_or};
 ghost use Rattle.cx_access.specs.Views.{view_setting};
 ghost use Rattle.cx_core.specs.Trees.{no_puts};
 ghost use Rattle.cx_core.specs.Views.{view_puts};
-ghost use Rattle.cx_mean.specs.Moves.{stand};
+ghost use Rattle.cx_mean.specs.Initialisers.{object_cleared};
+ghost use Rattle.cx_mean.specs.Moves.{slots_in, stand};
 ghost use Rattle.cx_mean.specs.Paths.{with_level};
 ghost use Rattle.cx_moves.specs.Sites.{view_level, view_move, view_site};
-ghost use Rattle.cx_statements.specs.Doing.{declares_as};
-ghost use Rattle.cr_base.specs.declared.refusal.Place.{Place};
+ghost use Rattle.cx_statements.specs.Doing.{IsDeclared};
 
 use cr_base::{Items, Memory};
 use cx_access::Setting;
@@ -47,7 +47,8 @@ fn cleared<'a, S: Store>(
     number: u32,
     puts: &'a Option<Items<Put>>,
 ) -> Result<Move<'a>, Memory>
-    ensures next { (place : Place) → IfOk result (λ move. stand (view_move site.new move) (S.memory store.new) ≡ declares_as (view_setting setting.now) place number (option_map view_puts puts.now) (view_site site.old) (S.memory store.old)) }
+    ensures next { IfOk result (λ move. IsDeclared (object_cleared (view_setting setting.now) (slots_in (view_site site.old).levels) number (option_map view_puts puts.now) (S.memory store.old)) number (option_map view_puts puts.now) (view_site site.old)
+        (stand (view_move site.new move) (S.memory store.new))) }
     ensures limit { S.limit store.new ≡ S.limit store.old }
 {
     let objects = Scope {
@@ -73,7 +74,8 @@ pub(crate) fn declared<'a, S: Store>(
     number: u32,
     puts: &'a Option<Items<Put>>,
 ) -> Result<Move<'a>, Memory>
-    ensures next { (place : Place) → IfOk result (λ move. stand (view_move site.new move) (S.memory store.new) ≡ declares_as (view_setting setting.now) place number (option_map view_puts puts.now) (with_level (view_level level.entry) (view_site site.old)) (S.memory store.old)) }
+    ensures next { IfOk result (λ move. IsDeclared (object_cleared (view_setting setting.now) (slots_in (with_level (view_level level.entry) (view_site site.old)).levels) number (option_map view_puts puts.now) (S.memory store.old)) number (option_map view_puts puts.now)
+        (with_level (view_level level.entry) (view_site site.old)) (stand (view_move site.new move) (S.memory store.new))) }
     ensures limit { S.limit store.new ≡ S.limit store.old }
 {
     open(site, level)?;

@@ -132,6 +132,7 @@ fn breaks<'a, S: Store>(
 /// # Errors
 ///
 /// `Memory` for want of memory.
+#[tactic(auto, using(crate::proofs::Does::declared_as))]
 pub(crate) fn does<'a, S: Store>(
     alloc: Global,
     store: &mut S,
