@@ -6,15 +6,14 @@ ghost use Rattle.cx_core.specs.Views.{view_stmt};
 ghost use Rattle.cx_machine.specs.Machines.{GoesTo, next_at, view_machine};
 ghost use Rattle.cx_machine.specs.Steps.{StoreAdvances};
 ghost use Rattle.cx_mean.specs.Moves as meaning;
-ghost use Rattle.cx_mean.specs.State.{move_step};
+ghost use Rattle.cx_mean.specs.State.{after_begin, move_step, no_place, object_begins, with_slot};
 ghost use Rattle.cx_moves.specs.Sites.{begins_in, view_goal, view_level, view_site};
-ghost use Rattle.cx_steps.specs.Slotted.{IsSlotted, slotted_next};
 
 use cr_base::Memory;
 use cx_access::Setting;
 use cx_core::CoreStmt;
 use cx_machine::{Machine, Stop, go};
-use cx_moves::{Goal, Level, Site, innermost};
+use cx_moves::{Goal, Level, innermost};
 use cx_outside::{Lack, begin};
 use cx_statements::{beginning, reached, shape_of};
 use cx_work::Slot;
@@ -42,33 +41,22 @@ pub(crate) fn reaches<'a, S: Store>(
     }
 }
 
-// The innermost open statement, which has one object more.
-fn with_slot<'a>(site: &mut Site<'a>, slot: Slot) -> Result<Level<'a>, Memory>
-    ensures level { IfOk result (λ level. IsSlotted (view_site site.old) slot (view_level level) (view_site site.new)) }
-    ensures way { site.new.way ≡ site.old.way }
-{
-    let Some(mut level) = innermost(site) else {
-        return Err(Memory);
-    };
-    match level.slots.push(slot) {
-        Ok(()) => Ok(level),
-        Err(memory) => Err(memory),
-    }
-}
-
-// The next object of an open statement begins, or the statement goes on.
-fn goes_on_beginning<'a, S: Store>(
+// An object of an open statement has begun: the next one begins, or the statement goes on.
+fn has_begun<'a, S: Store>(
     alloc: Global,
     machine: &mut Machine<'a>,
     store: &mut S,
     setting: &Setting<'a>,
     level: Level<'a>,
+    slot: Slot,
     others: &'a [u32],
     goal: Goal<'a>,
 ) -> Result<(), Memory>
-    ensures next { IfOk result (λ _. GoesTo machine.old machine.new (next_at (meaning.beginning (view_setting setting.now) others.now (view_goal machine.old.site.way goal.entry) (view_level level.entry) (view_site machine.old.site) (S.memory store.old))) (S.memory store.new)) }
+    ensures next { IfOk result (λ _. GoesTo machine.old machine.new (next_at (meaning.beginning (view_setting setting.now) others.now (view_goal machine.old.site.way goal.entry) (with_slot slot (view_level level.entry)) (view_site machine.old.site) (S.memory store.old))) (S.memory store.new)) }
     ensures limit { S.limit store.new ≡ S.limit store.old }
 {
+    let mut level = level;
+    level.slots.push(slot)?;
     match beginning(
         alloc,
         store,
@@ -83,26 +71,41 @@ fn goes_on_beginning<'a, S: Store>(
     }
 }
 
-// An object has begun, and what follows is next.
-fn has_begun<'a, S: Store>(
+// The life of an object of an open statement begins, all of its bits unset.
+fn begins_in<'a, S: Store>(
     alloc: Global,
     machine: &mut Machine<'a>,
     store: &mut S,
     setting: &Setting<'a>,
-    slot: Slot,
+    level: Level<'a>,
+    object: u32,
     others: &'a [u32],
     goal: Goal<'a>,
-) -> Result<(), Memory>
-    ensures next { IfOk result (λ _. GoesTo machine.old machine.new (next_at (slotted_next (view_setting setting.now) slot others.now (view_goal machine.old.site.way goal.entry) (view_site machine.old.site) (S.memory store.old))) (S.memory store.new)) }
+) -> Result<(), Stop<'a>>
+    ensures steps { StoreAdvances (λ world. after_begin (view_setting setting.now) (view_machine machine.old world)
+        (record { object = object; others = others.now; level = view_level level.entry; outer = view_site machine.old.site; goal = view_goal machine.old.site.way goal.entry })
+        (object_begins (view_setting setting.now) no_place object world)) result (view_machine machine.new)
+        (S.memory store.old) (S.memory store.new) (S.limit store.old) (S.limit store.new) }
     ensures limit { S.limit store.new ≡ S.limit store.old }
 {
-    match with_slot(&mut machine.site, slot) {
-        Ok(level) => goes_on_beginning(alloc, machine, store, setting, level, others, goal),
-        Err(memory) => Err(memory),
+    let Some(shape) = shape_of(setting, object) else {
+        return Err(Stop::Lacks(Lack::Memory));
+    };
+    let at = match begin(store, false, shape.laid.size, shape.laid.align) {
+        Ok(at) => at,
+        Err(lack) => return Err(Stop::Lacks(lack)),
+    };
+    let slot = Slot {
+        object,
+        block: at.block,
+    };
+    match has_begun(alloc, machine, store, setting, level, slot, others, goal) {
+        Ok(()) => Ok(()),
+        Err(_) => Err(Stop::Lacks(Lack::Memory)),
     }
 }
 
-/// The life of an object of the innermost open statement begins, all of its bits unset.
+/// The life of an object of the innermost open statement begins; there always is one then.
 ///
 /// # Errors
 ///
@@ -120,19 +123,8 @@ pub(crate) fn begins<'a, S: Store>(
         (S.memory store.old) (S.memory store.new) (S.limit store.old) (S.limit store.new) }
     ensures limit { S.limit store.new ≡ S.limit store.old }
 {
-    let Some(shape) = shape_of(setting, object) else {
-        return Err(Stop::Lacks(Lack::Memory));
-    };
-    let at = match begin(store, false, shape.laid.size, shape.laid.align) {
-        Ok(at) => at,
-        Err(lack) => return Err(Stop::Lacks(lack)),
-    };
-    let slot = Slot {
-        object,
-        block: at.block,
-    };
-    match has_begun(alloc, machine, store, setting, slot, others, goal) {
-        Ok(()) => Ok(()),
-        Err(_) => Err(Stop::Lacks(Lack::Memory)),
+    match innermost(&mut machine.site) {
+        Some(level) => begins_in(alloc, machine, store, setting, level, object, others, goal),
+        None => Err(Stop::Lacks(Lack::Memory)),
     }
 }
