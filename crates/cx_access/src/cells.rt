@@ -159,7 +159,7 @@ fn put_cells<S: Store>(store: &mut S, at: Ptr, cells: &[Cell]) -> Result<(), Mem
 }
 
 /// Stores the cells of a structure or union of an alignment.
-pub(crate) fn put_record<S: Store>(
+pub fn put_record<S: Store>(
     store: &mut S,
     at: Ptr,
     align: u64,

@@ -14,9 +14,11 @@ mod stores;
 mod trouble;
 mod values;
 
+pub use cells::put_record;
 pub use kinds::{Kind, extent_of, kind_of, scalar_of};
 pub use objects::{loaded, stored};
 pub use places::{object_at, place_of, place_value};
+pub use ranges::bits_of_bytes;
 pub use setting::Setting;
 pub use trouble::{Trouble, rule_of};
 pub use values::{field_value, is_field_place, number_in, scalar_value, value_of_kind};

@@ -18,7 +18,7 @@ fn range(block: u64, from: u64, count: u64) -> Option<Range>
 }
 
 /// The bits of so many bytes at a place; none where no `u64` counts them.
-pub(crate) fn bits_of_bytes(at: Ptr, count: u64) -> Option<Range>
+pub fn bits_of_bytes(at: Ptr, count: u64) -> Option<Range>
     ensures { IfSome result (λ one. one ≡ bits_of_bytes at count) }
 {
     let from = at.offset.checked_mul(BYTE)?;

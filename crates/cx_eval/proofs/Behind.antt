@@ -1,8 +1,6 @@
 -- A walk over operands goes on behind the first of them.
-use Rattle.std.proofs.Common.{◌≡◌, refl, sym, ◌∙◌, ap, subst, ℕ, zero, suc, add-one, ◌+◌, ◌-◌, ◌<◌, ◌≤◌, List, [], ◌∷◌, ◌++◌, map, length, take, drop, set, get_or, take_at, drop_at, length-take-le, rules, Option, Some, slice_get, Result, Ok, Err, arith}
-use Rattle.std.proofs.lemmas.List.{append_assoc, drop_more, map-set, set_split}
-use Rattle.std.proofs.lemmas.Option.{gets}
-use lib.Seq.{take-suc}
+use Rattle.std.proofs.Common.{◌≡◌, sym, ◌∙◌, ap, subst, ℕ, ◌+◌, ◌-◌, ◌<◌, ◌≤◌, List, [], ◌∷◌, ◌++◌, length, take, drop, drop_at, length-take-le, Result, Ok, Err, arith}
+use Rattle.std.proofs.lemmas.List.{append_assoc}
 use Rattle.cx_eval.specs.Added.{Adds}
 use Rattle.cx_eval.specs.declared.halt.Halt.{Halt}
 use Rattle.cx_eval.specs.declared.halt.Halt.TheVariants as halt
@@ -14,8 +12,7 @@ use Rattle.cx_mean.specs.Operands.{Frame}
 use Rattle.cx_mean.specs.Settings.{CSetting}
 use Rattle.cx_mean.specs.Steps.{CStepped, did, asks_call, inside, step_at, step_among}
 use Rattle.cx_mean.specs.Work.{CWork, CWorks, more_works, ready, ready_among}
-use Rattle.cx_work.specs.declared.work.Work.{Work}
-use Rattle.cx_work.specs.Views.{view_called, view_work, works_of}
+use Rattle.cx_work.specs.Views.{view_called, works_of}
 use Rattle.mem_bytes.specs.Memory.{Blocks}
 
 abbrev pub IsMove : Result Walked Halt → Type 0

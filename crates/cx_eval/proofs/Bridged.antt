@@ -1,5 +1,5 @@
 -- A walk over operands where they lie is one over what they stand for.
-use Rattle.std.proofs.Common.{◌≡◌, refl, sym, ◌∙◌, ap, subst, ℕ, zero, suc, add-one, ◌+◌, ◌-◌, ◌<◌, ◌≤◌, List, [], ◌∷◌, ◌++◌, map, length, take, drop, set, get_or, drop-set-lt, rules, Option, Some, slice_get, Result, Ok, Err, arith}
+use Rattle.std.proofs.Common.{◌≡◌, refl, sym, ◌∙◌, ap, subst, ℕ, zero, suc, add-one, ◌+◌, ◌-◌, ◌<◌, List, [], ◌∷◌, ◌++◌, map, length, take, drop, set, get_or, drop-set-lt, rules, Some, slice_get, Result, Ok, arith}
 use Rattle.std.proofs.lemmas.List.{drop_more, map-set, set_split, length-map}
 use Rattle.std.proofs.lemmas.Option.{gets}
 use lib.Seq.{take-suc}

@@ -1,5 +1,6 @@
 mod Behind
 mod Bridged
+mod Filled
 mod Lasts
 mod Moving
 mod Opened

@@ -1,5 +1,5 @@
 -- A node whose step stops.
-use Rattle.std.proofs.Common.{◌≡◌, refl, sym, subst, ap, Result, Ok, Err}
+use Rattle.std.proofs.Common.{◌≡◌, refl, subst, Result, Ok, Err}
 use Rattle.cr_base.specs.declared.refusal.Place.{Place}
 use Rattle.cx_access.specs.declared.trouble.Trouble.{Trouble}
 use Rattle.cx_access.specs.declared.trouble.Trouble.TheVariants.{Undefined, Memory}
@@ -8,10 +8,8 @@ use Rattle.cx_core.specs.Trees.{CExpr, expr, place_of, type_of}
 use Rattle.cx_eval.specs.declared.halt.Halt.{Halt}
 use Rattle.cx_eval.specs.declared.halt.Walked.{Walked}
 use Rattle.cx_eval.specs.Halts.{halted}
-use Rattle.cx_eval.specs.Nodes.{done_as, updates_as, calls_as}
 use Rattle.cx_eval.specs.Steps.{Steps}
-use Rattle.cx_mean.specs.Calls.{CCalling}
-use Rattle.cx_mean.specs.Nodes.{CDone, CUpdating, CChoice, chosen}
+use Rattle.cx_mean.specs.Nodes.{CChoice, chosen}
 use Rattle.cx_mean.specs.Operands.{CWhy, COperand}
 use Rattle.cx_mean.specs.Marks.{Marks, at_sequence_point}
 use Rattle.cx_mean.specs.Steps.{CDid, CStepped, at_node, outcome_of, after_choice, chooses_step}

@@ -1,5 +1,5 @@
 -- The step of a node that is ready itself is that of its tree.
-use Rattle.std.proofs.Common.{◌≡◌, refl, sym, ◌∙◌, ap, subst, ℕ, zero, ◌<◌, Bool, true, false, Some, Result, Ok, Err, arith}
+use Rattle.std.proofs.Common.{◌≡◌, refl, sym, subst, ℕ, ◌<◌, true, Some, Result, Ok, Err, arith}
 use Rattle.cx_core.specs.Trees.{CExpr}
 use Rattle.cx_eval.specs.declared.halt.Halt.{Halt}
 use Rattle.cx_eval.specs.declared.halt.Halt.TheVariants as halt

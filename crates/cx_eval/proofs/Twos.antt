@@ -1,16 +1,11 @@
 -- Nodes with two operands, of which the accesses are together.
-use Rattle.std.proofs.Common.{◌≡◌, refl, sym, subst, List, [], ◌∷◌, Result, Ok, Err}
+use Rattle.std.proofs.Common.{◌≡◌, refl, List, [], ◌∷◌, Ok}
 use Rattle.cx_core.specs.Trees.{CExpr, CForm, type_of}
-use Rattle.cx_eval.specs.declared.halt.Halt.{Halt}
-use Rattle.cx_eval.specs.declared.halt.Walked.{Walked}
-use Rattle.cx_eval.specs.Nodes.{done_as, updates_as}
-use Rattle.cx_eval.specs.Steps.{Steps}
-use Rattle.cx_mean.specs.Nodes.{CDone, CUpdating, binary_done, changes, node_done, node_updating, update_loaded}
-use Rattle.cx_mean.specs.Operands.{CWhy, COperand, Frame, united}
+use Rattle.cx_mean.specs.Nodes.{binary_done, changes, node_done, node_updating, update_loaded}
+use Rattle.cx_mean.specs.Operands.{COperand, Frame, united}
 use Rattle.cx_mean.specs.Settings.{CSetting}
-use Rattle.cx_mean.specs.Work.{CWork}
 use Rattle.cx_node_steps.specs.declared.whole.Both.{Both}
-use Rattle.cx_node_steps.specs.Dones.{left_of, right_of, Joins}
+use Rattle.cx_node_steps.specs.Dones.{left_of, right_of}
 use Rattle.mem_bytes.specs.Access.{and_then}
 use Rattle.mem_bytes.specs.Memory.{Blocks}
 

@@ -1,4 +1,5 @@
 pub mod Added
+pub mod Fills
 pub mod Halts
 pub mod Next
 pub mod Nodes

@@ -3,6 +3,7 @@
 
 mod choices;
 mod halt;
+mod literals;
 mod nodes;
 mod operands;
 mod parts;
@@ -10,4 +11,5 @@ mod stages;
 mod step;
 mod walk;
 
-pub use step::{Next, take_step};
+pub use operands::operand_of;
+pub use step::{Next, take_step, take_step_in};

@@ -20,6 +20,7 @@ ghost use Rattle.mem_bytes.specs.Memory.{Blocks};
 ghost use Rattle.cx_work.specs.Views.{view_finished, view_update, view_work, view_works};
 
 use crate::halt::{Halt, Walked, halted};
+use crate::literals::literal_step;
 use crate::operands::{all_operands, one_operand, two_operands};
 use crate::parts::operands_at;
 use cx_access::{Setting, Trouble};
@@ -276,6 +277,18 @@ pub(crate) fn needs_step<'a, S: Store, O: Objects>(
         }
         Form::Step { .. } => step_step(alloc, store, objects, setting, work, node, operands),
         Form::Call(number, _) => call_step(alloc, setting, work, node, *number, operands),
+        Form::Literal(number, puts) => {
+            literal_step(
+                alloc,
+                store,
+                objects,
+                setting,
+                work,
+                node,
+                *number,
+                puts.as_slice(),
+            )
+        }
         _ => Err(Halt::Memory),
     }
 }

@@ -32,7 +32,7 @@ fn behind<'a>(mut marks: Marks, operand: Option<Operand<'a>>) -> Option<Operand<
 /// The operand that a tree is; none only for want of memory, or where it isn't finished.
 #[cycle(operand)]
 #[tactic(auto, using(crate::proofs::Opened::carries_view))]
-pub(crate) fn operand_of(work: Work<'_>) -> Option<Operand<'_>>
+pub fn operand_of(work: Work<'_>) -> Option<Operand<'_>>
     ensures { IfSome result (λ one. view_work work.entry ≡ finished (view_operand one)) }
 {
     match work {

@@ -1,4 +1,5 @@
 ghost use Rattle.std.specs.Prelude.{◌≡◌};
+ghost use Rattle.cx_access.specs.Views.{view_setting};
 ghost use Rattle.cx_eval.specs.Next.{Takes, setting_by};
 ghost use Rattle.cx_work.specs.Views.{view_work};
 
@@ -23,12 +24,37 @@ pub enum Next<'a> {
     Undefined(URule, Place),
 }
 
-/// Takes one step of an expression, at the ready node with the number `pick`, from 0 on in post-order.
+/// Takes one step of an expression, at the ready node with the number `pick`, from 0 on in post-order, in a setting.
 ///
 /// # Errors
 ///
 /// `Memory` for want of memory. It stands, too, for a step that no typed program has, for a `pick` that isn't below the number of the
-/// ready nodes, and for a call through a pointer and a compound literal, whose steps aren't built yet.
+/// ready nodes, and for a call through a pointer, whose step isn't built yet.
+pub fn take_step_in<'a, S: Store, O: Objects>(
+    alloc: Global,
+    work: &mut Work<'a>,
+    pick: u64,
+    objects: &O,
+    setting: &Setting<'a>,
+    store: &mut S,
+) -> Result<Next<'a>, Memory>
+    ensures step { Takes result (view_setting setting.now) (O.frame objects.now) (S.memory store.old) (S.memory store.new) pick (view_work work.old) (view_work work.new) }
+    ensures limit { S.limit store.new ≡ S.limit store.old }
+{
+    match walk(alloc, store, objects, setting, work, pick) {
+        Ok(Walked::Stepped) => Ok(Next::Stepped),
+        Ok(Walked::Calls(called)) => Ok(Next::Calls(called)),
+        Ok(Walked::Passed(_)) => Err(Memory),
+        Err(Halt::Undefined(rule, place)) => Ok(Next::Undefined(rule, place)),
+        Err(Halt::Memory) => Err(Memory),
+    }
+}
+
+/// The same of a program with layouts.
+///
+/// # Errors
+///
+/// As `take_step_in`.
 pub fn take_step<'a, S: Store, O: Objects>(
     alloc: Global,
     work: &mut Work<'a>,
@@ -45,11 +71,5 @@ pub fn take_step<'a, S: Store, O: Objects>(
         program: program.parts(),
         layouts,
     };
-    match walk(alloc, store, objects, &setting, work, pick) {
-        Ok(Walked::Stepped) => Ok(Next::Stepped),
-        Ok(Walked::Calls(called)) => Ok(Next::Calls(called)),
-        Ok(Walked::Passed(_)) => Err(Memory),
-        Err(Halt::Undefined(rule, place)) => Ok(Next::Undefined(rule, place)),
-        Err(Halt::Memory) => Err(Memory),
-    }
+    take_step_in(alloc, work, pick, objects, &setting, store)
 }

@@ -9,6 +9,7 @@ ghost use Rattle.cx_work.specs.Views.{view_work};
 
 use crate::choices::{choose_step, test_step};
 use crate::halt::{Halt, Walked};
+use crate::literals::fill_step;
 use crate::nodes::needs_step;
 use crate::stages::stage_step;
 use cx_access::Setting;
@@ -61,7 +62,10 @@ fn node_step<'a, S: Store, O: Objects>(
             let node = *node;
             stage_step(alloc, store, objects, setting, work, node)
         }
-        Work::Fills(_, _, _, _, _) => Err(Halt::Memory),
+        Work::Fills(node, _, _, _, _) => {
+            let node = *node;
+            fill_step(alloc, store, objects, setting, work, node)
+        }
         Work::Finished(_) => Err(Halt::Memory),
         Work::Carries(_, _, _) => Err(Halt::Memory),
         Work::Waits(_, _) => Err(Halt::Memory),

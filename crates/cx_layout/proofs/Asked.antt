@@ -1,12 +1,11 @@
 -- Records that have no row, and bit-fields that fit.
-use Rattle.std.proofs.Common.{◌≡◌, ℕ, ◌≤◌, ◌<◌, Bool, true, false, nat_le, ◌&&◌, is_some, if◌then◌else◌, List, [], ◌∷◌, Option, None, Some, IsSome, IfSome, option_map, All, refl, sym, ap, ◌∙◌, arith}
+use Rattle.std.proofs.Common.{◌≡◌, ℕ, ◌<◌, Bool, true, false, nat_le, ◌&&◌, is_some, if◌then◌else◌, List, [], ◌∷◌, Option, None, Some, IfSome, option_map, refl, sym, ap, arith}
 use Rattle.std.proofs.lemmas.Bool.Decides.{nat_tests}
-use Rattle.std.specs.List.{list_all}
 use Rattle.std.specs.Option.{option_and_then}
 use Rattle.cr_base.specs.declared.layout.Laid.{Laid}
 use Rattle.cr_base.specs.declared.layout.Piece.{Piece}
-use Rattle.cr_base.specs.Layout.{most_bytes, laid_of, laid_record, spots_of}
-use Rattle.cx_core.specs.Layouts.{CLayouts, CRow, whole_extent, piece, piece_of, put_front, pieces_of, row_of_pieces, row_of}
+use Rattle.cr_base.specs.Layout.{most_bytes, laid_of, spots_of}
+use Rattle.cx_core.specs.Layouts.{CLayouts, CRow, whole_extent, piece, put_front, pieces_of, row_of_pieces, row_of}
 use Rattle.cx_core.specs.Trees.{CTyForm, void, basic, enum_type, pointer, array, record_type, function, form_of_type, CMember, CRecord}
 use Rattle.cx_layout.specs.Bits.{is_wide_enough, bits_fit, has_fitting_bits}
 use Rattle.cx_layout.specs.Building.{are_complete}

@@ -1,7 +1,7 @@
 -- All records of a program are laid out, one after the other.
 use Rattle.std.proofs.lemmas.Bool.{cases_eq, and_from}
 use Rattle.std.proofs.lemmas.Option.{slice_get_within}
-use Rattle.std.proofs.Common.{◌≡◌, ◌⊎◌, inl, inr, ℕ, zero, suc, ◌+◌, ◌<◌, ◌≤◌, true, false, List, [], ◌∷◌, length, get_or, map, Option, None, Some, is_some, IsSome, IfSome, option_map, slice_get, refl, sym, ap, ◌∙◌, arith, subst, if◌then◌else◌, All}
+use Rattle.std.proofs.Common.{◌≡◌, ◌⊎◌, inl, inr, ℕ, zero, suc, ◌+◌, ◌<◌, ◌≤◌, true, false, List, [], ◌∷◌, length, get_or, map, Option, None, Some, is_some, IsSome, IfSome, IfOk, Result, Ok, Err, option_map, slice_get, refl, sym, ap, ◌∙◌, arith, subst, if◌then◌else◌, All}
 use Rattle.std.proofs.lemmas.List.Elements.{All-head, All-tail}
 use Rattle.std.specs.Option.{option_and_then, option_flatten}
 use Rattle.cr_base.specs.declared.layout.Laid.{Laid}
@@ -12,6 +12,8 @@ use Rattle.cx_core.specs.Trees.{CTy, ty, void, basic, enum_type, pointer, array,
 use Rattle.cx_core.specs.Views.{view_record}
 use Rattle.cx_layout.specs.Building.{unlaid, unlaid_from, are_complete, AreBuilt, IsNoneReady, AddsNew}
 use Rattle.cx_layout.specs.Calls.{record_at, record_extent, IsTooLarge, HasTooLarge, HoldsOnly, AreGrounded, AreLayoutsOf, AreAllLaidOut}
+use Rattle.std.proofs.lemmas.List.{length-map}
+use Rattle.cx_layout.proofs.RowLemmas.{same_rows}
 use Rattle.cx_layout.proofs.Passes.{Extends, row_more, record_more, row_at-pass, passes_none, passes_more, passes_after}
 
 -- ---- the records of a list
@@ -226,3 +228,33 @@ module _ (types : CTypes) (layouts : CLayouts) (grounded : AreGrounded types) (n
 
   pub all_same : AreBuilt types layouts → AreLayoutsOf types layouts
   all_same built number = same_by built number (row_at layouts number) refl
+
+-- ---- as many rows as there are records
+
+passes_long : (n : ℕ) (types : CTypes) → length (passes n types) ≡ length types.records
+passes_long zero types = length-map types.records _
+passes_long (suc n) types = length-map types.records _
+
+pub fitted_is : (types : CTypes) (layouts fit : CLayouts) → AreLayoutsOf types layouts → length fit ≡ length types.records →
+    ((number : ℕ) → number < length types.records → row_at fit number ≡ row_at layouts number) → fit ≡ layouts_of types
+fitted_is types layouts fit are long same =
+    same_rows fit (layouts_of types)
+    (long ∙ sym (ap length (layouts_are types) ∙ passes_long (completed_count types.records) types))
+    (λ number within. same number (subst (λ (count : ℕ). number < count) long within) ∙ are number)
+
+-- the same of what is found
+pub fits_whole : {F : Type 0} (types : CTypes) (layouts : CLayouts) (result : Result CLayouts F) (count : ℕ) → AreLayoutsOf types layouts → count ≡ length types.records →
+    IfOk result (λ fit. length fit ≡ count) → IfOk result (λ fit. (number : ℕ) → number < count → row_at fit number ≡ row_at layouts number) → IfOk result (λ fit. fit ≡ layouts_of types)
+fits_whole types layouts (Ok fit) count are counted long same =
+    fitted_is types layouts fit are (long ∙ counted) (λ number within. same number (subst (λ (most : ℕ). number < most) (sym counted) within))
+fits_whole types layouts (Err fault) count are counted long same = tt
+
+pub whole_same : {F : Type 0} (types : CTypes) (result : Result CLayouts F) → IfOk result (λ fit. fit ≡ layouts_of types) → IfOk result (λ fit. AreLayoutsOf types fit)
+whole_same types (Ok fit) is = subst (λ (layouts : CLayouts). AreLayoutsOf types layouts) (sym is) (λ number. refl)
+whole_same types (Err fault) is = tt
+
+pub whole_all : {F : Type 0} (types : CTypes) (layouts : CLayouts) (result : Result CLayouts F) → AreLayoutsOf types layouts → AreAllLaidOut types layouts → IfOk result (λ fit. fit ≡ layouts_of types) →
+    IfOk result (λ fit. AreAllLaidOut types fit)
+whole_all types layouts (Ok fit) are all is =
+    subst (λ (one : CLayouts). AreAllLaidOut types one) (sym is) (λ number completed. subst (λ (row : Option CRow). IsSome row) (are number) (all number completed))
+whole_all types layouts (Err fault) are all is = tt

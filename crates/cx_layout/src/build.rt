@@ -1,4 +1,5 @@
-ghost use Rattle.std.specs.Prelude.{◌≡◌, ◌<◌, ◌||◌, true, false, map, All, IfOk, IfErr, OnOk, length};
+ghost use Rattle.std.specs.Prelude.{◌≡◌, ◌<◌, ◌||◌, ℕ, true, false, map, All, IfOk, IfErr, OnOk, length};
+ghost use Rattle.cx_core.specs.Layouts.{layouts_of, row_at};
 ghost use Rattle.cx_core.specs.Views.{view_types, view_record, view_member};
 ghost use Rattle.cx_layout.specs.Building.{AreBuilt, IsNoneReady, AddsNew, IsPassed, unlaid};
 ghost use Rattle.cx_layout.specs.Calls.{AreGrounded, AreLayoutsOf, AreAllLaidOut, HasTooLarge, IsMemberComplete, HasFittingBits, IsTooLarge};
@@ -12,6 +13,7 @@ impl Layouts {
     /// by value. Refused where one has more than 16,777,216 bytes, and for want of memory.
     pub fn build(alloc: Global, types: &Types) -> Result<Layouts, LayoutFault>
         requires { AreGrounded (view_types types.now) }
+        ensures whole { IfOk result (λ layouts. layouts ≡ layouts_of (view_types types.now)) }
         ensures layouts { IfOk result (λ layouts. AreLayoutsOf (view_types types.now) layouts) }
         ensures all { IfOk result (λ layouts. AreAllLaidOut (view_types types.now) layouts) }
         ensures too_large { IfErr result (λ fault. fault ≡ LayoutFault.TooLarge → HasTooLarge (view_types types.now)) }
@@ -20,10 +22,21 @@ impl Layouts {
         loop {
             match layouts.sweep(types) {
                 Ok(true) => {}
-                Ok(false) => return Ok(layouts),
+                Ok(false) => return layouts.fitted(types.records.len()),
                 Err(fault) => return Err(fault),
             }
         }
+    }
+
+    // The same as a table of so many records.
+    fn fitted(self, count: usize) -> Result<Layouts, LayoutFault>
+        ensures long { IfOk result (λ fit. length fit ≡ count) }
+        ensures same { IfOk result (λ fit. (number : ℕ) → number < count → row_at fit number ≡ row_at self number) }
+        ensures fault { IfErr result (λ fault. fault ≡ LayoutFault.Memory) }
+    {
+        let mut layouts = self;
+        layouts.fit(count)?;
+        Ok(layouts)
     }
 
     // Lays out the records whose members are complete by now, by their numbers, and tells whether there was one.

@@ -1,4 +1,4 @@
-ghost use Rattle.std.specs.Prelude.{◌≡◌, ◌≤◌, true, false, ◌<◌, [], ◌∷◌, map, length, All, IsSome, IfSome, IfOk, IfErr, IfNone, OnOk, OnErr, Some, None, is_some, slice_get, slice_set, option_map};
+ghost use Rattle.std.specs.Prelude.{◌≡◌, ◌≤◌, ℕ, true, false, ◌<◌, [], ◌∷◌, map, length, All, IsSome, IfSome, IfOk, IfErr, IfNone, OnOk, OnErr, Some, None, is_some, slice_get, slice_set, option_map};
 ghost use Rattle.std.specs.Option.{option_copied, option_flatten};
 ghost use Rattle.cr_base.specs.Layout.{IsPiece, most_bytes, laid_record};
 ghost use Rattle.cx_core.specs.Layouts.{extent, whole_extent, row_at, row_of, piece_of, pieces_of};
@@ -9,7 +9,7 @@ ghost use Rattle.cx_layout.specs.Extents.{told};
 ghost use Rattle.cx_layout.specs.Rows.{IsFine, IsFineExtent, IsLargePiece, HasLarge};
 
 use crate::extent::Extent;
-use crate::put::put;
+use crate::put::{fit, put};
 use crate::row::{Row, spots_of};
 use cr_base::{Items, Laid, Memory, Piece, Spot, laid_record};
 use cx_core::{Member, RecordTy, Ty, TyForm};
@@ -242,6 +242,14 @@ impl Layouts {
             Some(found) => found.as_ref(),
             None => None,
         }
+    }
+
+    // Makes the table one of so many records.
+    pub(crate) fn fit(&mut self, count: usize) -> Result<(), Memory>
+        ensures long { OnOk result (length self.new ≡ count) }
+        ensures same { OnOk result ((number : ℕ) → number < count → row_at self.new number ≡ row_at self.old number) }
+    {
+        fit(&mut self.rows, count)
     }
 
     // Whether the record with a number is laid out.

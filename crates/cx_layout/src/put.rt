@@ -1,4 +1,5 @@
-ghost use Rattle.std.specs.Prelude.{◌≡◌, ◌+◌, ◌<◌, Some, OnOk, OnErr, IfErr, length};
+ghost use Rattle.std.specs.Prelude.{◌≡◌, ◌+◌, ◌<◌, ℕ, Some, OnOk, OnErr, IfErr, length};
+ghost use Rattle.cx_core.specs.Layouts.{row_at};
 ghost use Rattle.cx_layout.specs.Calls.{HaveSameRows};
 ghost use Rattle.cx_layout.specs.Rows.{IsFine, AreFine, PutsRow};
 
@@ -25,6 +26,20 @@ fn reach(rows: &mut Vec<Option<Row>>, number: u32) -> Result<(), Memory>
     ensures reached { OnOk result (number < length rows.new.items) }
 {
     for _number in rows.len()..number as usize + 1 {
+        rows.push(None)?;
+    }
+    Ok(())
+}
+
+// Makes the table one of so many records: those that are missing aren't laid out.
+pub(crate) fn fit(rows: &mut Vec<Option<Row>>, count: usize) -> Result<(), Memory>
+    ensures long { OnOk result (length rows.new.items ≡ count) }
+    ensures same { OnOk result ((number : ℕ) → number < count → row_at rows.new.items number ≡ row_at rows.old.items number) }
+    ensures fine { AreFine rows.old.items → AreFine rows.new.items }
+{
+    rows.truncate(count);
+    let short = rows.len();
+    for _number in short..count {
         rows.push(None)?;
     }
     Ok(())

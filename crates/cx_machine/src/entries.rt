@@ -62,8 +62,8 @@ pub fn values_of(alloc: Global, args: Items<Operand<'_>>) -> Result<Items<Finish
     Ok(values)
 }
 
-// What stands in a function that was called: no statement is open, and no parameter has begun.
-fn site_of<'a>(alloc: Global, fun: &Fun) -> Site<'a>
+/// What stands in a function that was called: no statement is open, and no parameter has begun.
+pub fn site_of<'a>(alloc: Global, fun: &Fun) -> Site<'a>
     ensures site { view_site result ≡ site_at [] (bottom_of (view_function fun.now) []) }
     ensures params { result.params ≡ [] }
 {

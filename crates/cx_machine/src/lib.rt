@@ -11,7 +11,7 @@ mod stop;
 
 pub use calls::calls_external;
 pub use ending::returns;
-pub use entries::{calls_defined, is_main, takes_params, values_of};
+pub use entries::{calls_defined, is_main, site_of, takes_params, values_of};
 pub use machine::{Caller, Control, Machine, go};
 pub use statics::{begins_static, goes_to_statics};
 pub use steps::{end_site, goes_on, goes_on_behind, goes_on_putting, goes_on_turning};

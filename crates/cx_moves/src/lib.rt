@@ -17,5 +17,5 @@ pub use moves::{Behind, Goal, Left, Move, Purpose, Putting};
 pub use puts::{putting, static_puts};
 pub use scope::Scope;
 pub use sites::{Level, Site, innermost, kill, kill_objects, open};
-pub use turns::{ended, next_of, turn_ended, turning};
+pub use turns::{ended, entered, leaves, next_of, tested, turn_ended, turning, valued};
 pub use ways::{Inside, Opened, Rest, Target, way_in, way_to};

@@ -18,7 +18,7 @@ use cx_core::{CoreExpr, CoreStmt, StmtForm};
 use mem_bytes::Store;
 
 /// A full expression of an open statement is evaluated.
-pub(crate) fn valued<'a>(
+pub fn valued<'a>(
     value: &'a CoreExpr,
     purpose: Purpose<'a>,
     level: Level<'a>,
@@ -31,7 +31,7 @@ pub(crate) fn valued<'a>(
 }
 
 /// An open statement chooses by an expression.
-pub(crate) fn tested<'a>(
+pub fn tested<'a>(
     test: &'a CoreExpr,
     level: Level<'a>,
     outer: &mut Site<'a>,
@@ -42,7 +42,7 @@ pub(crate) fn tested<'a>(
 }
 
 /// A statement inside an open one is reached, of which this is then left.
-pub(crate) fn entered<'a>(
+pub fn entered<'a>(
     body: &'a CoreStmt,
     rest: Rest<'a>,
     level: Level<'a>,
@@ -56,7 +56,7 @@ pub(crate) fn entered<'a>(
 }
 
 /// The function returns without an expression.
-pub(crate) fn leaves<'a>(
+pub fn leaves<'a>(
     left: Left,
     level: Level<'a>,
     outer: &mut Site<'a>,

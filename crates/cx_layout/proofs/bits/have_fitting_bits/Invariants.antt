@@ -1,4 +1,4 @@
-use Rattle.std.proofs.Common.{◌≡◌, All, map, drop, true}
+use Rattle.std.proofs.Common.{◌≡◌, map, drop}
 use Rattle.std.specs.List.{list_all}
 use Rattle.cx_core.specs.Views.{view_member}
 use Rattle.cx_layout.specs.Bits.{has_fitting_bits}

@@ -1,0 +1,5 @@
+mod Advancing
+mod Alike
+mod Begun
+mod Evaluated
+mod Going
