@@ -5,7 +5,7 @@ use Rattle.cx_core.specs.Trees.{CTy}
 use Rattle.cx_init_steps.specs.Steps as init_steps
 use Rattle.cx_rules.specs.Initial.{CAt, CStored}
 use Rattle.cx_rules.specs.Walk as walk
-use Rattle.cx_check.specs.Walks as walks
+use Rattle.cx_walk.specs.Walks as walks
 use Rattle.cx_kept.specs.Prefix.{Prefix}
 use Rattle.cx_rules.specs.Lines.{own_line, expr_line}
 use Rattle.cx_rules.specs.Operands.{COperand}

@@ -1,7 +1,7 @@
 use Rattle.std.proofs.Common.{ap, sym, ◌∙◌, subst, map, option_map}
-use Rattle.cx_check.proofs.Forms.{call_is, entry_fine, sizeof_is}
-use Rattle.cx_check.proofs.Opened.{call_view, init_view, sizeof_view}
-use Rattle.cx_check.specs.Walks as walks
+use Rattle.cx_walk.proofs.Forms.{call_is, entry_fine, sizeof_is}
+use Rattle.cx_walk.proofs.Opened.{call_view, init_view, sizeof_view}
+use Rattle.cx_walk.specs.Walks as walks
 use Rattle.cx_context.specs.Checks.{Checks}
 use Rattle.cx_context.specs.Views.{scope_of}
 use Rattle.cx_init.specs.Views.{view_filling, view_target}
@@ -11,7 +11,7 @@ use Rattle.cx_rules.specs.Units.{check_expr}
 use Rattle.cx_expr_steps.specs.Steps as steps
 use Rattle.cx_tree.specs.Trees.{Call, SizeofExpr}
 use Rattle.cx_tree.specs.Views.{entry_view, expr_view, exprs as expr_trees, initialiser_view}
-use Rattle.cx_check.proofs.walk.+walk.Goals as goal
+use Rattle.cx_walk.proofs.walk.+walk.Goals as goal
 
 pub call_form-returns-in_ok-given-in-Call : goal.call_form-returns-in_ok-given-in-Call
 call_form-returns-in_ok-given-in-Call n c =

@@ -2,8 +2,8 @@
 #![tactic(auto, unfolding(cx_rules::specs::Readings::check_chain, cx_rules::specs::Readings::check_gives))]
 
 ghost use Rattle.std.specs.Prelude.{◌≡◌, false, map, option_map, IfOk};
-ghost use Rattle.cx_check.specs.Objects.{may_have_initialiser, declared_target};
-ghost use Rattle.cx_check.specs.Walks as walks;
+ghost use Rattle.cx_walk.specs.Objects.{may_have_initialiser, declared_target};
+ghost use Rattle.cx_walk.specs.Walks as walks;
 ghost use Rattle.cx_context.specs.Checks.{Checks};
 ghost use Rattle.cx_context.specs.Views.{scope_of};
 ghost use Rattle.cx_core.specs.Views.{view_type};
@@ -26,8 +26,8 @@ use cx_shapes::expr_line;
 use cx_tree::{Designator, Expr, Initialiser};
 use std::alloc::Global;
 
-// An initialiser for a whole object (ISO C99, 6.7.8p11 to p16).
-fn initialiser(
+/// An initialiser for a whole object (ISO C99, 6.7.8p11 to p16).
+pub fn initialiser(
     context: &mut Context,
     init: &Initialiser,
     target: &Target,
@@ -83,8 +83,8 @@ fn whole_target(context: &Context, is_static: bool, t: &Ty) -> Result<Target, Me
     Ok(Target { is_static, base })
 }
 
-/// What an initialiser gives the parts of an object of a type.
-pub(crate) fn stored_for(
+/// What an initialiser gives the parts of an object of a type (ISO C99, 6.7.8).
+pub fn stored_for(
     context: &mut Context,
     t: &Ty,
     init: &Initialiser,

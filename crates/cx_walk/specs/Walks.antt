@@ -2,10 +2,11 @@
 use Rattle.std.specs.Prelude.{ℕ, ℤ, Bool, true, false, not, List, [], Option}
 use Rattle.cx_core.specs.Trees.{CTy, CMember}
 use Rattle.cx_rules.specs.Initial.{CAt, CStored}
+use Rattle.cx_rules.specs.Lines.{declarator_line}
 use Rattle.cx_rules.specs.Operands.{COperand}
 use Rattle.cx_rules.specs.Pieces.{CFilling, CTarget, designated_from, object_of_type}
 use Rattle.cx_rules.specs.Readings.{Check, check_gives, check_chain, check_here, check_becomes, check_look}
-use Rattle.cx_rules.specs.Shapes.{CSpecs, CParam, CStep, CShape}
+use Rattle.cx_rules.specs.Shapes.{CSpecs, base_type, CParam, CStep, CShape}
 use Rattle.cx_rules.specs.Walk as walk
 use Rattle.cx_tree.specs.Trees.{ExprTrees, OptionExprTree, SpecTree, SpecTrees, MemberDeclTree, MemberDeclTrees, MemberDeclaratorTree, MemberDeclaratorTrees, EnumeratorTree, EnumeratorTrees, DeclaratorTree, BracketsTree, ParamTree, ParamTrees, InitialiserTree, InitialiserListTree, EntryTree, Entry, EntryTrees, DesignatorTree, DesignatorTrees, no_designators, more_designators}
 
@@ -41,6 +42,11 @@ enumerator_walk = walk.enumerator_walk Check check_gives check_chain check_here 
 
 abbrev pub declarator_walk : DeclaratorTree → Check CShape
 declarator_walk = walk.declarator_walk Check check_gives check_chain check_here check_becomes check_look
+
+-- the type to which a declarator leads from that of specifiers, which begin on a line
+abbrev pub type_behind : ℕ → CSpecs → DeclaratorTree → Check CTy
+type_behind line specs declarator = check_chain _ _ (declarator_walk declarator) (λ shape.
+    walk.derives_seen Check check_gives check_chain check_here check_becomes check_look (declarator_line line declarator) (base_type specs) shape)
 
 abbrev pub brackets_walk : ℕ → BracketsTree → Check CStep
 brackets_walk = walk.brackets_walk Check check_gives check_chain check_here check_becomes check_look

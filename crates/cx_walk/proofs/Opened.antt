@@ -1,6 +1,6 @@
 -- What two forms of expressions stand for, open one node deep.
 use Rattle.std.proofs.Common.{rules, ◌≡◌, ℕ, List, map}
-use Rattle.cx_check.specs.Walks.{initialiser_in}
+use Rattle.cx_walk.specs.Walks.{initialiser_in}
 use Rattle.cx_tree.specs.declared.declarator.Brackets.TheFolds.{fold_out-Entry, fold_out-Expr}
 use Rattle.cx_tree.specs.declared.declarator.Brackets.TheViews.{the_lemmas}
 use Rattle.cx_tree.specs.declared.initialiser.Entry.{Entry}

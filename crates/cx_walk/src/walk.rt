@@ -2,7 +2,7 @@
 #![tactic(auto, unfolding(cx_rules::specs::Readings::check_chain, cx_rules::specs::Readings::check_gives, cx_rules::specs::Readings::check_here, cx_rules::specs::Readings::check_becomes))]
 
 ghost use Rattle.std.specs.Prelude.{◌≡◌, ◌<ℤ◌, pos, false, [], map, IfOk, option_map};
-ghost use Rattle.cx_check.specs.Walks as walks;
+ghost use Rattle.cx_walk.specs.Walks as walks;
 ghost use Rattle.cx_context.specs.Checks.{Checks};
 ghost use Rattle.cx_context.specs.Views.{scope_of};
 ghost use Rattle.cx_core.specs.Views.{view_type, view_member};
@@ -12,12 +12,13 @@ ghost use Rattle.cx_rules.specs.Units.{check_expr, check_type_name};
 ghost use Rattle.cx_scope.specs.Views.{view_param};
 ghost use Rattle.cx_shapes.specs.Views.{view_specs, view_shape, view_step};
 ghost use Rattle.cx_tree.specs.Views.{expr_view, exprs as expr_trees, option_expr as option_expr_tree, type_name_view, spec_view, specs as spec_trees, member_decl_view, member_decls as member_decl_trees, member_declarator_view, member_declarators as member_declarator_trees, enumerator_view, enumerators as enumerator_trees, declarator_view, brackets_view, param_view as param_tree_view, params as param_trees, initialiser_view, initialiser_list_view, entry_view, entries as entry_trees, designator_view, designators as designator_trees};
-ghost use Rattle.cx_tree.specs.Trees.{Single};
+ghost use Rattle.cx_tree.specs.Trees.{Enum, Record, Single, some_enumerator_list, some_members};
 ghost use Rattle.cx_init.specs.Views.{view_filling, view_stored, view_target};
 ghost use Rattle.cx_parts.specs.Views.{view_at};
 
+use crate::declared::derived_from;
 use crate::initialisers::is_direct;
-use cr_base::{Boxed, Int, Items, Stop};
+use cr_base::{Boxed, Int, Items, Name, Stop};
 use cx_context::Context;
 use cx_core::{Member, Ty};
 use cx_expr_steps::{
@@ -51,7 +52,7 @@ use std::mem;
 
 /// An expression (ISO C99, 6.5).
 #[cycle(walk)]
-pub(crate) fn expr(context: &mut Context, e: &Expr) -> Result<Operand, Stop>
+pub fn expr(context: &mut Context, e: &Expr) -> Result<Operand, Stop>
     ensures { Checks view_operand result (scope_of context.new) (check_expr (expr_view e.now) (scope_of context.old)) }
 {
     match e {
@@ -60,13 +61,9 @@ pub(crate) fn expr(context: &mut Context, e: &Expr) -> Result<Operand, Stop>
         Expr::Letter { value, lines } => letter_seen(context, *value, own_line(lines)),
         Expr::Text { parts, lines } => text_seen(context, parts.as_slice(), own_line(lines)),
         Expr::Paren { inner, .. } => expr(context, inner.get()),
-        Expr::Dot { .. }
-        | Expr::Arrow { .. }
-        | Expr::PostUp { .. }
-        | Expr::PostDown { .. }
-        | Expr::PreUp { .. }
-        | Expr::PreDown { .. }
-        | Expr::Unary { .. } => one_form(context, e),
+        Expr::Dot { .. } | Expr::Arrow { .. } | Expr::Unary { .. } => one_form(context, e),
+        Expr::PostUp { .. } | Expr::PostDown { .. } | Expr::PreUp { .. } | Expr::PreDown { .. } =>
+            step_form(context, e),
         Expr::Index { .. } | Expr::Comma { .. } => two_form(context, e),
         Expr::Binary { .. } | Expr::Assign { .. } => operator_form(context, e),
         Expr::SizeofType { .. } | Expr::Cast { .. } => typed_form(context, e),
@@ -91,6 +88,21 @@ fn one_form(context: &mut Context, e: &Expr) -> Result<Operand, Stop>
             let one = expr(context, of.get())?;
             arrow_seen(context, expr_line(of.get()), one, member)
         }
+        Expr::Unary { op, on, lines } => {
+            let one = expr(context, on.get())?;
+            unary_seen(context, own_line(lines), *op, one)
+        }
+        // No other form comes here.
+        _ => Err(Stop::Memory),
+    }
+}
+
+// `++` or `--`.
+#[cycle(walk)]
+fn step_form(context: &mut Context, e: &Expr) -> Result<Operand, Stop>
+    ensures { Checks view_operand result (scope_of context.new) (check_expr (expr_view e.now) (scope_of context.old)) }
+{
+    match e {
         Expr::PostUp { of, .. } => {
             let one = expr(context, of.get())?;
             step_seen(context, expr_line(of.get()), true, true, one)
@@ -106,10 +118,6 @@ fn one_form(context: &mut Context, e: &Expr) -> Result<Operand, Stop>
         Expr::PreDown { on, lines } => {
             let one = expr(context, on.get())?;
             step_seen(context, own_line(lines), false, false, one)
-        }
-        Expr::Unary { op, on, lines } => {
-            let one = expr(context, on.get())?;
-            unary_seen(context, own_line(lines), *op, one)
         }
         // No other form comes here.
         _ => Err(Stop::Memory),
@@ -221,9 +229,9 @@ fn exprs(context: &mut Context, list: &[Expr]) -> Result<Items<Operand>, Stop>
     Ok(done)
 }
 
-// An expression that may be missing.
+/// An expression that may be missing.
 #[cycle(walk)]
-fn option_expr(context: &mut Context, e: &Option<Boxed<Expr>>) -> Result<Option<Operand>, Stop>
+pub fn option_expr(context: &mut Context, e: &Option<Boxed<Expr>>) -> Result<Option<Operand>, Stop>
     ensures { Checks (option_map view_operand) result (scope_of context.new) (walks.option_walk (option_expr_tree (option_map expr_view e.now)) (scope_of context.old)) }
 {
     match e {
@@ -276,25 +284,33 @@ fn typed_form(context: &mut Context, e: &Expr) -> Result<Operand, Stop>
 
 /// A type name (ISO C99, 6.7.6).
 #[cycle(walk)]
-pub(crate) fn type_name(context: &mut Context, name: &TypeName) -> Result<Boxed<Ty>, Stop>
+pub fn type_name(context: &mut Context, name: &TypeName) -> Result<Boxed<Ty>, Stop>
     ensures { Checks view_type result (scope_of context.new) (check_type_name (type_name_view name.now) (scope_of context.old)) }
 {
     let line = specs_line(name.specs.as_slice());
-    let all = specs(context, false, name.specs.as_slice())?;
+    let all = specifiers(context, false, name.specs.as_slice())?;
     specs_seen(context, SpecsPlace::Plain, line, &all)?;
-    let shape = declarator(context, name.declarator.get())?;
-    let from = all.base_type(context.alloc())?;
-    derives_seen(
-        context,
-        declarator_line(line, name.declarator.get()),
-        from,
-        &shape,
-    )
+    type_behind(context, name.declarator.get(), line, &all)
 }
 
-// Specifiers from the left.
+/// The type to which a declarator leads from that of specifiers, which begin on a line (ISO C99, 6.7.5).
 #[cycle(walk)]
-pub(crate) fn specs(context: &mut Context, alone: bool, list: &[Spec]) -> Result<Specs, Stop>
+pub(crate) fn type_behind(
+    context: &mut Context,
+    one: &Declarator,
+    line: u32,
+    specs: &Specs,
+) -> Result<Boxed<Ty>, Stop>
+    ensures { Checks view_type result (scope_of context.new) (walks.type_behind line (view_specs specs.now) (declarator_view one.now) (scope_of context.old)) }
+{
+    let shape = declarator(context, one)?;
+    let from = specs.base_type(context.alloc())?;
+    derives_seen(context, declarator_line(line, one), from, &shape)
+}
+
+/// Specifiers from the left (ISO C99, 6.7); `alone` where a structure or union without a list is all of its declaration (6.7.2.3p7).
+#[cycle(walk)]
+pub fn specifiers(context: &mut Context, alone: bool, list: &[Spec]) -> Result<Specs, Stop>
     ensures { Checks view_specs result (scope_of context.new) (walks.specs_walk alone no_specs_yet (spec_trees (map spec_view list.now)) (scope_of context.old)) }
 {
     let mut all = Specs::new(context.alloc());
@@ -322,11 +338,7 @@ fn spec(context: &mut Context, alone: bool, all: &mut Specs, one: &Spec) -> Resu
             lines,
         } => match members {
             None => record_use_seen(context, alone, all, *is_union, tag, own_line(lines)),
-            Some(list) => {
-                let begun = context.begin_record(*is_union, tag)?;
-                let list = member_decls(context, list.as_slice())?;
-                record_ended(context, begun, all, *is_union, tag, own_line(lines), list)
-            }
+            Some(list) => record_list(context, list.as_slice(), all, *is_union, tag, lines),
         },
         Spec::Enum {
             tag,
@@ -335,13 +347,42 @@ fn spec(context: &mut Context, alone: bool, all: &mut Specs, one: &Spec) -> Resu
             ..
         } => match list {
             None => enum_use_seen(context, all, tag, own_line(lines)),
-            Some(list) => {
-                let begun = context.begin_enum(tag)?;
-                let negative = enumerators(context, list.as_slice())?;
-                enum_ended(context, begun, all, tag, own_line(lines), negative)
-            }
+            Some(list) => enumerator_list(context, list.as_slice(), all, tag, lines),
         },
     }
+}
+
+// A structure or union with a list of members (6.7.2.1).
+#[cycle(walk)]
+fn record_list(
+    context: &mut Context,
+    list: &[MemberDecl],
+    all: &mut Specs,
+    is_union: bool,
+    tag: &Option<Name>,
+    lines: &Items<u32>,
+) -> Result<(), Stop>
+    ensures { Checks (λ _. view_specs all.new) result (scope_of context.new) (walks.spec_walk false (view_specs all.old) (Record is_union tag.now (some_members (member_decl_trees (map member_decl_view list.now))) lines.now) (scope_of context.old)) }
+{
+    let begun = context.begin_record(is_union, tag)?;
+    let members = member_decls(context, list)?;
+    record_ended(context, begun, all, is_union, tag, own_line(lines), members)
+}
+
+// An enumerated type with a list of enumerators (6.7.2.2).
+#[cycle(walk)]
+fn enumerator_list(
+    context: &mut Context,
+    list: &[Enumerator],
+    all: &mut Specs,
+    tag: &Option<Name>,
+    lines: &Items<u32>,
+) -> Result<(), Stop>
+    ensures { Checks (λ _. view_specs all.new) result (scope_of context.new) (walks.spec_walk false (view_specs all.old) (Enum tag.now (some_enumerator_list (enumerator_trees (map enumerator_view list.now))) false lines.now) (scope_of context.old)) }
+{
+    let begun = context.begin_enum(tag)?;
+    let negative = enumerators(context, list)?;
+    enum_ended(context, begun, all, tag, own_line(lines), negative)
 }
 
 // The declarations of a list of members.
@@ -367,7 +408,7 @@ fn member_decl(
 ) -> Result<(), Stop>
     ensures { Checks (λ _. map view_member members.new) result (scope_of context.new) (walks.member_decl_walk is_last (map view_member members.old) (member_decl_view one.now) (scope_of context.old)) }
 {
-    let all = specs(context, false, one.specs.as_slice())?;
+    let all = specifiers(context, false, one.specs.as_slice())?;
     specs_seen(
         context,
         SpecsPlace::Plain,
@@ -412,8 +453,7 @@ fn member_declarator(
 {
     let line = declarator_line(own_line(&one.lines), one.declarator.get());
     let shape = declarator(context, one.declarator.get())?;
-    let from = from.copy(context.alloc())?;
-    let own = derives_seen(context, line, from, &shape)?;
+    let own = derived_from(context, line, from, &shape)?;
     let width = option_expr(context, &one.width)?;
     member_seen(context, is_last, members, line, shape.name, own, width)
 }
@@ -445,17 +485,14 @@ fn enumerator(context: &mut Context, next: Int, one: &Enumerator) -> Result<Int,
 
 /// A declarator (ISO C99, 6.7.5).
 #[cycle(walk)]
-pub(crate) fn declarator(context: &mut Context, one: &Declarator) -> Result<Shape, Stop>
+pub fn declarator(context: &mut Context, one: &Declarator) -> Result<Shape, Stop>
     ensures { Checks view_shape result (scope_of context.new) (walks.declarator_walk (declarator_view one.now) (scope_of context.old)) }
 {
     match one {
         Declarator::Missing => Ok(Shape::missing(context.alloc())),
         Declarator::Identifier { name, .. } => Ok(Shape::named(context.alloc(), name)?),
         Declarator::Group { inner, .. } => declarator(context, inner.get()),
-        Declarator::Pointer { qualifiers, of, .. } => {
-            let shape = declarator(context, of.get())?;
-            Ok(shape.behind(pointer_step(qualifiers.as_slice()))?)
-        }
+        Declarator::Pointer { .. } => pointer_declarator(context, one),
         Declarator::Array { .. } => array_declarator(context, one),
         Declarator::Function { .. } => function_declarator(context, one),
         Declarator::Identifiers { of, names, lines } => {
@@ -463,6 +500,21 @@ pub(crate) fn declarator(context: &mut Context, one: &Declarator) -> Result<Shap
             let line = declarator_line(own_line(lines), of.get());
             identifiers_seen(context, line, names.as_slice(), shape)
         }
+    }
+}
+
+// A declarator of a pointer.
+#[cycle(walk)]
+fn pointer_declarator(context: &mut Context, one: &Declarator) -> Result<Shape, Stop>
+    ensures { Checks view_shape result (scope_of context.new) (walks.declarator_walk (declarator_view one.now) (scope_of context.old)) }
+{
+    match one {
+        Declarator::Pointer { qualifiers, of, .. } => {
+            let shape = declarator(context, of.get())?;
+            Ok(shape.behind(pointer_step(qualifiers.as_slice()))?)
+        }
+        // No other form comes here.
+        _ => Err(Stop::Memory),
     }
 }
 
@@ -556,7 +608,7 @@ fn param(context: &mut Context, is_only: bool, one: &ParamTree) -> Result<Option
     ensures { Checks (option_map view_param) result (scope_of context.new) (walks.param_walk is_only (param_tree_view one.now) (scope_of context.old)) }
 {
     let line = specs_line(one.specs.as_slice());
-    let all = specs(context, false, one.specs.as_slice())?;
+    let all = specifiers(context, false, one.specs.as_slice())?;
     specs_seen(context, SpecsPlace::Parameter, line, &all)?;
     let own = declarator_line(line, one.declarator.get());
     let shape = declarator(context, one.declarator.get())?;

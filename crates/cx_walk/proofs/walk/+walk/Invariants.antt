@@ -1,6 +1,6 @@
 use Rattle.std.proofs.Common.{◌≡◌, [], map, option_map, drop, pos, false}
-use Rattle.cx_check.specs.Loops.{behind}
-use Rattle.cx_check.specs.Walks as walks
+use Rattle.cx_walk.specs.Loops.{behind}
+use Rattle.cx_walk.specs.Walks as walks
 use Rattle.cx_context.specs.Views.{scope_of}
 use Rattle.cx_core.specs.Views.{view_type, view_member}
 use Rattle.cx_operands.specs.Views.{view_operand}
@@ -10,7 +10,7 @@ use Rattle.cx_shapes.specs.Views.{view_specs}
 use Rattle.cx_tree.specs.Views.{expr_view, exprs as expr_trees, spec_view, specs as spec_trees, member_decl_view, member_decls as member_decl_trees, member_declarator_view, member_declarators as member_declarator_trees, enumerator_view, enumerators as enumerator_trees, param_view as param_tree_view, params as param_trees, entry_view, entries as entry_trees, designator_view, designators as designator_trees}
 use Rattle.cx_init.specs.Views.{view_filling, view_target}
 use Rattle.cx_parts.specs.Views.{view_at}
-use Rattle.cx_check.proofs.walk.+walk.Given as goal
+use Rattle.cx_walk.proofs.walk.+walk.Given as goal
 
 -- the expressions that are left give the rest
 abbrev pub invariant-exprs-loop-one : goal.invariant-exprs-loop-one
@@ -18,8 +18,8 @@ invariant-exprs-loop-one l =
     behind (map view_operand l.done) (walks.exprs_walk (expr_trees (map expr_view (drop l.one-index l.list))) (scope_of l.context))
     ≡ walks.exprs_walk (expr_trees (map expr_view l.fn.list)) (scope_of l.fn.context)
 
-abbrev pub invariant-specs-loop-one : goal.invariant-specs-loop-one
-invariant-specs-loop-one l =
+abbrev pub invariant-specifiers-loop-one : goal.invariant-specifiers-loop-one
+invariant-specifiers-loop-one l =
     walks.specs_walk l.alone (view_specs l.all) (spec_trees (map spec_view (drop l.one-index l.list))) (scope_of l.context)
     ≡ walks.specs_walk l.alone no_specs_yet (spec_trees (map spec_view l.fn.list)) (scope_of l.fn.context)
 
