@@ -36,6 +36,6 @@ thing_done scope name type before made things there is set =
 
 pub stored_done : (scope : CScope) (number : Option ℕ) (n : ℕ) (is_static : Bool) (type : CTy) (puts : CPuts) (objects : List CObject) → number ≡ Some n
     → objects ≡ contents.stored_at (Some n) is_static type puts scope.objects
-    → record scope { objects = objects } ≡ contents.with_stored number is_static type puts scope
+    → record scope { objects = objects } ≡ contents.with_stored is_static type puts number scope
 stored_done scope number n is_static type puts objects e set =
-    ap (λ all. record scope { objects = all }) set ∙ ap (λ found. contents.with_stored found is_static type puts scope) (sym e)
+    ap (λ all. record scope { objects = all }) set ∙ ap (λ found. contents.with_stored is_static type puts found scope) (sym e)

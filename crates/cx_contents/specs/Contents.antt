@@ -64,9 +64,9 @@ abbrev pub stored_at : Option ℕ → Bool → CTy → CPuts → List CObject �
 stored_at None is_static type puts objects = objects
 stored_at (Some number) is_static type puts objects = map (λ one. if one.object == number then stored_in is_static type puts one else one) objects
 
-abbrev pub with_stored : Option ℕ → Bool → CTy → CPuts → CScope → CScope
-with_stored None is_static type puts scope = scope
-with_stored (Some number) is_static type puts scope = with_object_at number (stored_in is_static type puts) scope
+abbrev pub with_stored : Bool → CTy → CPuts → Option ℕ → CScope → CScope
+with_stored is_static type puts None scope = scope
+with_stored is_static type puts (Some number) scope = with_object_at number (stored_in is_static type puts) scope
 
 -- ---- what has linkage
 
@@ -98,7 +98,7 @@ abbrev pub with_content : CContent → CTy → CPuts → CScope → CScope
 with_content one type puts scope =
     completed_mention one.mention type
     (completed_thing one.name type (linked_thing one.linkage one.name scope.things)
-    (with_stored one.object one.is_static type puts (with_redeclared one.name type scope)))
+    (with_stored one.is_static type puts one.object (with_redeclared one.name type scope)))
 
 -- ---- heads of functions
 

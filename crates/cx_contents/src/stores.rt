@@ -62,7 +62,7 @@ pub(crate) fn store(
     ty: &Ty,
     puts: Items<Put>,
 ) -> Result<(), Memory>
-    ensures stored { OnOk result (view_scope scope.new ≡ contents.with_stored number is_static (view_type ty.now) (view_puts puts) (view_scope scope.old)) }
+    ensures stored { OnOk result (view_scope scope.new ≡ contents.with_stored is_static (view_type ty.now) (view_puts puts) number (view_scope scope.old)) }
     ensures types { (view_scope scope.new).types ≡ (view_scope scope.old).types }
 {
     let Some(number) = number else {

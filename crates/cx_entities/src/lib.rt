@@ -13,6 +13,6 @@ pub use declaring::{
     Declaring, add_meant, declare, declare_function, function_number, is_told, joined_type,
     object_number, told_mention,
 };
-pub use linkage::{is_external, is_linked, is_typedef, linkage_of, lives_on};
+pub use linkage::{is_external, is_linked, is_outside, is_typedef, linkage_of, lives_on};
 pub use objects::object_at;
 pub use things::{thing_at, thing_named};

@@ -61,8 +61,8 @@ pub fn is_typedef(specs: &Specs) -> bool
     specs.has_storage(Keyword::Typedef)
 }
 
-// Whether a declaration stands outside of functions.
-pub(crate) fn is_outside(place: SpecsPlace) -> bool
+/// Whether a declaration stands outside of functions (ISO C99, 6.9p1).
+pub fn is_outside(place: SpecsPlace) -> bool
     ensures { result ≡ declare.is_outside place }
 {
     match place {
