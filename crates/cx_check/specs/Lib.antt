@@ -1,4 +1,1 @@
-pub mod Loops
-pub mod Objects
 pub mod Tells
-pub mod Walks

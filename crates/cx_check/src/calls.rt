@@ -1,25 +1,20 @@
 //! The calls of the checks: an expression, an integer constant expression, the type of a declarator, and an initialiser. Each takes a scope and the
 //! layouts of its types, and adds what the tree declares. Of both nothing is said after a refusal, but that they belong together.
 
-ghost use Rattle.std.specs.Prelude.{◌≡◌, [], map};
-ghost use Rattle.cx_check.specs.Objects.{declared_target};
+ghost use Rattle.std.specs.Prelude.{◌≡◌, map};
+ghost use Rattle.cx_walk.specs.Objects.{declared_target};
 ghost use Rattle.cx_check.specs.Tells.{Tells, TellsConstant, seen_type};
-ghost use Rattle.cx_context.specs.Checks.{Checks};
 ghost use Rattle.cx_context.specs.Laid.{IsLaid};
-ghost use Rattle.cx_context.specs.Views.{scope_of};
 ghost use Rattle.cx_core.specs.Views.{view_expr, view_type};
 ghost use Rattle.cx_init.specs.Views.{view_filled, view_stored};
 ghost use Rattle.cx_operands.specs.Views.{view_operand};
 ghost use Rattle.cx_rules.specs.Lines.{expr_line};
 ghost use Rattle.cx_rules.specs.Operands.{value_of};
 ghost use Rattle.cx_rules.specs.Pieces.{filled_object};
-ghost use Rattle.cx_rules.specs.Units.{check_type_name, seen_expr, seen_initialiser};
+ghost use Rattle.cx_rules.specs.Units.{seen_expr, seen_initialiser};
 ghost use Rattle.cx_scope.specs.Views.{view_scope};
-ghost use Rattle.cx_tree.specs.Trees.{TypeName};
 ghost use Rattle.cx_tree.specs.Views.{expr_view, declarator_view, initialiser_view, spec_view, specs as spec_trees};
 
-use crate::initialisers::stored_for;
-use crate::walk::{declarator, expr, specs};
 use cr_base::{Boxed, Int, Items, Refusal, Rule, Stop};
 use cx_context::Context;
 use cx_core::{CoreExpr, Ty};
@@ -27,12 +22,12 @@ use cx_init::{Filled, Stored, filled_object};
 use cx_kinds::Known;
 use cx_layout::Layouts;
 use cx_operands::{Operand, operand_constant};
-use cx_rules::{SpecsPlace, expressions_stop, initialisers_stop, type_names_stop};
+use cx_rules::{expressions_stop, initialisers_stop, type_names_stop};
 use cx_scope::Scope;
-use cx_shapes::{declarator_line, expr_line, specs_line};
+use cx_shapes::expr_line;
 use cx_tree::{Declarator, Expr, Initialiser, Spec};
-use cx_type_steps::{derives_seen, specs_seen};
 use cx_values::value_of;
+use cx_walk::{expr, stored_for, type_in};
 use std::alloc::Global;
 
 /// The value of an expression (ISO C99, 6.5), with every conversion a node: what an lvalue holds, the address of an array's first element
@@ -166,16 +161,4 @@ fn stored_walked(
     context.put_back(scope, layouts);
     initialisers_stop();
     found
-}
-
-#[tactic(auto, unfolding(cx_rules::specs::Readings::check_chain))]
-fn type_in(context: &mut Context, list: &[Spec], one: &Declarator) -> Result<Boxed<Ty>, Stop>
-    ensures { Checks view_type result (scope_of context.new) (check_type_name (TypeName (spec_trees (map spec_view list.now)) (declarator_view one.now) []) (scope_of context.old)) }
-{
-    let line = specs_line(list);
-    let all = specs(context, false, list)?;
-    specs_seen(context, SpecsPlace::Plain, line, &all)?;
-    let shape = declarator(context, one)?;
-    let from = all.base_type(context.alloc())?;
-    derives_seen(context, declarator_line(line, one), from, &shape)
 }

@@ -2,7 +2,5 @@
 #![tactic(auto)]
 
 mod calls;
-mod initialisers;
-mod walk;
 
 pub use calls::{check_expr, constant, init, read_type};

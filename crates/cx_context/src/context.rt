@@ -8,8 +8,8 @@ use std::alloc::Global;
 /// The scope at a place of a unit (ISO C99, 6.2.1), with the layouts of the types so far.
 #[derive(Drop)]
 pub struct Context {
-    pub(crate) alloc: Global,
-    pub(crate) scope: Scope,
-    pub(crate) layouts: Layouts,
+    pub alloc: Global,
+    pub scope: Scope,
+    pub layouts: Layouts,
     ghost laid: { IsLaid (view_scope scope).types layouts },
 }

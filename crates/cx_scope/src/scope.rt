@@ -20,21 +20,31 @@ use std::alloc::Global;
 /// so far, and what the unit did with names that have linkage. A declaration hides older ones of its name.
 #[derive(Drop)]
 pub struct Scope {
-    pub(crate) alloc: Global,
-    pub(crate) unit: u32,
-    // The oldest first.
-    pub(crate) declared: Items<Declared>,
-    pub(crate) begins: u64,
-    pub(crate) in_function: bool,
-    pub(crate) types: Types,
-    pub(crate) next_object: u32,
-    pub(crate) next_function: u32,
-    pub(crate) literals: Items<Made>,
-    pub(crate) mentions: Vec<Mention>,
-    pub(crate) objects: Items<CoreObject>,
-    pub(crate) functions: Items<Fun>,
-    pub(crate) things: Items<Thing>,
-    pub(crate) body: Labels,
+    pub alloc: Global,
+    /// The number of the unit.
+    pub unit: u32,
+    /// The declarations whose scope holds the place, the oldest first.
+    pub declared: Items<Declared>,
+    /// How many of them were there when the innermost scope began.
+    pub begins: u64,
+    /// Whether the place stands inside a function.
+    pub in_function: bool,
+    /// The record and enumerated types of the unit so far.
+    pub types: Types,
+    pub next_object: u32,
+    pub next_function: u32,
+    /// The objects of literals so far, in text order.
+    pub literals: Items<Made>,
+    /// What the unit named so far that has linkage, in text order.
+    pub mentions: Vec<Mention>,
+    /// The objects so far that aren't those of literals.
+    pub objects: Vec<CoreObject>,
+    /// The functions with bodies so far.
+    pub functions: Items<Fun>,
+    /// The names with linkage, in the order of their first declarations (6.2.2).
+    pub things: Items<Thing>,
+    /// The labels of the function, and of the innermost `switch`.
+    pub body: Labels,
 }
 
 impl Scope {
@@ -53,7 +63,7 @@ impl Scope {
             next_function: 0,
             literals: Items::new(alloc),
             mentions: Vec::new(alloc),
-            objects: Items::new(alloc),
+            objects: Vec::new(alloc),
             functions: Items::new(alloc),
             things: Items::new(alloc),
             body: no_labels(alloc),

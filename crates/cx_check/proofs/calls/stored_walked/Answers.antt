@@ -1,6 +1,6 @@
 use Rattle.std.proofs.Common.{map, sym, subst}
 use Rattle.cx_check.proofs.Told.{told}
-use Rattle.cx_check.specs.Objects.{declared_target}
+use Rattle.cx_walk.specs.Objects.{declared_target}
 use Rattle.cx_context.specs.Checks.{Checks}
 use Rattle.cx_context.specs.Views.{scope_of}
 use Rattle.cx_core.specs.Views.{view_type}
