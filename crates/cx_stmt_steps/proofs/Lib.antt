@@ -1,0 +1,4 @@
+pub mod CaseNumbers
+pub mod Holding
+pub mod Lists
+pub mod Since
