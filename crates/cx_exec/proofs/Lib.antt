@@ -1,3 +1,4 @@
 pub mod Between
+pub mod Looping
 pub mod Outcomes
 pub mod Runs

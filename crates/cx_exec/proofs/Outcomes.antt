@@ -20,24 +20,13 @@ use Rattle.cx_exec.specs.declared.outcome.COutcome.{COutcome}
 use Rattle.cx_exec.specs.declared.outcome.COutcome.TheVariants.{Ended, Undefined, StepsUsed, StoreFull, HostRefused, HostFault}
 use Rattle.cx_machine.specs.declared.stop.Stop.{Stop}
 use Rattle.cx_machine.specs.declared.stop.Stop.TheVariants as stop
-use Rattle.cx_exec.specs.Exec.{Ran, progress_within, state_within, world_within, IsProgress, IsLeast, TookSteps, AsksHost, HasFailed}
+use Rattle.cx_exec.specs.Exec.{Ran, progress_within, state_within, world_within, IsProgress, IsLeast, TookSteps, AsksHost, HasFailed, IsRun}
 use Rattle.cx_machine.specs.Steps.{IsStopped, Stops, Asks, Advances, taken_of}
 use Rattle.cx_exec.specs.Steps.{IsOutcome, Reached, start_in, start_around}
 use Rattle.cx_exec.proofs.Runs.{last_or_before, stays_ended, stays_stopped, stays}
 
 rose_more : (one two three : ℕ) → one ≤ two → Rose two three → Rose one three
 rose_more one two three later rose = omega (arith, later, rose)
-
--- all that is said of a run
-pub record IsRun (ran : Ran) (given : ℕ) (host later : HostState) (outcome : COutcome) (taken : ℕ) : Type 0 where
-  pub progress : IsProgress outcome (progress_within ran given)
-  pub answers : (world_within ran given).answers ≡ []
-  pub units : TookSteps ran given outcome taken
-  pub told : later.made ≡ option_map (λ made. made ++ (world_within ran given).made) host.made
-  pub given_by : AreGiven (world_within ran given).made host.left later.left
-  pub takes : AreTaken host.takes (world_within ran given).made
-  pub asks : AsksHost host outcome (progress_within ran given)
-  pub failed : HasFailed host later outcome
 
 -- ---- so many steps behind one another
 

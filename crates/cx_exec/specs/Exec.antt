@@ -1,11 +1,12 @@
 -- What a run of a program over a store and a host is to the meaning of the program.
-use Rattle.std.specs.Prelude.{◌≡◌, ℕ, suc, ◌<◌, ◌≤◌, ℤ, true, false, List, Option}
+use Rattle.std.specs.Prelude.{◌≡◌, ℕ, suc, ◌<◌, ◌≤◌, ℤ, true, false, List, [], ◌++◌, Option, option_map}
 use Rattle.cr_base.specs.Count.{Rose}
 use Rattle.cr_world.specs.World.{World, trail_of}
 use Rattle.cx_core.specs.Trees.{CProgram}
 use Rattle.cx_mean.specs.Run.{CProgress, going, ended, undefined, is_full, asks_for, c_start, c_after, c_trailed}
 use Rattle.cx_mean.specs.Settings.{setting_of}
 use Rattle.cx_mean.specs.State.{CState}
+use Rattle.cx_outside.specs.States.{AreGiven, AreTaken}
 use Rattle.ext_calls.specs.declared.call.Call.{Call}
 use Rattle.ext_calls.specs.Host.{HostState}
 use Rattle.mem_bytes.specs.Counted.{Limit}
@@ -73,3 +74,14 @@ AsksHost host outcome progress = Unit {0}
 abbrev pub HasFailed : HostState → HostState → COutcome → Type 0
 HasFailed before after HostFault = Rose before.faults after.faults
 HasFailed before after outcome = Unit {0}
+
+-- all that is said of a run
+pub record IsRun (ran : Ran) (given : ℕ) (host later : HostState) (outcome : COutcome) (taken : ℕ) : Type 0 where
+  pub progress : IsProgress outcome (progress_within ran given)
+  pub answers : (world_within ran given).answers ≡ []
+  pub units : TookSteps ran given outcome taken
+  pub told : later.made ≡ option_map (λ made. made ++ (world_within ran given).made) host.made
+  pub given_by : AreGiven (world_within ran given).made host.left later.left
+  pub takes : AreTaken host.takes (world_within ran given).made
+  pub asks : AsksHost host outcome (progress_within ran given)
+  pub failed : HasFailed host later outcome

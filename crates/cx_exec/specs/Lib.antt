@@ -1,2 +1,3 @@
 pub mod Exec
+pub mod Far
 pub mod Steps

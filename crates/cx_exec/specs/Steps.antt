@@ -1,12 +1,12 @@
 -- One step of a run, and how far a run has come.
-use Rattle.std.specs.Prelude.{◌≡◌, ℕ, suc, ◌<◌, ℤ, true, false, List, [], ◌++◌, Option, Result, Ok, Err}
+use Rattle.std.specs.Prelude.{◌≡◌, ℕ, ◌<◌, ℤ, List, [], ◌++◌, Option}
 use Rattle.cr_world.specs.Held.{nothing_held}
-use Rattle.cr_world.specs.World.{World, full, asks}
+use Rattle.cr_world.specs.World.{World}
 use Rattle.cx_core.specs.Trees.{CProgram}
 use Rattle.cx_mean.specs.Run.{going, progress_at, c_after}
 use Rattle.cx_mean.specs.Settings.{setting_of}
-use Rattle.cx_mean.specs.State.{CControl, has_ended, has_stopped, CState, beginning_statics, statics_in}
-use Rattle.cx_outside.specs.States.{Around, Between, Quiet, world_at}
+use Rattle.cx_mean.specs.State.{CState, beginning_statics, statics_in}
+use Rattle.cx_outside.specs.States.{Around, Between, world_at}
 use Rattle.cx_outside.specs.declared.outside.Lack.TheVariants as lack
 use Rattle.ext_calls.specs.Host.{HostState}
 use Rattle.mem_bytes.specs.Counted.{Limit}

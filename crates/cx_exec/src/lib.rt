@@ -2,6 +2,8 @@
 #![tactic(auto)]
 
 mod outcome;
+mod run;
 mod stop;
 
 pub use outcome::{COutcome, CRun};
+pub use run::run_c;

@@ -1,0 +1,138 @@
+-- A run that is held, step by step.
+use Rattle.std.proofs.Common.{◌≡◌, ◌∙◌, refl, sym, ap, subst, arith, ℕ, suc, ◌<◌, ◌≤◌, ℤ, List, [], Option, Some, None, Result, Ok, Err, IfOk}
+use Rattle.cr_world.specs.World.{World}
+use Rattle.cx_access.specs.Views.{compatible_pairs}
+use Rattle.cx_core.specs.declared.program.Parts.{Parts}
+use Rattle.cx_core.specs.Layouts.{CLayouts, layouts_of}
+use Rattle.cx_core.specs.Trees.{CProgram, CTypes}
+use Rattle.cx_core.specs.Views.{view_program, view_types}
+use Rattle.cx_machine.specs.declared.machine.Control.{Control}
+use Rattle.cx_machine.specs.declared.machine.Control.TheVariants as control
+use Rattle.cx_machine.specs.declared.machine.Machine.{Machine}
+use Rattle.cx_machine.specs.declared.stop.Stop.{Stop}
+use Rattle.cx_machine.specs.Machines.{control_in, values_in, view_machine}
+use Rattle.cx_machine.specs.Steps.{Advances, taken_of}
+use Rattle.cx_mean.specs.Moves.{CPurpose}
+use Rattle.cx_mean.specs.Run.{going, progress_at}
+use Rattle.cx_mean.specs.Settings.{CPair, CSetting, compatible_records, setting_of}
+use Rattle.cx_mean.specs.State.{CState, c_step, evaluating}
+use Rattle.cx_mean.specs.Work.{CWork, finished, needs, chooses, tests, carries, updates, fills, waits}
+use Rattle.cx_outside.specs.Comes.{Comes}
+use Rattle.cx_outside.specs.States.{Around, KeptState, around}
+use Rattle.cx_work.specs.declared.work.Work.{Work}
+use Rattle.cx_work.specs.Views.{view_work}
+use Rattle.ext_calls.specs.Host.{HostState}
+use Rattle.mem_bytes.specs.Counted.{Limit}
+use Rattle.mem_bytes.specs.Memory.{Blocks}
+use Rattle.cx_exec.specs.declared.outcome.COutcome.{COutcome}
+use Rattle.cx_exec.specs.declared.outcome.COutcome.TheVariants.{StepsUsed}
+use Rattle.cx_exec.specs.declared.outcome.CRun.{CRun}
+use Rattle.cx_exec.specs.declared.run.Far.{Far}
+use Rattle.cx_exec.specs.Exec.{Ran, IsRun}
+use Rattle.cx_exec.specs.Far.{IsSetting, IsStart, IsFar, IsEnd, IsEnding}
+use Rattle.cx_exec.specs.Steps.{IsOutcome, Reached, start_around}
+use Rattle.cx_exec.proofs.Outcomes.{stopped_is, used_up}
+use Rattle.cx_exec.proofs.Runs.{at_start, one_further}
+
+-- ---- a run that is held goes on
+
+going_work : (work : CWork) (purpose : CPurpose) → progress_at (evaluating work purpose) ≡ going
+going_work (finished operand) purpose = refl
+going_work (needs node operands) purpose = refl
+going_work (chooses node first) purpose = refl
+going_work (tests node marks second) purpose = refl
+going_work (carries node marks part) purpose = refl
+going_work (updates node update stage marks) purpose = refl
+going_work (fills node marks one others value) purpose = refl
+going_work (waits node marks) purpose = refl
+
+going_values : (work : Option Work) (purpose : CPurpose) → progress_at (values_in work purpose) ≡ going
+going_values None purpose = refl
+going_values (Some work) purpose = going_work (view_work work) purpose
+
+going_in : (machine : Machine) (one : Control) → progress_at (control_in machine one) ≡ going
+going_in machine (control.Begins one others) = refl
+going_in machine (control.Moves move) = refl
+going_in machine (control.Values purpose) = going_values machine.work _
+going_in machine (control.Takes callee params) = refl
+
+pub goes_on : (machine : Machine) (world : World) → progress_at (view_machine machine world).control ≡ going
+goes_on machine world = going_in machine machine.control
+
+-- ---- its steps
+
+pub begun : (program : CProgram) (machine : Machine) (kept : KeptState) (blocks : Blocks) (limit : Option Limit) (host : HostState) → IsStart program machine → kept ≡ record { trail = []; heap = [] } → blocks ≡ [] →
+    Reached program machine.order.now 0 (view_machine machine) (start_around limit host) (around kept blocks limit host)
+begun program machine kept blocks limit host start kept_is empty =
+    subst (λ (one : KeptState). Reached program machine.order.now 0 (view_machine machine) (start_around limit host) (around one blocks limit host)) (sym kept_is)
+    (subst (λ (memory : Blocks). Reached program machine.order.now 0 (view_machine machine) (start_around limit host) (around (record { trail = []; heap = [] }) memory limit host)) (sym empty)
+    (at_start program machine.order.now (view_machine machine) (start_around limit host) start (goes_on machine) (λ world. refl)))
+
+pub further : (setting : CSetting) (order : List ℕ) (steps : ℕ) (old new : Machine) (first at later : Around) → IsSetting setting → Reached setting.program order steps (view_machine old) first at →
+    Comes (λ world. c_step setting (view_machine old world)) (view_machine new) at later → Reached setting.program order (suc steps) (view_machine new) first later
+further setting order steps old new first at later is reached comes =
+    one_further setting.program order steps (view_machine old) (view_machine new) first at later reached
+    (subst (λ (one : CSetting). Comes (λ (world : World). c_step one (view_machine old world)) (view_machine new) at later) is comes) (goes_on new) (λ world. refl)
+
+pub stopped : (setting : CSetting) (order : List ℕ) (limit : Option Limit) (host : HostState) (steps given : ℕ) (old : Machine) (at later : Around) (next : World → CState) (why : Stop) → IsSetting setting →
+    Reached setting.program order steps (view_machine old) (start_around limit host) at → steps < given → Advances (λ world. c_step setting (view_machine old world)) (Err why) next at later →
+    (outcome : COutcome) → IsOutcome why outcome → IsRun (record { program = setting.program; order = order; limit = limit; trail = later.trail }) given host later.host outcome (taken_of why steps)
+stopped setting order limit host steps given old at later next why is reached less advances outcome outcome_is =
+    stopped_is setting.program order limit host steps (view_machine old) at reached given less later next why outcome outcome_is
+    (subst (λ (one : CSetting). Advances (λ (world : World). c_step one (view_machine old world)) (Err why) next at later) is advances)
+
+-- ---- its end
+
+pub ends_as : (ran : Ran) (given : ℕ) (host later : HostState) (far : Far) (run : CRun) → IsFar ran given host later far.taken far.stop → IsEnd far run ran.trail →
+    IsRun (record { program = ran.program; order = ran.order; limit = ran.limit; trail = run.trail }) given host later run.outcome run.steps
+ends_as ran given host later far run is end =
+    subst (λ (trail : List ℤ). IsRun (record { program = ran.program; order = ran.order; limit = ran.limit; trail = trail }) given host later run.outcome run.steps) (sym end.trail_is)
+    (ends_by ran given host later far.taken far.stop run.outcome run.steps is end.ending)
+  where
+    ends_by : (one : Ran) (most : ℕ) (before after : HostState) (taken : ℕ) (stop : Option Stop) (outcome : COutcome) (steps : ℕ) → IsFar one most before after taken stop → IsEnding stop taken outcome steps →
+        IsRun one most before after outcome steps
+    ends_by one most before after taken None outcome steps far_is ending =
+        subst (λ (count : ℕ). IsRun one most before after outcome count) (sym ending.1)
+        (subst (λ (other : COutcome). IsRun one most before after other taken) (sym ending.0) far_is.1)
+    ends_by one most before after taken (Some why) outcome steps far_is ending =
+        subst (λ (count : ℕ). IsRun one most before after outcome count) (sym ending.1) (far_is.1 outcome ending.0)
+
+pub if_ok : {A E : Type 0} {P Q : A → Type 0} (result : Result A E) → ((value : A) → P value → Q value) → IfOk result P → IfOk result Q
+if_ok (Ok value) step holds = step value holds
+if_ok (Err why) step holds = tt
+
+-- ---- settings
+
+pairs_are : (types : CTypes) → compatible_pairs types ≡ compatible_records types
+unfolding compatible_pairs
+pairs_are types = refl
+
+-- the setting of a program with its layouts
+pub setting_is : (parts whole : Parts) (layouts : CLayouts) → parts ≡ whole → layouts ≡ layouts_of (view_types whole.types) →
+    record { program = view_program parts; layouts = layouts; pairs = compatible_pairs (view_types parts.types) } ≡ setting_of (view_program parts)
+setting_is parts whole layouts same is =
+    ap (λ (all : CLayouts). record { program = view_program parts; layouts = all; pairs = compatible_pairs (view_types parts.types) }) (is ∙ ap (λ (one : Parts). layouts_of (view_types one.types)) (sym same))
+    ∙ ap (λ (pairs : List CPair). record { program = view_program parts; layouts = layouts_of (view_types parts.types); pairs = pairs }) (pairs_are (view_types parts.types))
+
+-- a run of the same program
+pub run_of : (parts whole : Parts) (order : List ℕ) (limit : Option Limit) (trail : List ℤ) (given : ℕ) (host later : HostState) (outcome : COutcome) (taken : ℕ) → parts ≡ whole →
+    IsRun (record { program = view_program parts; order = order; limit = limit; trail = trail }) given host later outcome taken →
+    IsRun (record { program = view_program whole; order = order; limit = limit; trail = trail }) given host later outcome taken
+run_of parts whole order limit trail given host later outcome taken same is =
+    subst (λ (one : Parts). IsRun (record { program = view_program one; order = order; limit = limit; trail = trail }) given host later outcome taken) same is
+
+-- ---- all steps were used
+
+pub all_used : (program : CProgram) (order : List ℕ) (limit : Option Limit) (host : HostState) (steps given : ℕ) (machine : Machine) (at : Around) →
+    Reached program order steps (view_machine machine) (start_around limit host) at → steps ≡ given →
+    (steps ≡ given) × IsRun (record { program = program; order = order; limit = limit; trail = at.trail }) given host at.host StepsUsed steps
+all_used program order limit host steps given machine at reached same = (
+  same,
+  subst (λ (count : ℕ). IsRun (record { program = program; order = order; limit = limit; trail = at.trail }) count host at.host StepsUsed steps) same
+      (used_up program order limit host steps (view_machine machine) at reached),
+)
+
+-- a run is never farther than was given
+pub far_within : (ran : Ran) (given : ℕ) (host later : HostState) (taken : ℕ) (stop : Option Stop) → IsFar ran given host later taken stop → taken ≤ given
+far_within ran given host later taken None is = omega (arith, is.0)
+far_within ran given host later taken (Some why) is = is.0

@@ -1,0 +1,54 @@
+use Rattle.cx_exec.specs.declared.outcome.CRun.{CRun}
+use Rattle.cx_exec.proofs.Looping.{if_ok, run_of, setting_is}
+use Rattle.cx_exec.proofs.run.run_c.Goals as goal
+
+pub run_in-requires-clause-setting : goal.run_in-requires-clause-setting
+run_in-requires-clause-setting g c = setting_is c.parts.result.now c.args.program.now c.in_ok-layouts.layouts c.parts.ensures.value c.in_ok-layouts.ensures
+
+pub returns-clause-outcome : goal.returns-clause-outcome
+returns-clause-outcome g c =
+    if_ok c.run_in.result (λ (run : CRun) runs.
+    (run_of c.parts.result.now c.args.program.now c.args.order.now _ run.trail c.args.steps _ _ run.outcome run.steps c.parts.ensures.value runs).progress)
+    c.run_in.ensures
+
+pub returns-clause-trail : goal.returns-clause-trail
+returns-clause-trail g c =
+    if_ok c.run_in.result (λ (run : CRun) runs.
+    (run_of c.parts.result.now c.args.program.now c.args.order.now _ run.trail c.args.steps _ _ run.outcome run.steps c.parts.ensures.value runs).answers)
+    c.run_in.ensures
+
+pub returns-clause-taken : goal.returns-clause-taken
+returns-clause-taken g c =
+    if_ok c.run_in.result (λ (run : CRun) runs.
+    (run_of c.parts.result.now c.args.program.now c.args.order.now _ run.trail c.args.steps _ _ run.outcome run.steps c.parts.ensures.value runs).units)
+    c.run_in.ensures
+
+pub returns-clause-told : goal.returns-clause-told
+returns-clause-told g c =
+    if_ok c.run_in.result (λ (run : CRun) runs.
+    (run_of c.parts.result.now c.args.program.now c.args.order.now _ run.trail c.args.steps _ _ run.outcome run.steps c.parts.ensures.value runs).told)
+    c.run_in.ensures
+
+pub returns-clause-given : goal.returns-clause-given
+returns-clause-given g c =
+    if_ok c.run_in.result (λ (run : CRun) runs.
+    (run_of c.parts.result.now c.args.program.now c.args.order.now _ run.trail c.args.steps _ _ run.outcome run.steps c.parts.ensures.value runs).given_by)
+    c.run_in.ensures
+
+pub returns-clause-takes : goal.returns-clause-takes
+returns-clause-takes g c =
+    if_ok c.run_in.result (λ (run : CRun) runs.
+    (run_of c.parts.result.now c.args.program.now c.args.order.now _ run.trail c.args.steps _ _ run.outcome run.steps c.parts.ensures.value runs).takes)
+    c.run_in.ensures
+
+pub returns-clause-asks : goal.returns-clause-asks
+returns-clause-asks g c =
+    if_ok c.run_in.result (λ (run : CRun) runs.
+    (run_of c.parts.result.now c.args.program.now c.args.order.now _ run.trail c.args.steps _ _ run.outcome run.steps c.parts.ensures.value runs).asks)
+    c.run_in.ensures
+
+pub returns-clause-failed : goal.returns-clause-failed
+returns-clause-failed g c =
+    if_ok c.run_in.result (λ (run : CRun) runs.
+    (run_of c.parts.result.now c.args.program.now c.args.order.now _ run.trail c.args.steps _ _ run.outcome run.steps c.parts.ensures.value runs).failed)
+    c.run_in.ensures
