@@ -1,8 +1,9 @@
 -- Chains of a walk in another grouping.
-use Rattle.std.proofs.Common.{◌≡◌, refl, sym, ap, ◌∙◌, ℕ, List, [], ◌∷◌, ◌++◌, drop, length, Option, None, Some, Bool, true, false, is_some, is_none, if◌then◌else◌}
+use Rattle.std.proofs.Common.{◌≡◌, refl, sym, ap, ◌∙◌, ℕ, List, [], ◌∷◌, drop, length, Option, Bool, false, not, ◌&&◌, is_some, is_none, if◌then◌else◌}
 use Rattle.cx_contents.specs.Contents.{block_literals}
-use Rattle.cx_core.specs.Trees.{CTy}
-use Rattle.cx_decl_steps.specs.Kept.{CHeadKept, kept_of}
+use Rattle.cr_base.specs.declared.refusal.Place.{Place as TextPlace}
+use Rattle.cx_core.specs.Trees.{CTy, CPuts}
+use Rattle.cx_decl_steps.specs.Kept.{kept_of}
 use Rattle.cx_decl_steps.specs.Steps as steps
 use Rattle.cx_declarations.specs.Walks as walks
 use Rattle.cx_rules.specs.declared.kinds.SpecsPlace.{SpecsPlace}
@@ -10,11 +11,14 @@ use Rattle.cx_rules.specs.declared.kinds.SpecsPlace.TheVariants.{Definition}
 use Rattle.cx_rules.specs.Declare.{CBegun}
 use Rattle.cx_rules.specs.Initial.{CStored}
 use Rattle.cx_rules.specs.Lines.{specs_line, declarator_line}
+use Rattle.cx_rules.specs.Nodes.{declares_node}
+use Rattle.cx_rules.specs.Pieces.{CFilled, at_line}
 use Rattle.cx_rules.specs.Readings.{CChecked, stops, fine, Check, check_behind, check_gives, check_chain, check_here, check_becomes, check_look}
 use Rattle.cx_rules.specs.Scope.{CMade, CScope, new_scope}
 use Rattle.cx_rules.specs.Shapes.{CSpecs, CShape, base_type, no_specs_yet}
 use Rattle.cx_rules.specs.UnitWalk as unit
-use Rattle.cx_rules.specs.UnitWalk.{CHead, CMeant, literals_since, name_or_none}
+use Rattle.cx_rules.specs.UnitWalk.{CHead, CMeant, literals_since, name_or_none, nothing_meant}
+use Rattle.cx_rules.specs.Walk as walk
 use Rattle.cx_tree.specs.Trees.{SpecTrees, DeclaratorTree, InitialiserTree}
 
 -- ---- literals
@@ -31,11 +35,27 @@ literals_are before scope = since_is (drop (length before.literals) scope.litera
 
 -- ---- the end of a declarator
 
+meant_is : (before scope : CScope) (place : TextPlace) (begun : CBegun) (has_init : Bool) (puts : CPuts)
+    → unit.declared_meant before scope place begun has_init puts ≡ steps.declared_meant (length before.literals) scope place begun has_init puts
+meant_is before scope place begun has_init puts =
+    ap (λ literals. steps.with_literals literals (if scope.in_function && not begun.is_static then steps.begin_of place has_init puts begun.object else nothing_meant))
+    (literals_are before scope)
+
+changes_is : (place : SpecsPlace) (specs : CSpecs) (line : ℕ) (before : CScope) (begun : CBegun) (has_init : Bool) (filled : CFilled) (scope : CScope)
+    → unit.ends_as Check check_gives check_chain check_here check_becomes check_look place specs line before begun has_init scope filled scope
+    ≡ steps.ends_as (length before.literals) place specs line begun has_init scope filled scope
+changes_is place specs line before begun has_init filled scope =
+    ap (λ meant. walk.changed Check check_gives check_chain check_here check_becomes check_look scope line
+    (declares_node (record { where_stands = place; specs = specs; type = filled.type; linkage = begun.linkage; clashes = begun.clashes; has_init = has_init }))
+    (unit.with_content_if has_init begun filled scope) meant scope)
+    (meant_is before scope (at_line scope line) begun has_init filled.puts)
+
 ends_is : (place : SpecsPlace) (specs : CSpecs) (line : ℕ) (before : CScope) (begun : CBegun) (has_init : Bool) (stored : List CStored) (scope : CScope)
     → unit.declared_ends Check check_gives check_chain check_here check_becomes check_look place specs line before begun has_init stored scope
     ≡ steps.declared_ended (length before.literals) place specs line begun has_init stored scope
-unfolding check_chain check_here check_look check_becomes check_gives
-ends_is place specs line before begun has_init stored scope = ?
+unfolding check_chain check_here
+ends_is place specs line before begun has_init stored scope =
+    changes_is place specs line before begun has_init (unit.content_of has_init scope.types begun stored) scope
 
 pub named_is : (place : SpecsPlace) (specs : CSpecs) (line : ℕ) (type : CTy) (shape : CShape) (init : Option InitialiserTree) (scope : CScope)
     → walks.named_by place specs line type (name_or_none shape.name) init scope ≡ walks.named_walk place specs line type shape init scope

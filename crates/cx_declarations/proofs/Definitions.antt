@@ -1,5 +1,7 @@
-use Rattle.std.proofs.Common.{◌≡◌, refl, false}
+-- A definition by what is kept of its head.
+use Rattle.std.proofs.Common.{◌≡◌, refl, ap, ◌∙◌, false}
 use Rattle.cx_decl_steps.specs.Kept.{CHeadKept, kept_of}
+use Rattle.cx_declarations.proofs.Assoc.{begins_is}
 use Rattle.cx_declarations.specs.Walks as walks
 use Rattle.cx_rules.specs.declared.kinds.SpecsPlace.TheVariants.{Definition}
 use Rattle.cx_rules.specs.Lines.{specs_line}
@@ -35,6 +37,7 @@ pub definition_is : {A : Type 0} (specs : SpecTrees) (declarator : DeclaratorTre
     ≡ check_chain _ _ (walks.definition_begins specs declarator) by scope
 unfolding check_chain check_gives
 definition_is specs declarator rest by same scope =
-    firsts (unit.specs_walk Check check_gives check_chain check_here check_becomes check_look false no_specs_yet specs scope)
+    (firsts (unit.specs_walk Check check_gives check_chain check_here check_becomes check_look false no_specs_yet specs scope)
     (λ all. unit.specs_seen Check check_gives check_chain check_here check_becomes check_look Definition (specs_line specs) all)
-    (λ all. unit.head_walk Check check_gives check_chain check_here check_becomes check_look all (specs_line specs) declarator) rest by same
+    (λ all. unit.head_walk Check check_gives check_chain check_here check_becomes check_look all (specs_line specs) declarator) rest by same)
+    ∙ ap (λ walked. check_behind walked by) (begins_is specs declarator scope)

@@ -1,8 +1,8 @@
 -- A declaration of a tag by itself.
-use Rattle.std.proofs.Common.{◌≡◌, refl, ◌&&◌, Bool, true, false, List, [], ◌∷◌, ℕ}
+use Rattle.std.proofs.Common.{◌≡◌, refl, ◌&&◌, List, [], ◌∷◌, ℕ}
 use Rattle.cx_declarations.specs.Walks.{declares_nothing, is_last, is_record_use, stands_alone}
 use Rattle.cx_rules.specs.UnitWalk.{declares_tag}
-use Rattle.cx_tree.specs.Trees.{SpecTree, Key, Typedef, Record, Enum, SpecTrees, no_specs, more_specs, no_members, InitDeclaratorTree}
+use Rattle.cx_tree.specs.Trees.{SpecTree, Record, SpecTrees, no_specs, more_specs, no_members, InitDeclaratorTree}
 
 alone_is : (first : SpecTree) (others : SpecTrees) (lines : List ℕ) → (is_last others && is_record_use first) ≡ declares_tag (record { specs = more_specs first others; list = []; lines = lines })
 alone_is (Record is_union name no_members own) no_specs lines = refl

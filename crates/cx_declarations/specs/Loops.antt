@@ -1,5 +1,4 @@
 -- What was done of a list, and what the rest gives.
-use Rattle.std.specs.Prelude.{ℕ}
 use Rattle.cx_rules.specs.Readings.{CChecked, stops, fine}
 use Rattle.cx_rules.specs.UnitWalk.{CMeant, meant_behind}
 

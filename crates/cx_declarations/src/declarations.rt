@@ -47,7 +47,7 @@ fn begun_walk(
     begun: &Begun,
     init: &Option<Boxed<Initialiser>>,
 ) -> Result<Meant, Stop>
-    requires { site.entry.has_init ≡ is_some (option_map initialiser_view init.now) }
+    requires { site.has_init ≡ is_some (option_map initialiser_view init.now) }
     ensures { Checks view_meant result (scope_of context.new)
         (walks.begun_walk literals site.entry.place (view_specs site.entry.specs.now) site.entry.line (view_begun site.entry.name.now begun.now) (option_map initialiser_view init.now) (scope_of context.old)) }
 {
@@ -62,7 +62,7 @@ fn named_walk(
     ty: &Ty,
     init: &Option<Boxed<Initialiser>>,
 ) -> Result<Meant, Stop>
-    requires { site.entry.has_init ≡ is_some (option_map initialiser_view init.now) }
+    requires { site.has_init ≡ is_some (option_map initialiser_view init.now) }
     ensures { Checks view_meant result (scope_of context.new)
         (walks.named_by site.entry.place (view_specs site.entry.specs.now) site.entry.line (view_type ty.now) site.entry.name.now (option_map initialiser_view init.now) (scope_of context.old)) }
 {

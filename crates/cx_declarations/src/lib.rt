@@ -3,9 +3,9 @@
 #![tactic(auto)]
 
 mod declarations;
-mod definitions;
+mod heads;
 
 pub use cx_contents::literals_since;
 pub use cx_decl_steps::{Head, Meant, body_ended};
 pub use declarations::decl;
-pub use definitions::definition_begins;
+pub use heads::definition_begins;
