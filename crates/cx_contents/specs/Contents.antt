@@ -141,6 +141,9 @@ with_function one scope =
 
 -- ---- bodies of functions
 
+abbrev pub body_closed : (count begins : ℕ) → CScope → CScope
+body_closed count begins scope = record (left (count + 1) begins scope) { in_function = false; body = no_labels }
+
 -- a function whose body has ended, where its scope began behind so many declarations
 abbrev pub body_ended : (count begins : ℕ) → CFun → CScope → CScope
 body_ended count begins one scope = record (left (count + 1) begins scope) {

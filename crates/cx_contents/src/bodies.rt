@@ -208,6 +208,20 @@ fn no_labels(alloc: Global) -> Labels
     }
 }
 
+// The scope of a body ends, with its labels.
+fn close_body(scope: &mut Scope, count: u64, begins: u64) -> Result<(), Memory>
+    ensures closed { OnOk result (view_scope scope.new ≡ contents.body_closed count begins (view_scope scope.old)) }
+    ensures types { (view_scope scope.new).types ≡ (view_scope scope.old).types }
+{
+    if count == u64::MAX {
+        return Err(Memory);
+    }
+    scope.leave(count + 1, begins);
+    scope.in_function = false;
+    scope.body = no_labels(scope.alloc);
+    Ok(())
+}
+
 /// The body of a function has ended, where there were so many declarations before its declarator and the scope around it began behind so
 /// many: its parameters and its labels are out of scope. Refused only for want of memory, and then nothing is said but that the types
 /// stay.
@@ -215,12 +229,6 @@ pub fn end_body(scope: &mut Scope, count: u64, begins: u64, one: Fun) -> Result<
     ensures ended { OnOk result (view_scope scope.new ≡ contents.body_ended count begins (view_function one) (view_scope scope.old)) }
     ensures types { (view_scope scope.new).types ≡ (view_scope scope.old).types }
 {
-    if count == u64::MAX {
-        return Err(Memory);
-    }
     scope.functions.push(one)?;
-    scope.leave(count + 1, begins);
-    scope.in_function = false;
-    scope.body = no_labels(scope.alloc);
-    Ok(())
+    close_body(scope, count, begins)
 }

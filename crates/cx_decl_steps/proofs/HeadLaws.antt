@@ -1,17 +1,17 @@
 -- The head of a definition, and what is kept of it.
-use Rattle.std.proofs.Common.{◌≡◌, refl, sym, ap, ◌∙◌, ℕ, Bool, true, List, Option, None, Some, option_map}
+use Rattle.std.proofs.Common.{◌≡◌, refl, sym, ap, ◌∙◌, ℕ, true, List, Option, None, Some}
 use Rattle.cr_base.specs.declared.refusal.Refusal.{Refusal}
 use Rattle.cx_contents.specs.Contents as contents
 use Rattle.cx_core.specs.declared.program.Linkage.{Linkage}
 use Rattle.cx_core.specs.Trees.{CTy}
-use Rattle.cx_decl_steps.specs.Kept.{CHeadKept, kept_of}
+use Rattle.cx_decl_steps.specs.Kept.{kept_of}
 use Rattle.cx_decl_steps.specs.Steps as steps
 use Rattle.cx_entities.specs.Entities.{joined_type}
 use Rattle.cx_rules.specs.declared.kinds.SpecsPlace.TheVariants.{Definition}
 use Rattle.cx_rules.specs.Declare.{CDeclaring, declaring, linkage_of, with_head, clashes, is_typedef, head_number, own_params}
 use Rattle.cx_rules.specs.Nodes.{CNode, head_node}
 use Rattle.cx_rules.specs.Pieces.{Done}
-use Rattle.cx_rules.specs.Readings.{Check, CChecked, check_gives, check_chain, check_here, check_becomes, check_behind, check_by, check_look, refusal_at}
+use Rattle.cx_rules.specs.Readings.{Check, check_gives, check_chain, check_here, check_becomes, check_behind, check_by, check_look, refusal_at}
 use Rattle.cx_rules.specs.Scope.{CScope, CMeant, ordinary}
 use Rattle.cx_rules.specs.Shapes.{CSpecs, CStep, CShape}
 use Rattle.cx_rules.specs.UnitWalk.{CHead, name_or_none}

@@ -2,8 +2,6 @@
 use Rattle.std.specs.Prelude.{ℕ, List, map, length}
 use Rattle.cx_core.specs.declared.program.Linkage.{Linkage}
 use Rattle.cx_core.specs.Trees.{CTy}
-use Rattle.cx_rules.specs.Declare.{CDeclaring}
-use Rattle.cx_rules.specs.Scope.{CScope}
 use Rattle.cx_rules.specs.Shapes.{CParam}
 use Rattle.cx_rules.specs.UnitWalk.{CHead}
 

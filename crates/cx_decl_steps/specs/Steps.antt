@@ -1,22 +1,20 @@
 -- The steps of the walk over declarations that stops at the first broken node.
-use Rattle.std.specs.Prelude.{ℕ, Bool, true, false, not, ◌&&◌, ◌||◌, if◌then◌else◌, List, [], ◌∷◌, ◌++◌, drop, length, Option, None, Some, map, is_some}
+use Rattle.std.specs.Prelude.{ℕ, Bool, true, false, not, ◌&&◌, ◌||◌, if◌then◌else◌, List, [], ◌∷◌, ◌++◌, drop, length, Option, None, Some}
 use Rattle.cr_base.specs.declared.refusal.Place.{Place as TextPlace}
 use Rattle.cx_contents.specs.Contents as contents
 use Rattle.cx_contents.specs.Contents.{CContent}
-use Rattle.cx_core.specs.declared.program.Linkage.{Linkage}
 use Rattle.cx_core.specs.Trees.{CTy, CTypes, CPuts, CStmt, stmt, begin, CFun, CUnit}
 use Rattle.cx_decl_steps.specs.Kept.{CHeadKept, kept_of}
-use Rattle.cx_entities.specs.Entities.{object_number, is_told, joined_type}
+use Rattle.cx_entities.specs.Entities.{object_number, is_told}
 use Rattle.cx_entities.specs.Linkage.{lives_on}
 use Rattle.cx_lex.specs.declared.token.Keyword.TheVariants as keyword
 use Rattle.cx_rules.specs.declared.kinds.SpecsPlace.{SpecsPlace}
-use Rattle.cx_rules.specs.declared.kinds.SpecsPlace.TheVariants.{Definition}
 use Rattle.cx_rules.specs.Declare.{CBegun, CDeclaring, clashes, is_outside, is_typedef, with_head, head_number, own_params}
 use Rattle.cx_rules.specs.Initial.{CStored}
 use Rattle.cx_rules.specs.Nodes.{declares_node, head_node}
 use Rattle.cx_rules.specs.Pieces.{Done, CFilled, CTarget, at_line, filled_object, whole_target}
 use Rattle.cx_rules.specs.Readings.{Check, check_gives, check_chain, check_here, check_becomes, check_look}
-use Rattle.cx_rules.specs.Scope.{CScope, CThing, CMeant as CNamed}
+use Rattle.cx_rules.specs.Scope.{CScope, CThing}
 use Rattle.cx_rules.specs.Shapes.{CSpecs, CStep, CShape, has_storage, last_step}
 use Rattle.cx_rules.specs.Types.{is_function, is_array, has_size}
 use Rattle.cx_rules.specs.UnitWalk as unit

@@ -7,5 +7,6 @@ mod heads;
 
 pub use cx_contents::literals_since;
 pub use cx_decl_steps::{Head, Meant, body_ended};
+pub use cx_unit_ends::unit_ended;
 pub use declarations::decl;
 pub use heads::definition_begins;

@@ -1,10 +1,10 @@
-use Rattle.std.proofs.Common.{rules, ◌≡◌, refl, sym, subst, ap, ◌∙◌}
+use Rattle.std.proofs.Common.{◌≡◌, sym, subst, ap, ◌∙◌}
 use Rattle.cx_breaks.specs.Placed.{placed}
 use Rattle.cx_context.proofs.Settling.{refused_step, changed_no, changed_ok}
 use Rattle.cx_context.specs.Checks.{refusal_of}
 use Rattle.cx_context.specs.Views.{scope_of}
 use Rattle.cx_kinds.specs.Known.{types_in}
-use Rattle.cx_rules.specs.Readings.{fine, check_chain, check_here}
+use Rattle.cx_rules.specs.Readings.{fine}
 use Rattle.cx_rules.specs.Rules.{rule_at}
 use Rattle.cx_core.specs.Trees.{CTy}
 use Rattle.cx_core.specs.Views.{view_type}

@@ -1,10 +1,10 @@
-use Rattle.std.proofs.Common.{rules, ◌≡◌, refl, sym, subst, ap, ◌∙◌, true, map, reverse, List, Bool}
+use Rattle.std.proofs.Common.{◌≡◌, sym, ap, ◌∙◌, true, map, reverse, List, Bool}
 use Rattle.cx_breaks.specs.Placed.{placed}
 use Rattle.cx_context.proofs.Settling.{refused_step, changed_no, changed_ok}
 use Rattle.cx_context.specs.Checks.{refusal_of}
 use Rattle.cx_context.specs.Views.{scope_of}
 use Rattle.cx_kinds.specs.Known.{types_in}
-use Rattle.cx_rules.specs.Readings.{fine, check_chain, check_here}
+use Rattle.cx_rules.specs.Readings.{fine}
 use Rattle.cx_rules.specs.Rules.{rule_at}
 use Rattle.cx_core.specs.Trees.{CTy}
 use Rattle.cx_core.specs.Views.{view_type}
@@ -14,8 +14,7 @@ use Rattle.cx_decl_steps.specs.Views.{view_head}
 use Rattle.cx_entities.specs.Views.{view_declaring}
 use Rattle.cx_rules.specs.Declare as declare
 use Rattle.cx_rules.specs.Nodes.{head_node}
-use Rattle.cx_scope.specs.Views.{view_scope}
-use Rattle.cx_shapes.specs.Views.{view_specs, view_step}
+use Rattle.cx_shapes.specs.Views.{view_step}
 use Rattle.cx_decl_steps.proofs.heads.head_as.Goals as goal
 
 pub returns-in-Some : goal.returns-in-Some
