@@ -101,6 +101,13 @@ impl Scope {
         newest_ordinary(self.innermost(), name).is_some()
     }
 
+    /// What an identifier that is no tag means by the declarations of the innermost scope alone.
+    pub fn ordinary_inside(&self, name: &Name) -> Option<&Meant>
+        ensures { option_map view_meant (option_copied result) ≡ ordinary name.now (innermost (view_scope self.now)) }
+    {
+        newest_ordinary(self.innermost(), name)
+    }
+
     /// What a tag means, where it may be written without one: in the innermost scope alone, or in all.
     pub fn seen_tag(&self, alone: bool, name: &Option<Name>) -> Option<Tag>
         ensures { option_map view_tag result ≡ seen_tag alone name.now (view_scope self.now) }

@@ -38,7 +38,7 @@ pub struct Scope {
     /// What the unit named so far that has linkage, in text order.
     pub mentions: Vec<Mention>,
     /// The objects so far that aren't those of literals.
-    pub objects: Items<CoreObject>,
+    pub objects: Vec<CoreObject>,
     /// The functions with bodies so far.
     pub functions: Items<Fun>,
     /// The names with linkage, in the order of their first declarations (6.2.2).
@@ -63,7 +63,7 @@ impl Scope {
             next_function: 0,
             literals: Items::new(alloc),
             mentions: Vec::new(alloc),
-            objects: Items::new(alloc),
+            objects: Vec::new(alloc),
             functions: Items::new(alloc),
             things: Items::new(alloc),
             body: no_labels(alloc),

@@ -1,0 +1,15 @@
+use Rattle.std.proofs.Common.{refl}
+use Rattle.std.proofs.lemmas.Option.{slice_get_read}
+use Rattle.cx_contents.specs.Contents as contents
+use Rattle.cx_core.specs.Views.{view_object, view_puts, view_type}
+use Rattle.cx_entities.proofs.Places.{changed_set, changed_out}
+use Rattle.cx_contents.proofs.stores.store_at.Goals as goal
+
+pub returns-in-Some : goal.returns-in-Some
+returns-in-Some c =
+    changed_set view_object (contents.stored_in c.args.is_static (view_type c.args.ty) (view_puts c.args.puts)) c.args.objects.now.items c.args.index c.in-Some.one.now c.store_in.new.one
+    (slice_get_read _ _ _ _ refl c.in-Some.ensures.item.3.0 c.in-Some.ensures.item.1) c.store_in.ensures
+
+pub returns-in_default : goal.returns-in_default
+returns-in_default c =
+    changed_out view_object (contents.stored_in c.args.is_static (view_type c.args.ty) (view_puts c.args.puts)) c.args.objects.now.items c.args.index c.in_default.ensures.item.2

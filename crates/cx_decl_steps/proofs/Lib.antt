@@ -1,0 +1,3 @@
+pub mod Contents
+pub mod HeadLaws
+pub mod Kept

@@ -1,0 +1,3 @@
+pub mod Assoc
+pub mod Definitions
+pub mod Tags

@@ -1,0 +1,4 @@
+pub mod Entities
+pub mod Linkage
+pub mod Places
+pub mod Views
