@@ -2,7 +2,8 @@
 use Rattle.std.proofs.Common.{◌≡◌, refl, ap, ◌∙◌, Bool, true, false, List, [], ◌∷◌, length, drop, is_none, if◌then◌else◌}
 use Rattle.cx_rules.specs.Scope.{CMade, CScope}
 use Rattle.cx_rules.specs.UnitWalk.{literals_since}
-use Rattle.cx_stmt_steps.specs.Literals.{block_literals, literals_from}
+use Rattle.cx_contents.specs.Contents.{block_literals}
+use Rattle.cx_stmt_steps.specs.Literals.{literals_from}
 
 -- behind none
 all_since : (scope : CScope) (list : List CMade) → block_literals list ≡ literals_since (record scope { literals = [] }) (record scope { literals = list })
