@@ -56,11 +56,7 @@ pub fn entered<'a>(
 }
 
 /// The function returns without an expression.
-pub fn leaves<'a>(
-    left: Left,
-    level: Level<'a>,
-    outer: &mut Site<'a>,
-) -> Result<Move<'a>, Memory>
+pub fn leaves<'a>(left: Left, level: Level<'a>, outer: &mut Site<'a>) -> Result<Move<'a>, Memory>
     ensures { IfOk result (λ move. view_move outer.new move ≡ meaning.leaves (view_left left) (with_level (view_level level.entry) (view_site outer.old))) }
 {
     open(outer, level)?;
