@@ -121,3 +121,9 @@ unit_with scope objects externals mentions = record {
   externals = externals;
   mentions = mentions;
 }
+
+abbrev pub unit_by : CScope → List COuter → List CMention → CUnit
+unit_by scope externals mentions = unit_with scope (objects_of scope.unit scope.things scope.objects scope.literals) externals mentions
+
+abbrev pub unit_behind : CScope → List COuter → CUnit
+unit_behind scope externals = unit_by scope externals (map (final_mention scope.things) scope.mentions)

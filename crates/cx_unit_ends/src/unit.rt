@@ -1,40 +1,91 @@
 //! Typed units (ISO C99, 6.9).
+#![tactic(auto, unfolding(cx_scope::specs::Views::view_scope))]
 
-ghost use Rattle.std.specs.Prelude.{◌≡◌, IfOk};
-ghost use Rattle.cx_core.specs.Views.{view_unit};
+ghost use Rattle.std.specs.Prelude.{◌≡◌, [], map, IfOk, OnOk};
+ghost use Rattle.cx_core.specs.Views.{view_mention, view_object, view_outer, view_unit};
 ghost use Rattle.cx_rules.specs.Declare as declare;
 ghost use Rattle.cx_scope.specs.Views.{view_scope};
+ghost use Rattle.cx_unit_ends.specs.Ends as ends;
 
 use crate::mentions::final_mentions;
 use crate::order::all_objects;
 use crate::types::outers_of;
-use cr_base::Memory;
-use cx_core::CoreUnit;
+use cr_base::{Items, Memory};
+use cx_core::{CoreObject, CoreUnit, Mention, Outer};
 use cx_scope::Scope;
+use std::mem;
+
+// The mentions as they are at the end, which are taken out of the scope.
+fn take_mentions(scope: &mut Scope) -> Result<Items<Mention>, Memory>
+    ensures mentions { IfOk result (λ made. map view_mention made ≡ map (ends.final_mention (view_scope scope.old).things) (view_scope scope.old).mentions) }
+    ensures scope { OnOk result (view_scope scope.new ≡ record (view_scope scope.old) { mentions = [] }) }
+{
+    let alloc = scope.alloc;
+    let mentions = mem::replace(&mut scope.mentions, Vec::new(alloc));
+    final_mentions(alloc, scope.things.as_slice(), mentions)
+}
+
+// The objects as they are at the end, those of literals among them, which are taken out of the scope.
+fn take_objects(scope: &mut Scope) -> Result<Items<CoreObject>, Memory>
+    ensures objects { IfOk result (λ made. map view_object made ≡
+        ends.objects_of (view_scope scope.old).unit (view_scope scope.old).things (view_scope scope.old).objects (view_scope scope.old).literals) }
+    ensures scope { OnOk result (view_scope scope.new ≡ record (view_scope scope.old) { objects = []; literals = [] }) }
+{
+    let alloc = scope.alloc;
+    let objects = mem::replace(&mut scope.objects, Vec::new(alloc));
+    let literals = mem::replace(&mut scope.literals, Items::new(alloc));
+    all_objects(
+        alloc,
+        scope.unit,
+        scope.things.as_slice(),
+        objects,
+        literals,
+    )
+}
+
+fn unit_with(
+    scope: Scope,
+    objects: Items<CoreObject>,
+    externals: Items<Outer>,
+    mentions: Items<Mention>,
+) -> CoreUnit
+    ensures { view_unit result ≡ ends.unit_with (view_scope scope) (map view_object objects) (map view_outer externals) (map view_mention mentions) }
+{
+    CoreUnit {
+        types: scope.types,
+        objects,
+        functions: scope.functions,
+        externals,
+        mentions,
+    }
+}
+
+// The unit with these functions and mentions.
+fn unit_by(
+    scope: Scope,
+    externals: Items<Outer>,
+    mentions: Items<Mention>,
+) -> Result<CoreUnit, Memory>
+    ensures { IfOk result (λ made. view_unit made ≡ ends.unit_by (view_scope scope) (map view_outer externals) (map view_mention mentions)) }
+{
+    let mut scope = scope;
+    let objects = take_objects(&mut scope)?;
+    Ok(unit_with(scope, objects, externals, mentions))
+}
+
+// The unit with these functions.
+fn unit_behind(scope: Scope, externals: Items<Outer>) -> Result<CoreUnit, Memory>
+    ensures { IfOk result (λ made. view_unit made ≡ ends.unit_behind (view_scope scope) (map view_outer externals)) }
+{
+    let mut scope = scope;
+    let mentions = take_mentions(&mut scope)?;
+    unit_by(scope, externals, mentions)
+}
 
 /// The typed unit of the scope at its end (ISO C99, 6.9). Refused only for want of memory.
 pub fn unit_of(scope: Scope) -> Result<CoreUnit, Memory>
     ensures { IfOk result (λ made. view_unit made ≡ declare.unit_of (view_scope scope)) }
 {
-    let Scope {
-        alloc,
-        unit,
-        types,
-        literals,
-        mentions,
-        objects,
-        functions,
-        things,
-        ..
-    } = scope;
-    let externals = outers_of(alloc, things.as_slice())?;
-    let mentions = final_mentions(alloc, things.as_slice(), mentions)?;
-    let objects = all_objects(alloc, unit, things.as_slice(), objects, literals)?;
-    Ok(CoreUnit {
-        types,
-        objects,
-        functions,
-        externals,
-        mentions,
-    })
+    let externals = outers_of(scope.alloc, scope.things.as_slice())?;
+    unit_behind(scope, externals)
 }
