@@ -1,0 +1,5 @@
+pub mod Heads
+pub mod Loops
+pub mod Opened
+pub mod Rests
+pub mod Told
