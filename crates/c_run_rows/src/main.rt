@@ -2,6 +2,8 @@
 //! and a call from outside (ISO C99, 5.1.2.3). Each line of standard output is how one run came out, with how many answers it took.
 #![tactic(auto)]
 
+ghost use Rattle.std.specs.Prelude.{◌≤◌};
+
 mod nodes;
 mod program;
 mod statements;
