@@ -50,12 +50,12 @@ pub(crate) fn all_mentions(alloc: Global, units: &[CoreUnit]) -> Result<Items<Me
 fn record_or_none(
     alloc: Global,
     before: Counts,
-    record: &Option<RecordTy>,
+    one: &Option<RecordTy>,
 ) -> Result<Option<RecordTy>, Memory>
-    ensures { IfOk result (λ made. option_map view_record made ≡ option_map (record_there (view_counts before)) (option_map view_record record.now)) }
+    ensures { IfOk result (λ made. option_map view_record made ≡ option_map (record_there (view_counts before)) (option_map view_record one.now)) }
 {
-    match record {
-        Some(one) => Ok(Some(record_there(alloc, before, one)?)),
+    match one {
+        Some(known) => Ok(Some(record_there(alloc, before, known)?)),
         None => Ok(None),
     }
 }
