@@ -19,6 +19,10 @@
 #    a byte; the time of a row without statements is taken off.
 # 7. How many units a second a run of a crate takes, by the rows: of a loop of 5,000,000 turns with one comparison and one addition
 #    each, over a list store; the time of a row of one turn is taken off.
+# 8. How long `run-c` takes and how much memory, with its start: of a loop of 10,000,000 steps, and of a list of 500,000 nodes that is made, added up and
+#    freed.
+# 9. `transpile` against `gcc -fsyntax-only` on large units, each with its start: 70,000 objects, 20,000 members, 400 levels of blocks, and 64 units of
+#    1 MiB; and the same of a quarter of each.
 set -u
 top=$(cd "$(dirname "$0")/.." && pwd)
 work=$(mktemp -d) || exit 1
@@ -267,6 +271,95 @@ run_row 5000000 >"$work/turns.row"
 awk -v none="$(least_of 5 on_row one_turn.row)" -v ours="$(least_of 5 on_row turns.row)" 'BEGIN {
   printf "a run of a loop of additions: %.2f million units a second\n", 5000 / ((ours - none) / 1e6)
 }'
+
+# timed NAME WORD..: the time and the memory of the program with these words.
+timed() {
+  local name=$1 said
+  shift
+  said=$(cd "$work" && /usr/bin/time -f '%U %M' "$program" "$@" 2>&1 >/dev/null | tail -1)
+  awk -v name="$name" -v said="$said" 'BEGIN { split(said, part, " "); printf "%s: %.2f s, %.1f MB\n", name, part[1], part[2] * 1024 / 1e6 }'
+}
+
+if [ -x /usr/bin/time ]; then
+  cat >"$work/loop.c" <<'C'
+int main(void)
+{
+    int i = 0, sum = 0;
+    while (i < 1000000) {
+        sum = sum + 3;
+        i = i + 1;
+    }
+    return sum != 3000000;
+}
+C
+  cat >"$work/nodes.c" <<'C'
+void *malloc(unsigned long);
+void free(void *);
+struct node { struct node *next; int value; };
+int main(void)
+{
+    struct node *first = 0, *one;
+    long sum = 0;
+    int i;
+    for (i = 0; i < 500000; i++) {
+        one = malloc(sizeof *one);
+        one->next = first;
+        one->value = i;
+        first = one;
+    }
+    for (one = first; one; one = one->next)
+        sum += one->value;
+    while (first) {
+        one = first->next;
+        free(first);
+        first = one;
+    }
+    return sum != 124999750000;
+}
+C
+  timed 'run-c of a loop, 10 million steps' run-c --steps 10000000 loop.c
+  timed 'run-c of a list of 500,000 nodes' run-c --steps 1000000000 nodes.c
+
+  # A unit of COUNT objects, of a structure of COUNT members, of COUNT levels of blocks, and of SIZE bytes of functions.
+  objects() { awk -v n="$1" 'BEGIN { for (i = 0; i < n; i++) printf "int o%d;\n", i; print "int main(void) { return o1; }" }'; }
+  members() { awk -v n="$1" 'BEGIN { print "struct s {"; for (i = 0; i < n; i++) printf "int m%d;\n", i; print "} x; int main(void) { return x.m1; }" }'; }
+  levels() { awk -v n="$1" 'BEGIN { print "int main(void) {"; for (i = 0; i < n; i++) printf "{ int b%d = %d;\n", i, i; for (i = 0; i < n; i++) print "}"; print "return 0; }" }'; }
+  functions() {
+    awk -v size="$1" -v unit="$2" 'BEGIN {
+      for (i = 0; done < size - 200; i++) {
+        line = sprintf("int f%d_%d(int a) { int b = a + %d; if (b > 3) b = b * 2; else b -= 1; return b; }", unit, i, i)
+        print line
+        done += length(line) + 1
+      }
+      if (unit == 0) print "int main(void) { return f0_1(2); }"
+    }'
+  }
+
+  # large NAME FILE..: the time of the program and its ratio to that of gcc.
+  large() {
+    local name=$1 ours theirs
+    shift
+    ours=$(cd "$work" && /usr/bin/time -f '%e %M' "$program" transpile -o large "$@" 2>&1 >/dev/null | tail -1)
+    theirs=$(cd "$work" && /usr/bin/time -f '%e' gcc -std=c99 -fsyntax-only "$@" 2>&1 >/dev/null | tail -1)
+    awk -v name="$name" -v ours="$ours" -v theirs="$theirs" 'BEGIN {
+      split(ours, part, " ")
+      printf "%s: %.2f s, %.1f MB, gcc -fsyntax-only %.2f s, ratio %.1f\n", name, part[1], part[2] * 1024 / 1e6, theirs, part[1] / (theirs + 0.005)
+    }'
+  }
+  for count in 17500 70000; do objects $count >"$work/large.c"; large "$count objects" large.c; done
+  for count in 5000 20000; do members $count >"$work/large.c"; large "$count members" large.c; done
+  for count in 100 400; do levels $count >"$work/large.c"; large "$count levels of blocks" large.c; done
+  for count in 16 64; do
+    names=()
+    for unit in $(seq 0 $((count - 1))); do
+      functions 1048576 "$unit" >"$work/large$unit.c"
+      names+=("large$unit.c")
+    done
+    large "$count units of 1 MiB" "${names[@]}"
+  done
+else
+  echo "skipped: runs of C and large units (/usr/bin/time isn't there)"
+fi
 
 # full NAME ROW: the memory that the program takes where a row fills a region.
 full() {

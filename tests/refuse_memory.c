@@ -1,7 +1,9 @@
 /* A stand-in for the allocator of the C library, in which one request for memory is refused: that with the
-   number in the variable REFUSED, counted from 1. Built as a shared library and loaded before the program. */
+   number in the variable REFUSED, counted from 1. At its end the program leaves the number of its requests in the file that REQUESTS names.
+   Built as a shared library and loaded before the program. */
 #define _GNU_SOURCE
 #include <dlfcn.h>
+#include <stdio.h>
 #include <stdlib.h>
 
 static long requests;
@@ -11,6 +13,17 @@ static int refused(void)
     const char *number = getenv("REFUSED");
     requests++;
     return number != NULL && atol(number) == requests;
+}
+
+__attribute__((destructor)) static void tell(void)
+{
+    const char *name = getenv("REQUESTS");
+    long counted = requests;
+    FILE *file = name == NULL ? NULL : fopen(name, "w");
+    if (file == NULL)
+        return;
+    fprintf(file, "%ld\n", counted);
+    fclose(file);
 }
 
 void *malloc(size_t size)

@@ -1,4 +1,5 @@
 mod busy;
 mod slow;
+mod streams;
 mod sure;
 mod trees;

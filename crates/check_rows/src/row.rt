@@ -1,8 +1,10 @@
 use crate::answer::Answer;
-use crate::fault::RowFault;
+use crate::fault::{RowFault, given};
 use crate::place::{constant_in, value_in};
 use crate::text::unit_of;
 use crate::types::write_type;
+use crate::units::write_units;
+use cx_decl::check_unit;
 use cx_tree::Unit;
 use std::alloc::{AllocError, Global};
 
@@ -22,10 +24,11 @@ fn write_answer(alloc: Global, row: &str, out: &mut Answer) -> Result<(), RowFau
     let Some((word, text)) = row.split_once(' ') else {
         return Err(RowFault::Form);
     };
-    let unit = unit_of(alloc, text)?;
     match word {
-        "expression" => write_expression(alloc, &unit, out),
-        "constant" => write_constant(alloc, &unit, out),
+        "expression" => write_expression(alloc, &unit_of(alloc, text)?, out),
+        "constant" => write_constant(alloc, &unit_of(alloc, text)?, out),
+        "unit" => write_unit(alloc, &unit_of(alloc, text)?, out),
+        "units" => write_units(alloc, text, out),
         _ => Err(RowFault::Form),
     }
 }
@@ -33,6 +36,12 @@ fn write_answer(alloc: Global, row: &str, out: &mut Answer) -> Result<(), RowFau
 fn write_expression(alloc: Global, unit: &Unit, out: &mut Answer) -> Result<(), RowFault> {
     let made = value_in(alloc, unit)?;
     write_type(&made.get().ty, out);
+    Ok(())
+}
+
+fn write_unit(alloc: Global, unit: &Unit, out: &mut Answer) -> Result<(), RowFault> {
+    let _typed = given(check_unit(alloc, unit, 0))?;
+    out.text("typed");
     Ok(())
 }
 

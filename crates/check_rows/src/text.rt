@@ -17,8 +17,8 @@ pub(crate) fn unit_of(alloc: Global, text: &str) -> Result<Unit, RowFault> {
     given(parse(alloc, tokens.as_slice(), 0))
 }
 
-// The bytes of a text, in which `$n` stands for a newline.
-fn bytes_of(alloc: Global, text: &str) -> Result<Vec<u8>, RowFault> {
+/// The bytes of a text, in which `$n` stands for a newline.
+pub(crate) fn bytes_of(alloc: Global, text: &str) -> Result<Vec<u8>, RowFault> {
     let mut bytes = Vec::new(alloc);
     for (place, piece) in text.split("$n").enumerate() {
         if place > 0 {

@@ -1,4 +1,4 @@
-ghost use Rattle.std.specs.Prelude.{◌≡◌, ◌↔◌, ◌+◌, ◌-◌, ◌^◌, ◌<◌, pos, neg_ℤ, ◌≤ℤ◌, ◌<ℤ◌, IsTrue};
+ghost use Rattle.std.specs.Prelude.{◌≡◌, ◌↔◌, ◌+◌, ◌-◌, ◌^◌, ◌<◌, true, false, pos, neg_ℤ, ◌≤ℤ◌, ◌<ℤ◌, IsTrue};
 ghost use Rattle.cr_base.specs.Scalar.{is_width, IsWhole, IsInteger, IsInRange, residue, modulus, from_half, wrapped, converted};
 
 /// A whole number of the meanings. It holds each value of each integer type of the profile.
@@ -62,7 +62,7 @@ fn half_of(width: u8) -> u64
     1u64 << (width - 1)
 }
 
-#[tactic(auto, using(crate::proofs::Residues::residue_wrapped))]
+#[inline(always)]
 fn wrap_whole(width: u8, signed: bool, value: Int) -> Int
     requires { IsTrue (is_width width) }
     ensures in_range { IsInRange (Scalar.Whole width signed) result }
@@ -70,9 +70,39 @@ fn wrap_whole(width: u8, signed: bool, value: Int) -> Int
     ensures value { result ≡ wrapped (Scalar.Whole width signed) value }
 {
     if signed {
-        wrap_signed(half_of(width), value)
+        wrap_signed_whole(width, value)
     } else {
-        value.rem_euclid(1i128 << width)
+        wrap_unsigned(width, value)
+    }
+}
+
+// A case for each width, so that no division is by a variable.
+#[inline(always)]
+fn wrap_signed_whole(width: u8, value: Int) -> Int
+    requires { IsTrue (is_width width) }
+    ensures in_range { IsInRange (Scalar.Whole width true) result }
+    ensures value { result ≡ wrapped (Scalar.Whole width true) value }
+{
+    match width {
+        8 => wrap_signed(1 << 7, value),
+        16 => wrap_signed(1 << 15, value),
+        32 => wrap_signed(1 << 31, value),
+        _ => wrap_signed(1 << 63, value),
+    }
+}
+
+// The number modulo 2^width. A case for each width, so that no division is by a variable.
+#[inline(always)]
+fn wrap_unsigned(width: u8, value: Int) -> Int
+    requires { IsTrue (is_width width) }
+    ensures in_range { IsInRange (Scalar.Whole width false) result }
+    ensures value { result ≡ pos (residue value (2 ^ width)) }
+{
+    match width {
+        8 => value.rem_euclid(1 << 8),
+        16 => value.rem_euclid(1 << 16),
+        32 => value.rem_euclid(1 << 32),
+        _ => value.rem_euclid(1 << 64),
     }
 }
 
@@ -89,6 +119,7 @@ fn fits_whole(width: u8, signed: bool, value: Int) -> bool
 }
 
 // The number reduced modulo 2 * half, from -half to half - 1.
+#[inline(always)]
 fn wrap_signed(half: u64, value: Int) -> Int
     requires { 0 < half }
     ensures in_range { (neg_ℤ (pos half) ≤ℤ result) × (result <ℤ pos half) }

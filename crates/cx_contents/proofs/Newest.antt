@@ -3,68 +3,17 @@ use Rattle.std.proofs.Common.{◌≡◌, refl, sym, ap, ◌∙◌, subst, ℕ, �
 use Rattle.std.proofs.lemmas.List.{append_assoc, length-map, length-reverse, map-set, reverse-append, reverse-reverse}
 use Rattle.std.proofs.lemmas.Option.{slice_get-map}
 use Rattle.std.specs.List.{list_any}
-use Rattle.cx_contents.specs.Contents.{declares_object, is_object_meant, newest, object_retyped, redeclared, redeclare_first}
+use Rattle.cx_contents.specs.Contents.{declares_object, is_object_meant, is_object_in, object_retyped, redeclared, redeclare_first}
 use Rattle.cx_core.specs.Trees.{CTy}
-use Rattle.cx_rules.specs.Scope.{CMeant, an_object, a_function, a_type_name, an_enumerator, a_tag, CDeclared}
+use Rattle.cx_scope.proofs.Splits.{splits, there, set_there}
+use Rattle.cx_scope.specs.Names.{newest, declares}
+use Rattle.cx_scope.specs.Views.{view_declared, view_meant}
+use Rattle.cx_scope.specs.declared.meant.Declared.{Declared}
+use Rattle.cx_scope.specs.declared.meant.Meant.{Meant}
+use Rattle.cx_rules.specs.Scope.{CMeant, an_object, a_function, a_type_name, an_enumerator, a_tag, CDeclared, is_ordinary}
 
 pub older_count : {A B : Type 0} (view : A → B) (xs : List A) → length (reverse (map view xs)) ≡ length xs
 older_count view xs = length-reverse (map view xs) ∙ length-map xs view
-
--- ---- the newest that passes a test, with those before and behind
-
-record Splits {A : Type 0} (test : A → Bool) (n : ℕ) (xs : List A) : Type 0 where
-  front : List A
-  one : A
-  back : List A
-  is : xs ≡ front ++ one ∷ back
-  older : length back ≡ n
-  none : list_any test front ≡ false
-  passes : test one ≡ true
-
-split_head : {A : Type 0} (test : A → Bool) (n : ℕ) (x : A) (xs : List A) (b : Bool) → test x ≡ b → (if b then Some (length xs) else newest test xs) ≡ Some n
-    → (newest test xs ≡ Some n → Splits test n xs) → Splits test n (x ∷ xs)
-split_head test n x xs true t e rest = record { front = []; one = x; back = xs; is = refl; older = cc; none = refl; passes = t }
-split_head test n x xs false t e rest =
-    let s = rest e in
-    record { front = x ∷ s.front; one = s.one; back = s.back; is = ap (λ others. x ∷ others) s.is; older = s.older; none = rw t s.none; passes = s.passes }
-
-splits : {A : Type 0} (test : A → Bool) (n : ℕ) (xs : List A) → newest test xs ≡ Some n → Splits test n xs
-splits test n [] e = absurd cc
-splits test n (x ∷ xs) e = split_head test n x xs (test x) refl e (λ f. splits test n xs f)
-
-set_middle : {A : Type 0} (front back : List A) (x y : A) → slice_set (front ++ x ∷ back) (length front) y ≡ front ++ y ∷ back
-set_middle [] back x y = refl
-set_middle (z ∷ front) back x y = ap (λ others. z ∷ others) (set_middle front back x y)
-
-get_middle : {A : Type 0} (front back : List A) (x : A) → slice_get (front ++ x ∷ back) (length front) ≡ Some x
-get_middle [] back x = refl
-get_middle (z ∷ front) back x = get_middle front back x
-
-turned : {A : Type 0} (front back : List A) (x : A) → reverse (front ++ x ∷ back) ≡ reverse back ++ x ∷ reverse front
-turned front back x =
-    reverse-append front (x ∷ back) ∙ ap (λ later. later ++ reverse front) (reverse-append (x ∷ []) back)
-    ∙ append_assoc (reverse back) (x ∷ []) (reverse front)
-
--- a list that is held the other way round
-module _ {A : Type 0} (test : A → Bool) (n : ℕ) (held : List A) (s : Splits test n (reverse held)) where
-  held_is : held ≡ reverse s.back ++ s.one ∷ reverse s.front
-  held_is = sym (reverse-reverse held) ∙ ap reverse s.is ∙ turned s.front s.back s.one
-
-  place_is : n ≡ length (reverse s.back)
-  place_is = sym (length-reverse s.back ∙ s.older)
-
-  there : slice_get held n ≡ Some s.one
-  there = ap (λ xs. slice_get xs n) held_is ∙ ap (λ k. slice_get (reverse s.back ++ s.one ∷ reverse s.front) k) place_is
-      ∙ get_middle (reverse s.back) (reverse s.front) s.one
-
-  set_there : (y : A) → reverse (slice_set held n y) ≡ s.front ++ y ∷ s.back
-  set_there y =
-      ap (λ xs. reverse (slice_set xs n y)) held_is
-      ∙ ap (λ k. reverse (slice_set (reverse s.back ++ s.one ∷ reverse s.front) k y)) place_is
-      ∙ ap reverse (set_middle (reverse s.back) (reverse s.front) s.one y)
-      ∙ turned (reverse s.back) (reverse s.front) y
-      ∙ ap (λ front. front ++ y ∷ reverse (reverse s.back)) (reverse-reverse s.front)
-      ∙ ap (λ back. s.front ++ y ∷ back) (reverse-reverse s.back)
 
 -- ---- what is declared anew
 
@@ -129,3 +78,93 @@ redeclares view name type raw now n before made meant found get set retyped is =
     ∙ set_there (declares_object name) n (map view raw) s (view made)
     ∙ ap (λ x. s.front ++ x ∷ s.back) new
     ∙ sym (ap (redeclare_first name type) s.is ∙ first_redeclared name type s.front s.back s.one s.none s.passes)
+
+-- ---- the newest of a name is an object, as a rule
+
+and_true : (a : Bool) → (a && true) ≡ a
+and_true true = refl
+and_true false = refl
+
+and_false : (a : Bool) → (a && false) ≡ false
+and_false true = refl
+and_false false = refl
+
+not_object : (name own : List ℕ) (meant : CMeant) → declares true name (record { name = own; meant = meant }) ≡ false → (bytes_eq own name && is_object_meant meant) ≡ false
+not_object name own (an_object number type is_register linkage) e = and_true (bytes_eq own name) ∙ e
+not_object name own (a_function number type linkage) e = and_false (bytes_eq own name)
+not_object name own (a_type_name type) e = and_false (bytes_eq own name)
+not_object name own (an_enumerator value) e = and_false (bytes_eq own name)
+not_object name own (a_tag is_record is_open number) e = and_false (bytes_eq own name)
+
+or_left : (a b : Bool) → (a || b) ≡ false → (a ≡ false) × (b ≡ false)
+or_left true b e = absurd cc
+or_left false b e = (refl, e)
+
+or_both : (a b : Bool) → a ≡ false → b ≡ false → (a || b) ≡ false
+or_both true b e f = absurd cc
+or_both false b e f = f
+
+none_objects : (name : List ℕ) (xs : List CDeclared) → list_any (declares true name) xs ≡ false → list_any (declares_object name) xs ≡ false
+none_objects name [] e = refl
+none_objects name (x ∷ xs) e =
+    let h = or_left (declares true name x) (list_any (declares true name) xs) e in
+    or_both (declares_object name x) (list_any (declares_object name) xs) (not_object name x.name x.meant h.0) (none_objects name xs h.1)
+
+skip_head : (b any : Bool) (count : ℕ) (place other : Option ℕ) → (b || any) ≡ false → (any ≡ false → place ≡ other) → (if b then Some count else place) ≡ other
+skip_head true any count place other e rest = absurd cc
+skip_head false any count place other e rest = rest e
+
+take_head : (b : Bool) (count : ℕ) (place : Option ℕ) → b ≡ true → (if b then Some count else place) ≡ Some count
+take_head true count place e = refl
+take_head false count place e = absurd cc
+
+newest_behind : (test : CDeclared → Bool) (front back : List CDeclared) (one : CDeclared) → list_any test front ≡ false → test one ≡ true → newest test (front ++ one ∷ back) ≡ Some (length back)
+newest_behind test [] back one none passes = take_head (test one) (length back) (newest test back) passes
+newest_behind test (x ∷ front) back one none passes =
+    skip_head (test x) (list_any test front) (length (front ++ one ∷ back)) (newest test (front ++ one ∷ back)) (Some (length back)) none
+    (λ e. newest_behind test front back one e passes)
+
+none_found : (test : CDeclared → Bool) (xs : List CDeclared) → list_any test xs ≡ false → newest test xs ≡ None
+none_found test [] e = refl
+none_found test (x ∷ xs) e = skip_head (test x) (list_any test xs) (length xs) (newest test xs) None e (λ f. none_found test xs f)
+
+none_head_any : (b : Bool) (count : ℕ) (place : Option ℕ) (any : Bool) → (if b then Some count else place) ≡ None → (place ≡ None → any ≡ false) → (b || any) ≡ false
+none_head_any true count place any e rest = absurd cc
+none_head_any false count place any e rest = rest e
+
+none_any : (test : CDeclared → Bool) (xs : List CDeclared) → newest test xs ≡ None → list_any test xs ≡ false
+none_any test [] e = refl
+none_any test (x ∷ xs) e = none_head_any (test x) (length xs) (newest test xs) (list_any test xs) e (λ f. none_any test xs f)
+
+pub no_object : (name : List ℕ) (xs : List CDeclared) → newest (declares true name) xs ≡ None → newest (declares_object name) xs ≡ None
+no_object name xs e = none_found (declares_object name) xs (none_objects name xs (none_any (declares true name) xs e))
+
+object_passes : (name own : List ℕ) (meant : CMeant) → declares true name (record { name = own; meant = meant }) ≡ true → is_object_meant meant ≡ true → (bytes_eq own name && is_object_meant meant) ≡ true
+object_passes name own (an_object number type is_register linkage) e is = and_true (bytes_eq own name) ∙ e
+object_passes name own (a_function number type linkage) e is = absurd cc
+object_passes name own (a_type_name type) e is = absurd cc
+object_passes name own (an_enumerator value) e is = absurd cc
+object_passes name own (a_tag is_record is_open number) e is = absurd cc
+
+-- where it is an object, it is the newest of the objects of the name
+pub object_newest : (name : List ℕ) (list : List Declared) (n : ℕ) → newest (declares true name) (reverse (map view_declared list)) ≡ Some n
+    → is_object_in (option_map view_declared (slice_get list n)) ≡ true
+    → newest (declares_object name) (reverse (map view_declared list)) ≡ Some n
+object_newest name list n e is =
+    let s = splits (declares true name) n (reverse (map view_declared list)) e in
+    let object : is_object_meant s.one.meant ≡ true = subst (λ found. is_object_in found ≡ true) (sym (slice_get-map view_declared list n) ∙ there (declares true name) n (map view_declared list) s) is in
+    ap (newest (declares_object name)) s.is
+    ∙ newest_behind (declares_object name) s.front s.back s.one (none_objects name s.front s.none) (object_passes name s.one.name s.one.meant s.passes object)
+    ∙ ap Some s.older
+
+retyped_ordinary : (type : CTy) (meant made : CMeant) → object_retyped type meant ≡ Some made → is_ordinary meant ≡ is_ordinary made
+retyped_ordinary type (an_object number before is_register linkage) made e = ap is_ordinary (let h : an_object number type is_register linkage ≡ made = cc in h)
+retyped_ordinary type (a_function number before linkage) made e = absurd cc
+retyped_ordinary type (a_type_name before) made e = absurd cc
+retyped_ordinary type (an_enumerator value) made e = absurd cc
+retyped_ordinary type (a_tag is_record is_open number) made e = absurd cc
+
+-- it stays in its name space
+pub stays_ordinary : (type : CTy) (meant : CMeant) (made : Option Meant) (one : Meant) → option_map view_meant made ≡ object_retyped type meant → made ≡ Some one
+    → is_ordinary meant ≡ is_ordinary (view_meant one)
+stays_ordinary type meant made one retyped is = retyped_ordinary type meant (view_meant one) (sym retyped ∙ ap (option_map view_meant) is)

@@ -4,7 +4,7 @@ use Rattle.cx_core.specs.declared.program.Linkage.{Linkage}
 use Rattle.cx_core.specs.declared.program.Linkage.TheVariants.{Nothing}
 use Rattle.cx_core.specs.Trees.{CTy, CPuts, CObject, CFun, defines}
 use Rattle.cx_entities.specs.Entities.{function_number}
-use Rattle.cx_rules.specs.Declare.{CDeclaring, is_linked, thing_named, with_object_at, with_linked_function}
+use Rattle.cx_rules.specs.Declare.{CDeclaring, beside_thing, linked_thing, thing_named, with_object_at, with_linked_function}
 use Rattle.cx_rules.specs.Scope.{CMeant, an_object, a_function, a_type_name, an_enumerator, a_tag, CDeclared, CMade, CScope, CThing, no_labels, left, with_declared, with_mention, mention_of, with_told_type}
 use Rattle.cx_rules.specs.Shapes.{CParam, CStep, to_function}
 
@@ -46,10 +46,10 @@ redeclare_first name type [] = []
 redeclare_first name type (one ∷ others) =
     if bytes_eq one.name name && is_object_meant one.meant then redeclared name type one ∷ others else one ∷ redeclare_first name type others
 
--- how many declarations are older than the newest that passes a test
-abbrev pub newest : {A : Type 0} → (A → Bool) → List A → Option ℕ
-newest test [] = None
-newest test (one ∷ older) = if test one then Some (length older) else newest test older
+-- an object is declared, where anything is
+abbrev pub is_object_in : Option CDeclared → Bool
+is_object_in None = false
+is_object_in (Some one) = is_object_meant one.meant
 
 abbrev pub with_redeclared : List ℕ → CTy → CScope → CScope
 with_redeclared name type scope = record scope { declared = redeclare_first name type scope.declared }
@@ -59,6 +59,11 @@ with_redeclared name type scope = record scope { declared = redeclare_first name
 abbrev pub stored_in : Bool → CTy → CPuts → CObject → CObject
 stored_in true type puts one = record one { type = type; puts = Some puts }
 stored_in false type puts one = record one { type = type }
+
+-- what is stored is told of an object that lives as long as the program
+abbrev pub told_puts : Bool → CPuts → Option CPuts
+told_puts true puts = Some puts
+told_puts false puts = None
 
 abbrev pub stored_at : Option ℕ → Bool → CTy → CPuts → List CObject → List CObject
 stored_at None is_static type puts objects = objects
@@ -80,9 +85,6 @@ abbrev pub completed_thing : List ℕ → CTy → Option CThing → CScope → C
 completed_thing name type None scope = scope
 completed_thing name type (Some one) scope = record scope { things = map (same_thing name (thing_completed type one)) scope.things }
 
-abbrev pub linked_thing : Linkage → List ℕ → List CThing → Option CThing
-linked_thing linkage name things = if is_linked linkage then thing_named name things else None
-
 abbrev pub with_thing_completed : Linkage → List ℕ → CTy → CScope → CScope
 with_thing_completed linkage name type scope = completed_thing name type (linked_thing linkage name scope.things) scope
 
@@ -94,11 +96,16 @@ completed_mention (Some index) type scope = with_told_type index type scope
 
 -- ---- the whole
 
+-- the name has one type, and the object another: that beside all declarations of the unit
+abbrev pub with_content_as : CContent → (type whole : CTy) → CPuts → CScope → CScope
+with_content_as one type whole puts scope =
+    completed_mention one.mention whole
+    (completed_thing one.name whole (linked_thing one.linkage one.name scope.things)
+    (with_stored one.is_static whole puts one.object (with_redeclared one.name type scope)))
+
 abbrev pub with_content : CContent → CTy → CPuts → CScope → CScope
 with_content one type puts scope =
-    completed_mention one.mention type
-    (completed_thing one.name type (linked_thing one.linkage one.name scope.things)
-    (with_stored one.is_static type puts one.object (with_redeclared one.name type scope)))
+    with_content_as one type (beside_thing type (linked_thing one.linkage one.name scope.things)) puts scope
 
 -- ---- heads of functions
 

@@ -13,7 +13,7 @@ ghost use Rattle.cx_shapes.specs.Views.{view_step};
 use cr_base::{Boxed, Items, Memory, Name};
 use cx_core::{CoreObject, Fun, Linkage};
 use cx_entities::{Declaring, add_meant, declare_function, function_number, told_mention};
-use cx_scope::{Declared, Labels, Meant, Param, Scope};
+use cx_scope::{Declarations, Declared, Labels, Meant, Objects, Param, Scope};
 use cx_shapes::Step;
 use std::alloc::Global;
 
@@ -78,7 +78,7 @@ fn within_steps(alloc: Global, steps: Items<Step>) -> Within
     }
 }
 
-fn add_within(declared: &mut Items<Declared>, within: Items<Declared>) -> Result<(), Memory>
+fn add_within(declared: &mut Declarations, within: Items<Declared>) -> Result<(), Memory>
     ensures { OnOk result (reverse (map view_declared declared.new) ≡ map view_declared within ++ reverse (map view_declared declared.old)) }
 {
     let mut within = within;
@@ -117,9 +117,9 @@ fn add_params(
     alloc: Global,
     unit: u32,
     params: &[Param],
-    objects: &mut Vec<CoreObject>,
+    objects: &mut Objects,
 ) -> Result<(), Memory>
-    ensures { OnOk result (map view_object objects.new.items ≡ map view_object objects.old.items ++ map (contents.param_object unit) (map view_param params.now)) }
+    ensures { OnOk result (map view_object objects.new ≡ map view_object objects.old ++ map (contents.param_object unit) (map view_param params.now)) }
 {
     for one in params {
         let made = param_object(unit, alloc, one)?;

@@ -13,7 +13,7 @@ use crate::names::redeclare;
 use crate::stores::store;
 use cr_base::{Boxed, Items, Memory, Name};
 use cx_core::{Linkage, Mention, Put, Ty};
-use cx_entities::{is_linked, thing_at};
+use cx_entities::{beside_thing, is_linked};
 use cx_scope::{Scope, Thing};
 use std::alloc::Global;
 
@@ -51,7 +51,7 @@ fn complete_thing(scope: &mut Scope, name: &Name, ty: &Ty) -> Result<(), Memory>
     ensures completed { OnOk result (view_scope scope.new ≡ contents.completed_thing name.now (view_type ty.now) (thing_named name.now (view_scope scope.old).things) (view_scope scope.old)) }
     ensures types { (view_scope scope.new).types ≡ (view_scope scope.old).types }
 {
-    let Some(index) = thing_at(scope.things.as_slice(), name)? else {
+    let Some(index) = scope.things.at(name) else {
         return Ok(());
     };
     let Some(before) = scope.things.get(index) else {
@@ -100,8 +100,9 @@ fn retell_at(scope: &mut Scope, index: u64, ty: &Ty) -> Result<(), Memory>
     Ok(())
 }
 
-/// An initialiser has ended: the declared object and its name have the type that it gives, and what is stored before the program begins
-/// is known (ISO C99, 6.7.8p22). Refused only for want of memory, and then nothing is said but that the types stay.
+/// An initialiser has ended: the declared name has the type that it gives, the object has that type beside all declarations of the unit,
+/// and what is stored before the program begins is known (ISO C99, 6.2.7p4, 6.7.8p22). Refused only for want of memory, and then nothing
+/// is said but that the types stay.
 pub fn complete(
     scope: &mut Scope,
     one: Content<'_>,
@@ -111,8 +112,10 @@ pub fn complete(
     ensures completed { OnOk result (view_scope scope.new ≡ contents.with_content (view_content one.entry) (view_type ty.now) (view_puts puts) (view_scope scope.old)) }
     ensures types { (view_scope scope.new).types ≡ (view_scope scope.old).types }
 {
+    let made = beside_thing(scope, one.linkage, one.name, ty)?;
+    let whole = made.get();
     redeclare(scope, one.name, ty)?;
-    store(scope, one.object, one.is_static, ty, puts)?;
-    complete_linked(scope, one.linkage, one.name, ty)?;
-    retell(scope, one.mention, ty)
+    store(scope, one.object, one.is_static, whole, puts)?;
+    complete_linked(scope, one.linkage, one.name, whole)?;
+    retell(scope, one.mention, whole)
 }

@@ -1,14 +1,15 @@
 //! Names whose type an initialiser completes (ISO C99, 6.7.8p22).
 #![tactic(auto, unfolding(cx_scope::specs::Views::view_scope))]
 
-ghost use Rattle.std.specs.Prelude.{◌≡◌, map, reverse, option_map, IfOk, OnOk};
+ghost use Rattle.std.specs.Prelude.{◌≡◌, map, reverse, slice_get, option_map, IfOk, OnOk};
+ghost use Rattle.cx_scope.specs.Names.{newest};
 ghost use Rattle.cx_contents.specs.Contents as contents;
 ghost use Rattle.cx_core.specs.Views.{view_type};
 ghost use Rattle.cx_scope.specs.Views.{view_declared, view_meant, view_scope};
 
 use cr_base::{Memory, Name};
 use cx_core::Ty;
-use cx_scope::{Declared, Meant, Scope};
+use cx_scope::{Declarations, Declared, Meant, Scope};
 use std::alloc::Global;
 
 fn is_object(meant: &Meant) -> bool
@@ -29,10 +30,10 @@ fn declares_object(one: &Declared, name: &Name) -> bool
     one.name.bytes() == name.bytes() && is_object(&one.meant)
 }
 
-// Where the newest declaration of an object of a name stands; the oldest stands first.
+// Where the newest declaration of an object of a name stands, by a search; the oldest stands first.
 #[tactic(auto, using(crate::proofs::Newest::older_count))]
-fn newest_object(declared: &[Declared], name: &Name) -> Option<usize>
-    ensures { result ≡ contents.newest (contents.declares_object name.now) (reverse (map view_declared declared.now)) }
+fn searched_object(declared: &[Declared], name: &Name) -> Option<usize>
+    ensures { result ≡ newest (contents.declares_object name.now) (reverse (map view_declared declared.now)) }
 {
     let mut left = declared;
     while let Some((last, older)) = left.split_last() {
@@ -42,6 +43,28 @@ fn newest_object(declared: &[Declared], name: &Name) -> Option<usize>
         left = older;
     }
     None
+}
+
+// Where the newest declaration of an object of a name stands: as a rule, it is the newest of the name.
+fn newest_object(declared: &Declarations, name: &Name) -> Option<usize>
+    ensures { result ≡ newest (contents.declares_object name.now) (reverse (map view_declared declared.now)) }
+{
+    let Some(place) = declared.place_of(name) else {
+        return None;
+    };
+    if is_object_at(declared, place) {
+        return Some(place);
+    }
+    searched_object(declared.as_slice(), name)
+}
+
+fn is_object_at(declared: &Declarations, place: usize) -> bool
+    ensures { result ≡ contents.is_object_in (option_map view_declared (slice_get declared.now place)) }
+{
+    match declared.get(place) {
+        None => false,
+        Some(one) => is_object(&one.meant),
+    }
 }
 
 // The meaning of a name of an object with another type.
@@ -75,7 +98,7 @@ pub(crate) fn redeclare(scope: &mut Scope, name: &Name, ty: &Ty) -> Result<(), M
     ensures named { OnOk result (view_scope scope.new ≡ contents.with_redeclared name.now (view_type ty.now) (view_scope scope.old)) }
     ensures types { (view_scope scope.new).types ≡ (view_scope scope.old).types }
 {
-    let Some(index) = newest_object(scope.declared.as_slice(), name) else {
+    let Some(index) = newest_object(&scope.declared, name) else {
         return Ok(());
     };
     let Some(before) = scope.declared.get(index) else {

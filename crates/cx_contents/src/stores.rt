@@ -1,57 +1,20 @@
 //! What initialisers store in objects before the program begins (ISO C99, 6.7.8p10).
 #![tactic(auto, unfolding(cx_scope::specs::Views::view_scope))]
 
-ghost use Rattle.std.specs.Prelude.{◌≡◌, Some, map, OnOk};
+ghost use Rattle.std.specs.Prelude.{◌≡◌, option_map, OnOk};
 ghost use Rattle.cx_contents.specs.Contents as contents;
-ghost use Rattle.cx_core.specs.Views.{view_object, view_puts, view_type};
-ghost use Rattle.cx_entities.specs.Places.{changed_at};
+ghost use Rattle.cx_core.specs.Views.{view_puts, view_type};
 ghost use Rattle.cx_scope.specs.Views.{view_scope};
 
-use cr_base::{Boxed, Items, Memory};
-use cx_core::{CoreObject, Put, Ty};
-use cx_entities::object_at;
+use cr_base::{Items, Memory};
+use cx_core::{Put, Ty};
 use cx_scope::Scope;
 
-fn store_in(one: &mut CoreObject, is_static: bool, ty: Boxed<Ty>, puts: Items<Put>)
-    ensures { view_object one.new ≡ contents.stored_in is_static (view_type ty) (view_puts puts) (view_object one.old) }
+// What is stored is told of an object that lives as long as the program.
+fn told_puts(is_static: bool, puts: Items<Put>) -> Option<Items<Put>>
+    ensures { option_map view_puts result ≡ contents.told_puts is_static (view_puts puts) }
 {
-    one.ty = ty.into_inner();
-    if is_static {
-        one.puts = Some(puts);
-    }
-}
-
-fn store_at(
-    objects: &mut Vec<CoreObject>,
-    index: usize,
-    is_static: bool,
-    ty: Boxed<Ty>,
-    puts: Items<Put>,
-)
-    ensures { map view_object objects.new.items ≡ changed_at index (contents.stored_in is_static (view_type ty) (view_puts puts)) (map view_object objects.old.items) }
-{
-    if let Some(one) = objects.get_mut(index) {
-        store_in(one, is_static, ty, puts);
-    }
-}
-
-// The object with a number gets a type, and what is stored in it.
-fn store_numbered(
-    objects: &mut Vec<CoreObject>,
-    number: u32,
-    is_static: bool,
-    ty: Boxed<Ty>,
-    puts: Items<Put>,
-) -> Result<(), Memory>
-    ensures { OnOk result (map view_object objects.new.items ≡ contents.stored_at (Some number) is_static (view_type ty) (view_puts puts) (map view_object objects.old.items)) }
-{
-    match object_at(objects.as_slice(), number)? {
-        None => Ok(()),
-        Some(index) => {
-            store_at(objects, index, is_static, ty, puts);
-            Ok(())
-        }
-    }
+    if is_static { Some(puts) } else { None }
 }
 
 /// The object that was declared gets its type, and what is stored in it, where there is one. Refused only for want of memory.
@@ -69,5 +32,8 @@ pub(crate) fn store(
         return Ok(());
     };
     let own = ty.copy(scope.alloc)?;
-    store_numbered(&mut scope.objects, number, is_static, own, puts)
+    scope
+        .objects
+        .change(number, own, told_puts(is_static, puts));
+    Ok(())
 }

@@ -7,7 +7,7 @@ use Rattle.cx_core.specs.declared.program.Linkage.TheVariants.{Nothing}
 use Rattle.cx_core.specs.Trees.{CTy, CPuts, no_puts}
 use Rattle.cx_decl_steps.specs.Steps as steps
 use Rattle.cx_decl_steps.specs.Views.{content_of}
-use Rattle.cx_rules.specs.Declare.{CBegun, with_content}
+use Rattle.cx_rules.specs.Declare.{CBegun, beside_thing, linked_thing, with_content}
 use Rattle.cx_rules.specs.Pieces.{CFilled}
 use Rattle.cx_rules.specs.Scope.{CDeclared, CScope, new_scope}
 use Rattle.cx_rules.specs.UnitWalk as unit
@@ -37,9 +37,10 @@ redeclared_is name type (one ∷ others) =
 content_is : (begun : CBegun) (type : CTy) (puts : CPuts) (scope : CScope) → with_content begun type puts scope ≡ contents.with_content (content_of begun) type puts scope
 unfolding with_content
 content_is begun type puts scope =
-    ap (λ declared. contents.completed_mention begun.mention type
-    (contents.completed_thing begun.name type (contents.linked_thing begun.linkage begun.name scope.things)
-    (contents.with_stored begun.is_static type puts begun.object (record scope { declared = declared }))))
+    let whole = beside_thing type (linked_thing begun.linkage begun.name scope.things) in
+    ap (λ declared. contents.completed_mention begun.mention whole
+    (contents.completed_thing begun.name whole (linked_thing begun.linkage begun.name scope.things)
+    (contents.with_stored begun.is_static whole puts begun.object (record scope { declared = declared }))))
     (redeclared_is begun.name type scope.declared)
 
 pub content_if : (has_init : Bool) (begun : CBegun) (filled : CFilled) (scope : CScope)
@@ -56,8 +57,9 @@ content_any : (one : CContent) (is_static : Bool) → is_static ≡ false → (t
     → contents.with_content (record one { is_static = is_static }) type puts scope ≡ contents.with_content (record one { is_static = is_static }) type other scope
 content_any one true e type puts other scope = absurd cc
 content_any one false e type puts other scope =
-    ap (λ stored. contents.completed_mention one.mention type (contents.completed_thing one.name type (contents.linked_thing one.linkage one.name scope.things) stored))
-    (stored_any one.object type puts other (contents.with_redeclared one.name type scope))
+    let whole = beside_thing type (linked_thing one.linkage one.name scope.things) in
+    ap (λ stored. contents.completed_mention one.mention whole (contents.completed_thing one.name whole (linked_thing one.linkage one.name scope.things) stored))
+    (stored_any one.object whole puts other (contents.with_redeclared one.name type scope))
 
 pub content_anew : (has_init : Bool) (begun : CBegun) (filled : CFilled) (other : CPuts) (scope : CScope) → begun.is_static ≡ false
     → steps.with_content_if has_init (content_of begun) filled.type other scope ≡ unit.with_content_if has_init begun filled scope

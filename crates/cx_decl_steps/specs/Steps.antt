@@ -95,7 +95,14 @@ declared_meant literals scope place begun has_init puts =
 abbrev pub ends_as : (literals : ℕ) → SpecsPlace → CSpecs → ℕ → CBegun → Bool → CScope → CFilled → Check CMeant
 ends_as literals place specs line begun has_init scope filled =
     walk.changed Check check_gives check_chain check_here check_becomes check_look scope line
-    (declares_node (record { where_stands = place; specs = specs; type = filled.type; linkage = begun.linkage; clashes = begun.clashes; has_init = has_init }))
+    (declares_node (record {
+      where_stands = place;
+      specs = specs;
+      type = filled.type;
+      linkage = begun.linkage;
+      clashes = unit.clashes_behind has_init scope begun filled.type;
+      has_init = has_init;
+    }))
     (unit.with_content_if has_init begun filled scope)
     (declared_meant literals scope (at_line scope line) begun has_init filled.puts)
 

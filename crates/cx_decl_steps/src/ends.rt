@@ -20,6 +20,7 @@ use cr_base::{Items, Memory, Name, Place, Stop};
 use cx_contents::{Content, complete, literals_since};
 use cx_context::Context;
 use cx_core::{CoreStmt, Put, StmtForm, Ty};
+use cx_entities::clashes_completed;
 use cx_init::{Filled, Stored, filled_object};
 use cx_stmt_breaks::declares_rule;
 use std::alloc::Global;
@@ -158,6 +159,16 @@ fn literals_in(context: &Context, count: u64) -> Result<Items<u32>, Memory>
 
 // ---- the end
 
+// Whether another declaration stands in the way of the declarator, or of the type that it has behind its initialiser.
+fn clashes_behind(context: &Context, site: Site<'_>, begun: &Begun, t: &Ty) -> bool
+    ensures { result ≡ unit.clashes_behind site.entry.has_init (scope_of context.now) (view_begun site.entry.name.now begun.now) (view_type t.now) }
+{
+    if begun.clashes {
+        return true;
+    }
+    site.has_init && clashes_completed(context.scope(), site.name, begun.linkage, t)
+}
+
 // An object of a block that isn't static.
 fn ends_anew(
     context: &mut Context,
@@ -172,14 +183,8 @@ fn ends_anew(
 {
     let known = context.known();
     let t = filled.ty.get();
-    if let Some(rule) = declares_rule(
-        known,
-        site.place,
-        site.specs,
-        t,
-        begun.linkage,
-        begun.clashes,
-    ) {
+    let clashes = clashes_behind(context, site, begun, t);
+    if let Some(rule) = declares_rule(known, site.place, site.specs, t, begun.linkage, clashes) {
         return Err(context.refused(rule, site.line));
     }
     let made = anew(context, site, literals, begun, filled)?;
@@ -220,14 +225,8 @@ fn ends_once(
 {
     let known = context.known();
     let t = filled.ty.get();
-    if let Some(rule) = declares_rule(
-        known,
-        site.place,
-        site.specs,
-        t,
-        begun.linkage,
-        begun.clashes,
-    ) {
+    let clashes = clashes_behind(context, site, begun, t);
+    if let Some(rule) = declares_rule(known, site.place, site.specs, t, begun.linkage, clashes) {
         return Err(context.refused(rule, site.line));
     }
     let made = once(context, site, literals, begun, filled)?;

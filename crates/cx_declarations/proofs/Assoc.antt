@@ -46,7 +46,14 @@ changes_is : (place : SpecsPlace) (specs : CSpecs) (line : ℕ) (before : CScope
     ≡ steps.ends_as (length before.literals) place specs line begun has_init scope filled scope
 changes_is place specs line before begun has_init filled scope =
     ap (λ meant. walk.changed Check check_gives check_chain check_here check_becomes check_look scope line
-    (declares_node (record { where_stands = place; specs = specs; type = filled.type; linkage = begun.linkage; clashes = begun.clashes; has_init = has_init }))
+    (declares_node (record {
+      where_stands = place;
+      specs = specs;
+      type = filled.type;
+      linkage = begun.linkage;
+      clashes = unit.clashes_behind has_init scope begun filled.type;
+      has_init = has_init;
+    }))
     (unit.with_content_if has_init begun filled scope) meant scope)
     (meant_is before scope (at_line scope line) begun has_init filled.puts)
 

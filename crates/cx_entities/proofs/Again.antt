@@ -2,10 +2,10 @@
 use Rattle.std.proofs.Common.{◌≡◌, sym, ap, ◌∙◌, ℕ, Bool, List, None, Some}
 use Rattle.cx_core.specs.Trees.{CObject}
 use Rattle.cx_entities.specs.Entities as entities
-use Rattle.cx_entities.specs.Entities.{named, numbered}
-use Rattle.cx_entities.specs.Places.{changed_by}
+use Rattle.cx_entities.specs.Entities.{numbered}
 use Rattle.cx_rules.specs.Declare.{CDeclaring, declared_again, thing_named, with_declaration, with_linked_function, with_linked_object}
 use Rattle.cx_rules.specs.Scope.{CMeant, CScope, CThing, with_declared}
+use Rattle.cx_scope.specs.Places.{named, changed_by}
 
 pub function_again : (scope : CScope) (one : CDeclaring) (has_body : Bool) (before again : CThing) (things : List CThing)
     → thing_named one.name scope.things ≡ Some before → again ≡ declared_again one.type has_body None before

@@ -1,10 +1,9 @@
 -- Objects and functions of a unit, as declarations make and change them (ISO C99, 6.2.2, 6.2.7, 6.9).
-use Rattle.std.specs.Prelude.{◌≡◌, ℕ, ◌==◌, Bool, true, false, not, ◌&&◌, ◌||◌, if◌then◌else◌, List, [], ◌∷◌, ◌++◌, Option, None, Some, bytes_eq}
+use Rattle.std.specs.Prelude.{ℕ, ◌==◌, Bool, true, false, not, ◌&&◌, ◌||◌, if◌then◌else◌, List, [], ◌∷◌, ◌++◌, Option, None, Some}
 use Rattle.cx_core.specs.declared.program.Linkage.{Linkage}
 use Rattle.cx_core.specs.declared.program.Linkage.TheVariants.{External, Internal, Nothing}
 use Rattle.cx_core.specs.Trees.{CTy, CPuts, no_puts, CObject, CDoes, declares, defines, CMention}
 use Rattle.cx_entities.specs.Linkage.{is_external}
-use Rattle.cx_entities.specs.Places.{get_found, set_found, changed_by, changed_found}
 use Rattle.cx_lex.specs.declared.token.Keyword.TheVariants as keyword
 use Rattle.cx_rules.specs.Declare.{CDeclaring, is_linked, is_outside, is_typedef, thing_named, linked_number, joined_with, with_linked_object, with_linked_function}
 use Rattle.cx_rules.specs.Scope.{CMeant, an_object, a_function, a_type_name, CScope, CThing, with_mention, mention_of, with_object_number, with_function_number}
@@ -16,18 +15,6 @@ use Rattle.cx_rules.specs.Types.{is_function, composite}
 -- an object of a number is found
 abbrev pub numbered : ℕ → CObject → Bool
 numbered number one = one.object == number
-
-abbrev pub named : List ℕ → CThing → Bool
-named name one = bytes_eq one.name name
-
--- what a change of the objects with a number changes is at this place
-abbrev pub IsObjectAt : ℕ → List CObject → Option ℕ → Type 0
-IsObjectAt number objects found = (change : CObject → CObject) → changed_by (numbered number) change objects ≡ changed_found found change objects
-
--- the object or function of a name stands at this place, and no other has the name
-pub record IsThingAt (name : List ℕ) (things : List CThing) (found : Option ℕ) : Type 0 where
-  pub is : thing_named name things ≡ get_found found things
-  pub set : (new : CThing) → changed_by (named name) (λ _. new) things ≡ set_found found new things
 
 -- ---- objects
 

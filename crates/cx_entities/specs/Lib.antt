@@ -1,4 +1,3 @@
 pub mod Entities
 pub mod Linkage
-pub mod Places
 pub mod Views

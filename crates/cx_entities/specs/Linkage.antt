@@ -49,8 +49,3 @@ goes_with types typedef type linkage _ = false
 abbrev pub clashes_with : CTypes → Bool → CTy → Linkage → Option CMeant → Bool
 clashes_with types typedef type linkage None = false
 clashes_with types typedef type linkage (Some before) = not (goes_with types typedef type linkage before)
-
-abbrev pub clashes_thing : CTypes → CTy → Linkage → Bool → Option CThing → Bool
-clashes_thing types type linkage has_content None = false
-clashes_thing types type linkage has_content (Some one) =
-    not (same_linkage linkage one.linkage) || (not (compatible types type one.type) || (has_content && one.is_defined))

@@ -80,7 +80,7 @@ fn clashes_thing(
     has_content: bool,
     found: Option<&Thing>,
 ) -> bool
-    ensures { result ≡ linkages.clashes_thing (view_types types.now) (view_type t.now) linkage has_content (option_map (λ one. view_thing one.now) found.entry) }
+    ensures { result ≡ declare.clashes_thing (view_types types.now) (view_type t.now) linkage has_content (option_map (λ one. view_thing one.now) found.entry) }
 {
     let Some(one) = found else {
         return false;
@@ -114,7 +114,7 @@ fn clashes_elsewhere(
     linkage: Linkage,
     has_content: bool,
 ) -> bool
-    ensures { result ≡ linkages.clashes_thing (view_scope scope.now).types (view_type t.now) linkage has_content (thing_named name.now (view_scope scope.now).things) }
+    ensures { result ≡ declare.clashes_thing (view_scope scope.now).types (view_type t.now) linkage has_content (thing_named name.now (view_scope scope.now).things) }
 {
     clashes_thing(
         scope.types(),
@@ -142,4 +142,12 @@ pub fn clashes(
         return true;
     }
     is_linked(linkage) && clashes_elsewhere(scope, name, t, linkage, has_content)
+}
+
+/// Whether the type that an initialiser gives isn't what other declarations of the unit say of the same object (ISO C99, 6.2.7p2,
+/// 6.7.8p22). It takes no memory.
+pub fn clashes_completed(scope: &Scope, name: &Name, linkage: Linkage, t: &Ty) -> bool
+    ensures { result ≡ declare.clashes_completed (view_scope scope.now) name.now linkage (view_type t.now) }
+{
+    is_linked(linkage) && clashes_elsewhere(scope, name, t, linkage, false)
 }

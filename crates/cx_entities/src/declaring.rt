@@ -1,7 +1,7 @@
 //! Declarations of identifiers (ISO C99, 6.7).
 #![tactic(auto, unfolding(cx_scope::specs::Views::view_scope))]
 
-ghost use Rattle.std.specs.Prelude.{◌≡◌, false, option_map, IfOk, OnOk, map};
+ghost use Rattle.std.specs.Prelude.{◌≡◌, None, false, option_map, IfOk, OnOk, map};
 ghost use Rattle.cx_core.specs.Views.{view_mention, view_type, view_does};
 ghost use Rattle.cx_entities.specs.Entities as entities;
 ghost use Rattle.cx_entities.specs.Views.{view_declaring};
@@ -11,8 +11,8 @@ ghost use Rattle.cx_rules.specs.Scope.{with_declared};
 ghost use Rattle.cx_scope.specs.Views.{view_meant, view_scope, view_thing};
 
 use crate::linkage::{is_external, is_linked, is_outside, is_typedef};
-use crate::objects::{add_object, retype};
-use crate::things::{declared_again, new_thing, thing_at, thing_named};
+use crate::objects::add_object;
+use crate::things::{declared_again, new_thing, thing_named};
 use cr_base::{Boxed, Memory, Name, Place};
 use cx_core::{Does, Linkage, Mention, Ty};
 use cx_kinds::is_function;
@@ -109,6 +109,7 @@ pub fn function_number(scope: &Scope, one: Declaring<'_>) -> u32
 // ---- functions
 
 fn first_function(scope: &mut Scope, one: Declaring<'_>, has_body: bool) -> Result<(), Memory>
+    requires { thing_named one.name.now (view_scope scope.old).things ≡ None }
     ensures added { OnOk result (view_scope scope.new ≡ entities.first_function (view_declaring one.entry) has_body (view_scope scope.old)) }
     ensures types { (view_scope scope.new).types ≡ (view_scope scope.old).types }
 {
@@ -127,7 +128,7 @@ pub fn declare_function(scope: &mut Scope, one: Declaring<'_>, has_body: bool) -
     ensures added { OnOk result (view_scope scope.new ≡ entities.with_function_declared (view_declaring one.entry) has_body (view_scope scope.old)) }
     ensures types { (view_scope scope.new).types ≡ (view_scope scope.old).types }
 {
-    let Some(index) = thing_at(scope.things.as_slice(), one.name)? else {
+    let Some(index) = scope.things.at(one.name) else {
         return first_function(scope, one, has_body);
     };
     let Some(before) = scope.things.get(index) else {
@@ -164,6 +165,7 @@ fn is_tentative(one: Declaring<'_>) -> bool
 }
 
 fn first_object(scope: &mut Scope, one: Declaring<'_>) -> Result<(), Memory>
+    requires { thing_named one.name.now (view_scope scope.old).things ≡ None }
     ensures added { OnOk result (view_scope scope.new ≡ entities.first_object (view_declaring one.entry) (view_scope scope.old)) }
     ensures types { (view_scope scope.new).types ≡ (view_scope scope.old).types }
 {
@@ -185,7 +187,7 @@ fn declare_object(scope: &mut Scope, one: Declaring<'_>) -> Result<(), Memory>
     ensures added { OnOk result (view_scope scope.new ≡ entities.with_object_declared (view_declaring one.entry) (view_scope scope.old)) }
     ensures types { (view_scope scope.new).types ≡ (view_scope scope.old).types }
 {
-    let Some(index) = thing_at(scope.things.as_slice(), one.name)? else {
+    let Some(index) = scope.things.at(one.name) else {
         return first_object(scope, one);
     };
     let Some(before) = scope.things.get(index) else {
@@ -195,7 +197,8 @@ fn declare_object(scope: &mut Scope, one: Declaring<'_>) -> Result<(), Memory>
     let again = declared_again(scope.alloc, one.ty, one.has_init, tentative_of(one), before)?;
     let ty = again.ty.copy(scope.alloc)?;
     scope.things.set(index, again);
-    retype(&mut scope.objects, number, ty)
+    scope.objects.change(number, ty, None);
+    Ok(())
 }
 
 /// The object or the function of the unit that is declared comes into being, or is declared once more. Refused only for want of memory.

@@ -8,11 +8,10 @@ mod linkage;
 mod objects;
 mod things;
 
-pub use conflicts::clashes;
+pub use conflicts::{clashes, clashes_completed};
 pub use declaring::{
     Declaring, add_meant, declare, declare_function, function_number, is_told, joined_type,
     object_number, told_mention,
 };
 pub use linkage::{is_external, is_linked, is_outside, is_typedef, linkage_of, lives_on};
-pub use objects::object_at;
-pub use things::{thing_at, thing_named};
+pub use things::{beside_thing, thing_named};

@@ -1,83 +1,26 @@
 //! Objects and functions with linkage (ISO C99, 6.2.2).
 #![tactic(auto, unfolding(cx_scope::specs::Views::view_scope))]
 
-ghost use Rattle.std.specs.Prelude.{◌≡◌, ◌<◌, length, Bool, map, drop, option_map, false, true, IfOk, IfSome, OnOk, OnErr};
-ghost use Rattle.std.specs.List.{list_any};
+ghost use Rattle.std.specs.Prelude.{◌≡◌, option_map, IfOk};
 ghost use Rattle.cx_core.specs.Views.{view_type};
 ghost use Rattle.cx_entities.specs.Entities as entities;
-ghost use Rattle.cx_entities.specs.Entities.{IsThingAt, named};
-ghost use Rattle.cx_entities.specs.Places.{first_from};
 ghost use Rattle.cx_entities.specs.Views.{view_declaring};
 ghost use Rattle.cx_rules.specs.Declare as declare;
 ghost use Rattle.cx_scope.specs.Views.{view_scope, view_thing};
 
 use crate::declaring::Declaring;
-use cr_base::{Items, Memory, Name};
-use cx_core::Ty;
+use crate::linkage::is_linked;
+use cr_base::{Boxed, Memory, Name};
+use cx_core::{Linkage, Ty};
 use cx_scope::{Scope, Thing};
 use cx_types::composite;
 use std::alloc::Global;
-
-fn find_thing<'a>(things: &'a [Thing], name: &Name) -> Option<&'a Thing>
-    ensures { option_map (λ one. view_thing one.now) result ≡ declare.thing_named name.now (map view_thing things.now) }
-{
-    for one in things {
-        if one.name.bytes() == name.bytes() {
-            return Some(one);
-        }
-    }
-    None
-}
 
 /// The object or function with linkage that has a name.
 pub fn thing_named<'a>(scope: &'a Scope, name: &Name) -> Option<&'a Thing>
     ensures { option_map (λ one. view_thing one.now) result ≡ declare.thing_named name.now (view_scope scope.now).things }
 {
-    find_thing(scope.things.as_slice(), name)
-}
-
-fn is_named(one: &Thing, name: &Name) -> bool
-    ensures { result ≡ named name.now (view_thing one.now) }
-{
-    one.name.bytes() == name.bytes()
-}
-
-fn first_named(things: &[Thing], name: &Name) -> Option<usize>
-    ensures found { result ≡ first_from 0 (named name.now) (map view_thing things.now) }
-    ensures within { IfSome result (λ index. index < length things.now) }
-{
-    for index in 0..things.len() {
-        if is_named(&things[index], name) {
-            return Some(index);
-        }
-    }
-    None
-}
-
-fn any_named(things: &[Thing], from: usize, name: &Name) -> bool
-    ensures { result ≡ list_any (named name.now) (map view_thing (drop from things.now)) }
-{
-    for index in from..things.len() {
-        if is_named(&things[index], name) {
-            return true;
-        }
-    }
-    false
-}
-
-/// Where the object or function of a name stands. No two have one name.
-#[tactic(auto, using(crate::proofs::Standing::no_thing, crate::proofs::Standing::one_thing))]
-pub fn thing_at(things: &[Thing], name: &Name) -> Result<Option<usize>, Memory>
-    ensures { IfOk result (λ found. IsThingAt name.now (map view_thing things.now) found) }
-{
-    let Some(index) = first_named(things, name) else {
-        return Ok(None);
-    };
-    // A declaration of a name that is there changes what is there.
-    if any_named(things, index + 1, name) {
-        return Err(Memory);
-    }
-    Ok(Some(index))
+    scope.things.named(name)
 }
 
 /// A new object or function with linkage.
@@ -135,4 +78,23 @@ pub fn declared_again(
         is_defined: has_content || before.is_defined,
         tentative: or_line(before.tentative, tentative),
     })
+}
+
+/// The type that a declaration gives beside what the unit says of the same object or function (ISO C99, 6.2.7p4). Refused only for want
+/// of memory.
+pub fn beside_thing(
+    scope: &Scope,
+    linkage: Linkage,
+    name: &Name,
+    ty: &Ty,
+) -> Result<Boxed<Ty>, Memory>
+    ensures { IfOk result (λ made. view_type made ≡ declare.beside_thing (view_type ty.now) (declare.linked_thing linkage name.now (view_scope scope.now).things)) }
+{
+    if !is_linked(linkage) {
+        return ty.copy(scope.alloc);
+    }
+    match thing_named(scope, name) {
+        None => ty.copy(scope.alloc),
+        Some(one) => composite(scope.alloc, ty, &one.ty),
+    }
 }

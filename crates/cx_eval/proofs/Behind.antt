@@ -1,7 +1,6 @@
 -- A walk over operands goes on behind the first of them.
 use Rattle.std.proofs.Common.{◌≡◌, sym, ◌∙◌, ap, subst, ℕ, ◌+◌, ◌-◌, ◌<◌, ◌≤◌, List, [], ◌∷◌, ◌++◌, length, take, drop, drop_at, length-take-le, Result, Ok, Err, arith}
 use Rattle.std.proofs.lemmas.List.{append_assoc}
-use Rattle.cx_eval.specs.Added.{Adds}
 use Rattle.cx_eval.specs.declared.halt.Halt.{Halt}
 use Rattle.cx_eval.specs.declared.halt.Halt.TheVariants as halt
 use Rattle.cx_eval.specs.declared.halt.Walked.{Walked}
@@ -94,17 +93,18 @@ module _ (setting : CSetting) (frame : Frame) (before later : Blocks) (pick inde
           (goes.2 none (λ (list : CWorks). around (more_works first list)))),
     )
 
-    pub rest_moves : (rest result : Result Walked Halt) (left : List CWork) → Adds count rest result →
-        WalksFrom rest setting frame before later (pick - count) (index + 1) works left → WalksFrom result setting frame before later pick index works left
-    rest_moves rest (Ok (walked.Passed sum)) left adds goes =
-        let all = subst (λ (one : Result Walked Halt). WalksFrom one setting frame before later (pick - count) (index + 1) works left) adds.0 goes in
-        let sum_is : sum - count ≡ ready_among (works_of others) = all.0 ∙ ap (λ (list : List CWork). ready_among (works_of list)) behind in
-        (subst (λ (list : List CWork). sum ≡ ready_among (works_of list)) (sym at) (omega (arith, sum_is, counted, adds.1)), omega (arith, all.1, passed, adds.1), all.2, all.3)
-    rest_moves rest (Ok walked.Stepped) left adds goes =
-        moves_back (Ok walked.Stepped) left (subst (λ (one : Result Walked Halt). WalksFrom one setting frame before later (pick - count) (index + 1) works left) adds goes)
-    rest_moves rest (Ok (walked.Calls called)) left adds goes =
-        moves_back (Ok (walked.Calls called)) left (subst (λ (one : Result Walked Halt). WalksFrom one setting frame before later (pick - count) (index + 1) works left) adds goes)
-    rest_moves rest (Err (halt.Undefined rule place)) left adds goes =
-        let all = subst (λ (one : Result Walked Halt). WalksFrom one setting frame before later (pick - count) (index + 1) works left) adds goes in
-        (more_behind all.0, λ none around. rest_step none around ∙ all.1 none (λ (list : CWorks). around (more_works first list)))
-    rest_moves rest (Err halt.Memory) left adds goes = tt
+    pub rest_passes : (sum : ℕ) (left : List CWork) → count ≤ sum →
+        WalksFrom (Ok (walked.Passed (sum - count))) setting frame before later (pick - count) (index + 1) works left →
+        WalksFrom (Ok (walked.Passed sum)) setting frame before later pick index works left
+    rest_passes sum left least goes =
+        let sum_is : sum - count ≡ ready_among (works_of others) = goes.0 ∙ ap (λ (list : List CWork). ready_among (works_of list)) behind in
+        (subst (λ (list : List CWork). sum ≡ ready_among (works_of list)) (sym at) (omega (arith, sum_is, counted, least)), omega (arith, goes.1, passed, least), goes.2, goes.3)
+
+    pub rest_moves : (result : Result Walked Halt) (left : List CWork) → IsMove result →
+        WalksFrom result setting frame before later (pick - count) (index + 1) works left → WalksFrom result setting frame before later pick index works left
+    rest_moves (Ok (walked.Passed sum)) left moves goes = elim moves [ ]
+    rest_moves (Ok walked.Stepped) left moves goes = moves_back (Ok walked.Stepped) left goes
+    rest_moves (Ok (walked.Calls called)) left moves goes = moves_back (Ok (walked.Calls called)) left goes
+    rest_moves (Err (halt.Undefined rule place)) left moves goes =
+        (more_behind goes.0, λ none around. rest_step none around ∙ goes.1 none (λ (list : CWorks). around (more_works first list)))
+    rest_moves (Err halt.Memory) left moves goes = tt

@@ -1,5 +1,5 @@
 -- A walk over operands where they lie is one over what they stand for.
-use Rattle.std.proofs.Common.{◌≡◌, refl, sym, ◌∙◌, ap, subst, ℕ, zero, suc, add-one, ◌+◌, ◌-◌, ◌<◌, List, [], ◌∷◌, ◌++◌, map, length, take, drop, set, get_or, drop-set-lt, rules, Some, slice_get, Result, Ok, arith}
+use Rattle.std.proofs.Common.{◌≡◌, refl, sym, ◌∙◌, ap, subst, ℕ, zero, suc, add-one, ◌+◌, ◌-◌, ◌<◌, ◌≤◌, List, [], ◌∷◌, ◌++◌, map, length, take, drop, set, get_or, drop-set-lt, rules, Option, Some, None, slice_get, Result, Ok, Err, arith}
 use Rattle.std.proofs.lemmas.List.{drop_more, map-set, set_split, length-map}
 use Rattle.std.proofs.lemmas.Option.{gets}
 use lib.Seq.{take-suc}
@@ -7,8 +7,8 @@ use Rattle.cx_eval.specs.Added.{Adds}
 use Rattle.cx_eval.specs.declared.halt.Halt.{Halt}
 use Rattle.cx_eval.specs.declared.halt.Walked.{Walked}
 use Rattle.cx_eval.specs.declared.halt.Walked.TheVariants as walked
-use Rattle.cx_eval.specs.Steps.{Walks, WalksFrom}
-use Rattle.cx_eval.proofs.Behind.{IsMove, first_moves, rest_moves}
+use Rattle.cx_eval.specs.Steps.{Reaches, ReachesFrom, Walks, WalksFrom}
+use Rattle.cx_eval.proofs.Behind.{IsMove, first_moves, rest_moves, rest_passes}
 use Rattle.cx_mean.specs.Operands.{Frame}
 use Rattle.cx_mean.specs.Settings.{CSetting}
 use Rattle.cx_mean.specs.Work.{CWork}
@@ -51,25 +51,57 @@ module _ (setting : CSetting) (frame : Frame) (before later : Blocks) (pick inde
       (first_moves setting frame before later pick index (map view_work works) (view_work one) (drop (index + 1) (map view_work works)) (omega (arith, seen)) at
       result (view_work new) moves goes)
 
-  pub rest_walked : (rest result : Result Walked Halt) (count : ℕ) (mid : Blocks) (left : List Work) →
-      Walks (Ok (walked.Passed count)) setting frame before mid pick (view_work one) (view_work new) → Adds count rest result →
-      WalksFrom rest setting frame mid later (pick - count) (index + 1) (map view_work (set works index new)) (map view_work left) →
-      WalksFrom result setting frame before later pick index (map view_work works) (map view_work left)
-  rest_walked rest result count mid left passed adds goes =
-      let kept : map view_work (set works index new) ≡ map view_work works =
-      map-set view_work works index new ∙ ap (set (map view_work works) index) passed.2 ∙ set_same (map view_work works) index (view_work one) seen is in
-      let here = subst (λ (list : List CWork). WalksFrom rest setting frame mid later (pick - count) (index + 1) list (map view_work left)) kept goes in
-      rest_moves setting frame before later pick index (map view_work works) (view_work one) (drop (index + 1) (map view_work works)) (omega (arith, seen)) at
-      count passed.0 passed.1 refl
-      (rw add-one (take-suc (map view_work works) index (view_work one) seen ∙ ap (λ (last : CWork). take index (map view_work works) ++ last ∷ []) (sym is)))
-      rest result (map view_work left) adds
-      (subst (λ (blocks : Blocks). WalksFrom rest setting frame blocks later (pick - count) (index + 1) (map view_work works) (map view_work left)) passed.3 here)
+  pub first_reached : (taken : Result Walked Halt) → Reaches None taken setting frame before later pick (view_work one) (view_work new) →
+      ReachesFrom None taken setting frame before later pick index (map view_work works) (map view_work (set works index new))
+  first_reached (Ok (walked.Passed count)) goes = goes
+  first_reached (Ok walked.Stepped) goes = first_walked (Ok walked.Stepped) tt goes
+  first_reached (Ok (walked.Calls called)) goes = first_walked (Ok (walked.Calls called)) tt goes
+  first_reached (Err why) goes = first_walked (Err why) tt goes
 
--- what a walk says, by another name for how far it came
-pub told : (one other : Walked) (setting : CSetting) (frame : Frame) (before later : Blocks) (pick : ℕ) (work left : CWork) → one ≡ other →
-    Walks (Ok one) setting frame before later pick work left → Walks (Ok other) setting frame before later pick work left
-told one other setting frame before later pick work left is goes =
-    subst (λ (far : Walked). Walks (Ok far) setting frame before later pick work left) is goes
+  module _ (count : ℕ) (mid : Blocks) (left : List Work)
+      (passed : Walks (Ok (walked.Passed count)) setting frame before mid pick (view_work one) (view_work new)) where
+    kept : map view_work (set works index new) ≡ map view_work works
+    kept = map-set view_work works index new ∙ ap (set (map view_work works) index) passed.2 ∙ set_same (map view_work works) index (view_work one) seen is
+
+    here : (result : Result Walked Halt) → WalksFrom result setting frame mid later (pick - count) (index + 1) (map view_work (set works index new)) (map view_work left) →
+        WalksFrom result setting frame before later (pick - count) (index + 1) (map view_work works) (map view_work left)
+    here result goes = subst (λ (blocks : Blocks). WalksFrom result setting frame blocks later (pick - count) (index + 1) (map view_work works) (map view_work left)) passed.3
+        (subst (λ (list : List CWork). WalksFrom result setting frame mid later (pick - count) (index + 1) list (map view_work left)) kept goes)
+
+    taken_in : take (index + 1) (map view_work works) ≡ take index (map view_work works) ++ view_work one ∷ []
+    taken_in = rw add-one (take-suc (map view_work works) index (view_work one) seen ∙ ap (λ (last : CWork). take index (map view_work works) ++ last ∷ []) (sym is))
+
+    rest_walked : (result : Result Walked Halt) → IsMove result →
+        WalksFrom result setting frame mid later (pick - count) (index + 1) (map view_work (set works index new)) (map view_work left) →
+        WalksFrom result setting frame before later pick index (map view_work works) (map view_work left)
+    rest_walked result moves goes =
+        rest_moves setting frame before later pick index (map view_work works) (view_work one) (drop (index + 1) (map view_work works)) (omega (arith, seen)) at
+        count passed.0 passed.1 refl taken_in result (map view_work left) moves (here result goes)
+
+    rest_counted : (sum : ℕ) → count ≤ sum →
+        WalksFrom (Ok (walked.Passed (sum - count))) setting frame mid later (pick - count) (index + 1) (map view_work (set works index new)) (map view_work left) →
+        WalksFrom (Ok (walked.Passed sum)) setting frame before later pick index (map view_work works) (map view_work left)
+    rest_counted sum least goes =
+        rest_passes setting frame before later pick index (map view_work works) (view_work one) (drop (index + 1) (map view_work works)) (omega (arith, seen)) at
+        count passed.0 passed.1 refl taken_in sum (map view_work left) least (here (Ok (walked.Passed (sum - count))) goes)
+
+    rest_same : (taken : Result Walked Halt) →
+        ReachesFrom None taken setting frame mid later (pick - count) (index + 1) (map view_work (set works index new)) (map view_work left) →
+        ReachesFrom None taken setting frame before later pick index (map view_work works) (map view_work left)
+    rest_same (Ok (walked.Passed sum)) goes = goes
+    rest_same (Ok walked.Stepped) goes = rest_walked (Ok walked.Stepped) tt goes
+    rest_same (Ok (walked.Calls called)) goes = rest_walked (Ok (walked.Calls called)) tt goes
+    rest_same (Err why) goes = rest_walked (Err why) tt goes
+
+    pub rest_reached : (rest result : Option ℕ) (taken last : Result Walked Halt) → Adds count rest taken result last →
+        ReachesFrom rest taken setting frame mid later (pick - count) (index + 1) (map view_work (set works index new)) (map view_work left) →
+        ReachesFrom result last setting frame before later pick index (map view_work works) (map view_work left)
+    rest_reached rest (Some sum) taken last adds goes = rest_counted sum adds.1
+        (subst (λ (other : Option ℕ). ReachesFrom other taken setting frame mid later (pick - count) (index + 1) (map view_work (set works index new)) (map view_work left)) adds.0 goes)
+    rest_reached None None taken last adds goes =
+        subst (λ (other : Result Walked Halt). ReachesFrom None other setting frame before later pick index (map view_work works) (map view_work left)) (sym adds) (rest_same taken goes)
+    rest_reached (Some more) None taken last adds goes =
+        subst (λ (other : Result Walked Halt). ReachesFrom None other setting frame before later pick index (map view_work works) (map view_work left)) (sym adds) tt
 
 -- ---- sizes
 

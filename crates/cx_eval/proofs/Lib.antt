@@ -5,6 +5,7 @@ mod Lasts
 mod Moving
 mod Opened
 mod Outcomes
+mod Pointed
 mod Readied
 mod Staged
 mod Twos

@@ -1,5 +1,5 @@
 -- The step of a node that is ready itself is that of its tree.
-use Rattle.std.proofs.Common.{◌≡◌, refl, sym, subst, ℕ, ◌<◌, true, Some, Result, Ok, Err, arith}
+use Rattle.std.proofs.Common.{◌≡◌, refl, sym, subst, ℕ, ◌<◌, true, Some, None, Result, Ok, Err, arith}
 use Rattle.cx_core.specs.Trees.{CExpr}
 use Rattle.cx_eval.specs.declared.halt.Halt.{Halt}
 use Rattle.cx_eval.specs.declared.halt.Halt.TheVariants as halt
@@ -8,7 +8,7 @@ use Rattle.cx_eval.specs.declared.halt.Walked.TheVariants as walked
 use Rattle.cx_eval.specs.Parts.{by_part}
 use Rattle.cx_eval.proofs.Staged.{stage_is}
 use Rattle.cx_eval.specs.Ready.{node_ready, node_stepped}
-use Rattle.cx_eval.specs.Steps.{Steps, Walks}
+use Rattle.cx_eval.specs.Steps.{Reaches, Steps, Walks}
 use Rattle.cx_mean.specs.Operands.{COperand, Frame}
 use Rattle.cx_mean.specs.Settings.{CSetting}
 use Rattle.cx_mean.specs.Steps.{CStepped, at_first_operand, step_at}
@@ -59,3 +59,11 @@ ready_walks result setting frame before later pick work left is none steps =
     first (Ok (walked.Calls called)) goes = (within, (goes.0, goes.1))
     first (Err (halt.Undefined rule place)) goes = (within, goes)
     first (Err halt.Memory) goes = tt
+
+pub ready_reaches : (result : Result Walked Halt) (setting : CSetting) (frame : Frame) (before later : Blocks) (pick : ℕ) (work left : CWork) → node_ready work ≡ true → pick ≡ 0 →
+    Steps result before later left (node_stepped setting frame before work) → Reaches None result setting frame before later pick work left
+ready_reaches (Ok (walked.Passed count)) setting frame before later pick work left is none steps = steps
+ready_reaches (Ok walked.Stepped) setting frame before later pick work left is none steps = ready_walks (Ok walked.Stepped) setting frame before later pick work left is none steps
+ready_reaches (Ok (walked.Calls called)) setting frame before later pick work left is none steps =
+    ready_walks (Ok (walked.Calls called)) setting frame before later pick work left is none steps
+ready_reaches (Err why) setting frame before later pick work left is none steps = ready_walks (Err why) setting frame before later pick work left is none steps

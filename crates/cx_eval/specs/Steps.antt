@@ -1,5 +1,5 @@
 -- What a step of an engine did of an expression under evaluation.
-use Rattle.std.specs.Prelude.{◌≡◌, ℕ, ◌<◌, ◌≤◌, List, ◌++◌, take, drop, Result, Ok, Err}
+use Rattle.std.specs.Prelude.{◌≡◌, ℕ, ◌<◌, ◌≤◌, List, ◌++◌, take, drop, Option, Some, None, Result, Ok, Err}
 use Rattle.cx_eval.specs.declared.halt.Halt.{Halt}
 use Rattle.cx_eval.specs.declared.halt.Halt.TheVariants as halt
 use Rattle.cx_eval.specs.declared.halt.Walked.{Walked}
@@ -51,3 +51,19 @@ WalksFrom (Err (halt.Undefined rule place)) setting frame before later pick inde
     × ((none : CStepped) (around : CWorks → CWork) → step_among setting frame before pick (works_of (drop index works)) none around ≡
     Err (record { why = breaks rule; place = place }))
 WalksFrom (Err halt.Memory) setting frame before later pick index works left = Unit {0}
+
+-- What a walk answers: how many ready nodes it passed; or that it reached the one, and then what came of its step was set down.
+abbrev pub Reaches : Option ℕ → Result Walked Halt → CSetting → Frame → (before later : Blocks) → (pick : ℕ) → (work left : CWork) → Type 0
+Reaches (Some count) taken setting frame before later pick work left = Walks (Ok (walked.Passed count)) setting frame before later pick work left
+Reaches None (Ok (walked.Passed count)) setting frame before later pick work left = ⊥
+Reaches None (Ok walked.Stepped) setting frame before later pick work left = Walks (Ok walked.Stepped) setting frame before later pick work left
+Reaches None (Ok (walked.Calls called)) setting frame before later pick work left = Walks (Ok (walked.Calls called)) setting frame before later pick work left
+Reaches None (Err why) setting frame before later pick work left = Walks (Err why) setting frame before later pick work left
+
+abbrev pub ReachesFrom : Option ℕ → Result Walked Halt → CSetting → Frame → (before later : Blocks) → (pick index : ℕ) → (works left : List CWork) → Type 0
+ReachesFrom (Some count) taken setting frame before later pick index works left = WalksFrom (Ok (walked.Passed count)) setting frame before later pick index works left
+ReachesFrom None (Ok (walked.Passed count)) setting frame before later pick index works left = ⊥
+ReachesFrom None (Ok walked.Stepped) setting frame before later pick index works left = WalksFrom (Ok walked.Stepped) setting frame before later pick index works left
+ReachesFrom None (Ok (walked.Calls called)) setting frame before later pick index works left =
+    WalksFrom (Ok (walked.Calls called)) setting frame before later pick index works left
+ReachesFrom None (Err why) setting frame before later pick index works left = WalksFrom (Err why) setting frame before later pick index works left

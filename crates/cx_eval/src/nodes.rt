@@ -9,10 +9,11 @@ ghost use Rattle.cx_eval.specs.Parts.{works_in};
 ghost use Rattle.cx_eval.specs.Steps.{Steps};
 ghost use Rattle.cx_mean.specs.Calls.{node_calling};
 ghost use Rattle.cx_mean.specs.Marks as meaning;
+ghost use Rattle.cx_mean.specs.Operands.{Frame};
 ghost use Rattle.cx_mean.specs.Nodes.{binary_done, changes, node_done, node_updating, update_loaded};
 ghost use Rattle.cx_mean.specs.Steps.{finished_with, needs_step};
 ghost use Rattle.cx_mean.specs.Work.{CWorks, needs, operands_in, updates, was_loaded, waits};
-ghost use Rattle.cx_node_steps.specs.Callings.{named_calling};
+ghost use Rattle.cx_node_steps.specs.Callings.{named_calling, pointer_calling};
 ghost use Rattle.cx_node_steps.specs.Dones.{left_of, right_of};
 ghost use Rattle.cx_node_steps.specs.Views.{form_of};
 ghost use Rattle.mem_bytes.specs.Access.{and_then};
@@ -26,8 +27,8 @@ use crate::parts::operands_at;
 use cx_access::{Setting, Trouble};
 use cx_core::{CoreExpr, Form};
 use cx_node_steps::{
-    Both, Calling, Done, Loaded, assign_loaded, called_by_name, done_by_one, done_by_two, joined,
-    step_loaded,
+    Both, Calling, Done, Loaded, assign_loaded, called_by_name, called_by_pointer, done_by_one,
+    done_by_two, joined, step_loaded,
 };
 use cx_work::{Child, Children, Marks, Objects, Operand, Stage, Work};
 use mem_bytes::Store;
@@ -200,6 +201,45 @@ fn call_step<'a>(
     }
 }
 
+// A call of the function that its first operand points to.
+#[tactic(auto, using(crate::proofs::Outcomes::stops, crate::proofs::Opened::place_of_view))]
+fn call_by_step<'a>(
+    alloc: Global,
+    setting: &Setting<'a>,
+    work: &mut Work<'a>,
+    node: &'a CoreExpr,
+    operands: Children<Work<'a>>,
+) -> Result<Walked<'a>, Halt>
+    ensures { (blocks : Blocks) → Steps result blocks blocks (view_work work.new) (calls_as (view_expr node.now)
+        (pointer_calling (view_setting setting.now) (type_of (view_expr node.now)) (place_of (view_expr node.now)) (operands_in (view_works operands.entry)))) }
+{
+    let Some(list) = all_operands(alloc, operands) else {
+        return Err(Halt::Memory);
+    };
+    match called_by_pointer(alloc, setting, node, list) {
+        Ok(called) => put_waiting(alloc, work, node, called),
+        Err(trouble) => Err(halted(trouble, node.place)),
+    }
+}
+
+// A call, by a name or through a pointer.
+fn any_call_step<'a>(
+    alloc: Global,
+    setting: &Setting<'a>,
+    work: &mut Work<'a>,
+    node: &'a CoreExpr,
+    operands: Children<Work<'a>>,
+) -> Result<Walked<'a>, Halt>
+    ensures { (frame : Frame) (blocks : Blocks) → Steps result blocks blocks (view_work work.new)
+        (needs_step (view_setting setting.now) frame blocks (view_expr node.now) (operands_in (view_works operands.entry))) }
+{
+    match &node.form {
+        Form::Call(number, _) => call_step(alloc, setting, work, node, *number, operands),
+        Form::CallBy(_, _) => call_by_step(alloc, setting, work, node, operands),
+        _ => Err(Halt::Memory),
+    }
+}
+
 // An operator with two operands, or an assignment.
 #[tactic(auto, using(crate::proofs::Outcomes::stops, crate::proofs::Opened::place_of_view))]
 fn two_step<'a, S: Store, O: Objects>(
@@ -276,7 +316,6 @@ pub(crate) fn needs_step<'a, S: Store, O: Objects>(
             assign_by_step(alloc, store, objects, setting, work, node, operands)
         }
         Form::Step { .. } => step_step(alloc, store, objects, setting, work, node, operands),
-        Form::Call(number, _) => call_step(alloc, setting, work, node, *number, operands),
         Form::Literal(number, puts) => {
             literal_step(
                 alloc,
@@ -289,6 +328,6 @@ pub(crate) fn needs_step<'a, S: Store, O: Objects>(
                 puts.as_slice(),
             )
         }
-        _ => Err(Halt::Memory),
+        _ => any_call_step(alloc, setting, work, node, operands),
     }
 }

@@ -1,6 +1,6 @@
 ghost use Rattle.std.specs.Prelude.{◌≡◌};
 ghost use Rattle.cx_access.specs.Views.{view_setting};
-ghost use Rattle.cx_eval.specs.Next.{Takes, setting_by};
+ghost use Rattle.cx_eval.specs.Next.{IsNext, Takes, setting_by};
 ghost use Rattle.cx_work.specs.Views.{view_work};
 
 use crate::halt::{Halt, Walked};
@@ -24,12 +24,25 @@ pub enum Next<'a> {
     Undefined(URule, Place),
 }
 
+// What a walk leaves that reached the node.
+fn next_of<'a>(taken: Result<Walked<'a>, Halt>) -> Result<Next<'a>, Memory>
+    ensures { IsNext taken.entry result }
+{
+    match taken {
+        Ok(Walked::Stepped) => Ok(Next::Stepped),
+        Ok(Walked::Calls(called)) => Ok(Next::Calls(called)),
+        Ok(Walked::Passed(_)) => Err(Memory),
+        Err(Halt::Undefined(rule, place)) => Ok(Next::Undefined(rule, place)),
+        Err(Halt::Memory) => Err(Memory),
+    }
+}
+
 /// Takes one step of an expression, at the ready node with the number `pick`, from 0 on in post-order, in a setting.
 ///
 /// # Errors
 ///
 /// `Memory` for want of memory. It stands, too, for a step that no typed program has, for a `pick` that isn't below the number of the
-/// ready nodes, and for a call through a pointer, whose step isn't built yet.
+/// ready nodes.
 pub fn take_step_in<'a, S: Store, O: Objects>(
     alloc: Global,
     work: &mut Work<'a>,
@@ -41,12 +54,10 @@ pub fn take_step_in<'a, S: Store, O: Objects>(
     ensures step { Takes result (view_setting setting.now) (O.frame objects.now) (S.memory store.old) (S.memory store.new) pick (view_work work.old) (view_work work.new) }
     ensures limit { S.limit store.new ≡ S.limit store.old }
 {
-    match walk(alloc, store, objects, setting, work, pick) {
-        Ok(Walked::Stepped) => Ok(Next::Stepped),
-        Ok(Walked::Calls(called)) => Ok(Next::Calls(called)),
-        Ok(Walked::Passed(_)) => Err(Memory),
-        Err(Halt::Undefined(rule, place)) => Ok(Next::Undefined(rule, place)),
-        Err(Halt::Memory) => Err(Memory),
+    let mut taken = Err(Halt::Memory);
+    match walk(alloc, store, objects, setting, work, pick, &mut taken) {
+        Some(_) => Err(Memory),
+        None => next_of(taken),
     }
 }
 

@@ -1,10 +1,11 @@
 //! The walk to a ready node, which takes its step where it lies (ISO C99, 5.1.2.3, 6.5p3).
 
-ghost use Rattle.std.specs.Prelude.{◌≡◌, true, map};
+ghost use Rattle.std.specs.Prelude.{◌≡◌, true, map, None, Err};
 ghost use Rattle.cx_access.specs.Views.{view_setting};
 ghost use Rattle.cx_eval.specs.Ready.{node_ready, node_stepped};
-ghost use Rattle.cx_eval.specs.Steps.{Steps, Walks, WalksFrom};
+ghost use Rattle.cx_eval.specs.Steps.{Reaches, ReachesFrom, Steps};
 ghost use Rattle.cx_eval.specs.Added.{Adds};
+ghost use Rattle.cx_eval.specs.declared.halt.Halt.TheVariants as halt;
 ghost use Rattle.cx_work.specs.Views.{view_work};
 
 use crate::choices::{choose_step, test_step};
@@ -18,6 +19,7 @@ use mem_bytes::Store;
 use std::alloc::Global;
 
 // Whether the node of a tree is ready itself.
+#[inline(always)]
 fn is_ready(work: &Work<'_>) -> bool
     ensures { result ≡ node_ready (view_work work.now) }
 {
@@ -73,7 +75,7 @@ fn node_step<'a, S: Store, O: Objects>(
 }
 
 // The step of a node that is ready itself, unless it lies in front of the pick.
-#[tactic(auto, using(crate::proofs::Readied::ready_walks, crate::proofs::Readied::ready_is_one))]
+#[tactic(auto, using(crate::proofs::Readied::ready_reaches, crate::proofs::Readied::ready_is_one))]
 fn ready_step<'a, S: Store, O: Objects>(
     alloc: Global,
     store: &mut S,
@@ -81,18 +83,21 @@ fn ready_step<'a, S: Store, O: Objects>(
     setting: &Setting<'a>,
     work: &mut Work<'a>,
     pick: u64,
-) -> Result<Walked<'a>, Halt>
-    ensures walks { node_ready (view_work work.old) ≡ true → Walks result (view_setting setting.now) (O.frame objects.now) (S.memory store.old) (S.memory store.new) pick
+    taken: &mut Result<Walked<'a>, Halt>,
+) -> Option<u64>
+    ensures reaches { node_ready (view_work work.old) ≡ true → Reaches result taken.new (view_setting setting.now) (O.frame objects.now) (S.memory store.old) (S.memory store.new) pick
         (view_work work.old) (view_work work.new) }
     ensures limit { S.limit store.new ≡ S.limit store.old }
 {
     if pick > 0 {
-        return Ok(Walked::Passed(1));
+        return Some(1);
     }
-    node_step(alloc, store, objects, setting, work)
+    *taken = node_step(alloc, store, objects, setting, work);
+    None
 }
 
-/// The walk to the ready node with a number, from 0 on in post-order, in a tree.
+/// The walk to the ready node with a number, from 0 on in post-order, in a tree: how many ready nodes it passed, or none where it
+/// reached the one, and what came of its step is then in `taken`.
 #[cycle(walk)]
 pub(crate) fn walk<'a, S: Store, O: Objects>(
     alloc: Global,
@@ -101,37 +106,71 @@ pub(crate) fn walk<'a, S: Store, O: Objects>(
     setting: &Setting<'a>,
     work: &mut Work<'a>,
     pick: u64,
-) -> Result<Walked<'a>, Halt>
-    ensures walks { Walks result (view_setting setting.now) (O.frame objects.now) (S.memory store.old) (S.memory store.new) pick (view_work work.old) (view_work work.new) }
+    taken: &mut Result<Walked<'a>, Halt>,
+) -> Option<u64>
+    ensures reaches { Reaches result taken.new (view_setting setting.now) (O.frame objects.now) (S.memory store.old) (S.memory store.new) pick (view_work work.old) (view_work work.new) }
     ensures limit { S.limit store.new ≡ S.limit store.old }
 {
     if is_ready(work) {
-        return ready_step(alloc, store, objects, setting, work, pick);
+        return ready_step(alloc, store, objects, setting, work, pick, taken);
     }
     match work {
-        Work::Finished(_) => Ok(Walked::Passed(0)),
-        Work::Waits(_, _) => Ok(Walked::Passed(0)),
-        Work::Updates(_, _, _, _) => Err(Halt::Memory),
-        Work::Needs(_, operands) => walk_from(alloc, store, objects, setting, operands, 0, pick),
-        Work::Chooses(_, part) => walk(alloc, store, objects, setting, part.get_mut(), pick),
-        Work::Tests(_, _, part) => walk(alloc, store, objects, setting, part.get_mut(), pick),
-        Work::Carries(_, _, part) => walk(alloc, store, objects, setting, part.get_mut(), pick),
-        Work::Fills(_, _, _, _, part) => walk(alloc, store, objects, setting, part.get_mut(), pick),
+        Work::Finished(_) => Some(0),
+        Work::Waits(_, _) => Some(0),
+        Work::Updates(_, _, _, _) => stuck(taken),
+        Work::Needs(_, operands) => walk_from(
+            alloc, store, objects, setting, operands, 0, pick, taken,
+        ),
+        Work::Chooses(_, part) => walk(alloc, store, objects, setting, part.get_mut(), pick, taken),
+        Work::Tests(_, _, part) => walk(
+            alloc,
+            store,
+            objects,
+            setting,
+            part.get_mut(),
+            pick,
+            taken,
+        ),
+        Work::Carries(_, _, part) => walk(
+            alloc,
+            store,
+            objects,
+            setting,
+            part.get_mut(),
+            pick,
+            taken,
+        ),
+        Work::Fills(_, _, _, _, part) => walk(
+            alloc,
+            store,
+            objects,
+            setting,
+            part.get_mut(),
+            pick,
+            taken,
+        ),
     }
 }
 
-// What the trees behind one say, of which so many nodes were passed.
-fn behind<'a>(count: u64, rest: Result<Walked<'a>, Halt>) -> Result<Walked<'a>, Halt>
-    ensures { Adds count rest.entry result }
+// No step is known.
+fn stuck(taken: &mut Result<Walked<'_>, Halt>) -> Option<u64>
+    ensures result { result ≡ None }
+    ensures taken { taken.new ≡ Err halt.Memory }
 {
-    match rest {
-        Ok(Walked::Passed(more)) => match count.checked_add(more) {
-            Some(sum) => Ok(Walked::Passed(sum)),
-            None => Err(Halt::Memory),
-        },
-        Ok(Walked::Stepped) => Ok(Walked::Stepped),
-        Ok(Walked::Calls(called)) => Ok(Walked::Calls(called)),
-        Err(halt) => Err(halt),
+    *taken = Err(Halt::Memory);
+    None
+}
+
+// So many nodes more were passed than those of the trees behind one.
+fn behind(count: u64, rest: Option<u64>, taken: &mut Result<Walked<'_>, Halt>) -> Option<u64>
+    ensures { Adds count rest taken.old result taken.new }
+{
+    let Some(more) = rest else {
+        return None;
+    };
+    match count.checked_add(more) {
+        Some(sum) => Some(sum),
+        None => stuck(taken),
     }
 }
 
@@ -145,17 +184,25 @@ fn walk_from<'a, S: Store, O: Objects>(
     operands: &mut Children<Work<'a>>,
     index: usize,
     pick: u64,
-) -> Result<Walked<'a>, Halt>
-    ensures walks { WalksFrom result (view_setting setting.now) (O.frame objects.now) (S.memory store.old) (S.memory store.new) pick index (map view_work operands.old) (map view_work operands.new) }
+    taken: &mut Result<Walked<'a>, Halt>,
+) -> Option<u64>
+    ensures reaches { ReachesFrom result taken.new (view_setting setting.now) (O.frame objects.now) (S.memory store.old) (S.memory store.new) pick index (map view_work operands.old) (map view_work operands.new) }
     ensures limit { S.limit store.new ≡ S.limit store.old }
 {
     if index >= operands.len() {
-        return Ok(Walked::Passed(0));
+        return Some(0);
     }
-    match walk(alloc, store, objects, setting, operands.at_mut(index), pick) {
-        Ok(Walked::Passed(count)) => behind(
-            count,
-            walk_from(
+    match walk(
+        alloc,
+        store,
+        objects,
+        setting,
+        operands.at_mut(index),
+        pick,
+        taken,
+    ) {
+        Some(count) => {
+            let rest = walk_from(
                 alloc,
                 store,
                 objects,
@@ -163,10 +210,10 @@ fn walk_from<'a, S: Store, O: Objects>(
                 operands,
                 index + 1,
                 pick - count,
-            ),
-        ),
-        Ok(Walked::Stepped) => Ok(Walked::Stepped),
-        Ok(Walked::Calls(called)) => Ok(Walked::Calls(called)),
-        Err(halt) => Err(halt),
+                taken,
+            );
+            behind(count, rest, taken)
+        }
+        None => None,
     }
 }

@@ -1,5 +1,5 @@
 pub mod Chains
 pub mod Compatible
+pub mod Joining
 pub mod Mains
-pub mod Together
 mod Worked

@@ -13,7 +13,7 @@ pub record CFound (A : Type 0) : Type 0 where
   pub home : CUnit
   pub thing : A
 
-abbrev found_or : {A : Type 0} → ℕ → CUnit → Option A → Option (CFound A) → Option (CFound A)
+abbrev pub found_or : {A : Type 0} → ℕ → CUnit → Option A → Option (CFound A) → Option (CFound A)
 found_or unit home (Some thing) others = Some (record { unit = unit; home = home; thing = thing })
 found_or unit home None others = others
 
@@ -26,12 +26,12 @@ abbrev pub or_other : {A : Type 0} → Option A → Option A → Option A
 or_other (Some one) other = Some one
 or_other None other = other
 
-abbrev has_name : List ℕ → Option (List ℕ) → Bool
+abbrev pub has_name : List ℕ → Option (List ℕ) → Bool
 has_name name None = false
 has_name name (Some other) = bytes_eq name other
 
 -- an object and a function with an external name, in a unit
-abbrev is_object_named : List ℕ → CObject → Bool
+abbrev pub is_object_named : List ℕ → CObject → Bool
 is_object_named name one = is_external one.linkage && has_name name one.name
 
 abbrev pub declared_object : List ℕ → CUnit → Option CObject
@@ -70,11 +70,11 @@ object_at units unit number = (counts_before unit units).objects + number
 abbrev pub function_at : List CUnit → ℕ → ℕ → ℕ
 function_at units unit number = (counts_before unit units).functions + number
 
-abbrev object_by : List CUnit → ℕ → Option (CFound CObject) → ℕ
+abbrev pub object_by : List CUnit → ℕ → Option (CFound CObject) → ℕ
 object_by units own None = own
 object_by units own (Some found) = object_at units found.unit found.thing.object
 
-abbrev object_as : List CUnit → ℕ → Option CObject → ℕ
+abbrev pub object_as : List CUnit → ℕ → Option CObject → ℕ
 object_as units own None = own
 object_as units own (Some one) = if is_external one.linkage then object_by units own (named one.name) else own
   where
@@ -86,16 +86,16 @@ object_as units own (Some one) = if is_external one.linkage then object_by units
 abbrev pub object_number : List CUnit → CUnit → ℕ → ℕ → ℕ
 object_number units one unit number = object_as units (object_at units unit number) (find (λ known. known.object == number) one.objects)
 
-abbrev outer_by : List CUnit → ℕ → Option (CFound COuter) → ℕ
+abbrev pub outer_by : List CUnit → ℕ → Option (CFound COuter) → ℕ
 outer_by units own None = own
 outer_by units own (Some found) = function_at units found.unit found.thing.function
 
-abbrev function_by : List CUnit → List ℕ → ℕ → Option (CFound CFun) → ℕ
+abbrev pub function_by : List CUnit → List ℕ → ℕ → Option (CFound CFun) → ℕ
 function_by units name own (Some found) = function_at units found.unit found.thing.function
 function_by units name own None = outer_by units own (outer_of_name units name)
 
 -- a function that a unit declares and doesn't define
-abbrev function_as : List CUnit → ℕ → Option COuter → ℕ
+abbrev pub function_as : List CUnit → ℕ → Option COuter → ℕ
 function_as units own None = own
 function_as units own (Some one) = if is_external one.linkage then function_by units one.name own (function_of_name units one.name) else own
 
@@ -138,33 +138,33 @@ abbrev pub types_of_all : List CUnit → CTypes
 types_of_all units = types_from units 0 units
 
 -- whether something is found in the unit with a number
-abbrev is_in : {A : Type 0} → ℕ → Option (CFound A) → Bool
+abbrev pub is_in : {A : Type 0} → ℕ → Option (CFound A) → Bool
 is_in unit None = false
 is_in unit (Some found) = found.unit == unit
 
-abbrev there : List CUnit → Option (CFound CObject) → List CObject
+abbrev pub there : List CUnit → Option (CFound CObject) → List CObject
 there units None = []
 there units (Some found) = object_there (numbers_of units found.home found.unit) found.thing ∷ []
 
 -- the object of an external name stands where the name is declared first
-abbrev external_object : List CUnit → ℕ → Option (List ℕ) → List CObject
+abbrev pub external_object : List CUnit → ℕ → Option (List ℕ) → List CObject
 external_object units unit None = []
 external_object units unit (Some name) =
     if is_in unit (first_unit (declared_object name) 0 units) then there units (object_of_name units name) else []
 
-abbrev objects_from : List CUnit → CUnit → ℕ → List CObject → List CObject
+abbrev pub objects_from : List CUnit → CUnit → ℕ → List CObject → List CObject
 objects_from units one unit [] = []
 objects_from units one unit (known ∷ others) =
     (if is_external known.linkage then external_object units unit known.name else object_there (numbers_of units one unit) known ∷ [])
     ++ objects_from units one unit others
 
 -- a function that no unit defines stands where its name is declared first
-abbrev is_left : List CUnit → ℕ → COuter → Bool
+abbrev pub is_left : List CUnit → ℕ → COuter → Bool
 is_left units unit known =
     is_external known.linkage
     && (is_none (function_of_name units known.name) && is_in unit (outer_of_name units known.name))
 
-abbrev outers_from : List CUnit → CUnit → ℕ → List COuter → List COuter
+abbrev pub outers_from : List CUnit → CUnit → ℕ → List COuter → List COuter
 outers_from units one unit [] = []
 outers_from units one unit (known ∷ others) =
     (if is_left units unit known then outer_there (numbers_of units one unit) known ∷ [] else []) ++ outers_from units one unit others

@@ -9,8 +9,8 @@ use cr_base::Memory;
 use cx_core::{CoreObject, CoreUnit, Fun, Outer};
 use cx_renumber::Counts;
 
-// A number of 32 bits more than which there are none.
-pub(crate) fn narrow(count: usize) -> Result<u32, Memory>
+/// A count as a number of 32 bits. Refused only where it needs more.
+pub fn narrow(count: usize) -> Result<u32, Memory>
     ensures { IfOk result (λ made. made ≡ count) }
 {
     match u32::try_from(count) {
@@ -28,7 +28,8 @@ fn sum(first: u32, second: u32) -> Result<u32, Memory>
     }
 }
 
-pub(crate) fn no_counts() -> Counts
+/// No numbers.
+pub fn no_counts() -> Counts
     ensures { view_counts result ≡ no_counts }
 {
     Counts {
@@ -40,7 +41,7 @@ pub(crate) fn no_counts() -> Counts
 }
 
 /// What both take together. Refused only where a number needs more than 32 bits.
-pub(crate) fn together(first: Counts, second: Counts) -> Result<Counts, Memory>
+pub fn together(first: Counts, second: Counts) -> Result<Counts, Memory>
     ensures { IfOk result (λ made. view_counts made ≡ together (view_counts first) (view_counts second)) }
 {
     Ok(Counts {
@@ -82,7 +83,7 @@ fn above_outers(externals: &[Outer]) -> Result<u32, Memory>
 }
 
 /// What a unit takes. Refused only where a number needs more than 32 bits.
-pub(crate) fn counts_of(one: &CoreUnit) -> Result<Counts, Memory>
+pub fn counts_of(one: &CoreUnit) -> Result<Counts, Memory>
     ensures { IfOk result (λ made. view_counts made ≡ counts_of (view_unit one.now)) }
 {
     let functions = above_functions(one.functions.as_slice())?;

@@ -120,7 +120,7 @@ fn add_types(alloc: Global, before: Counts, types: &Types, all: &mut Types) -> R
 }
 
 /// The types of all units, one unit behind another. Refused only for want of memory.
-pub(crate) fn all_types(alloc: Global, units: &[CoreUnit]) -> Result<Types, Memory>
+pub fn all_types(alloc: Global, units: &[CoreUnit]) -> Result<Types, Memory>
     ensures { IfOk result (λ made. view_types made ≡ types_of_all (map view_unit units.now)) }
 {
     let mut before = no_counts();

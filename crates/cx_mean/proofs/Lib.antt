@@ -16,6 +16,7 @@ pub mod ExampleUndefinedCalls
 pub mod ExampleUnits
 pub mod Finished
 pub mod Functions
+pub mod GoodPairs
 pub mod Kept
 pub mod KeptNodes
 pub mod KeptSteps

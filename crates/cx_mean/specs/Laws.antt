@@ -1,13 +1,14 @@
 -- Laws of runs.
-use Rattle.std.specs.Prelude.{◌≡◌, ℕ, suc, ◌+◌, ◌<◌, ℤ, eqb, List, [], ◌∷◌, ◌++◌, length, map, Option, Some, None, IsSome, slice_get}
+use Rattle.std.specs.Prelude.{◌≡◌, ◌↔◌, IsTrue, ℕ, suc, ◌+◌, ◌<◌, ℤ, eqb, List, [], ◌∷◌, ◌++◌, length, map, Option, Some, None, IsSome, slice_get}
 use Rattle.std.specs.List.{IsDistinct}
 use Rattle.cr_base.specs.declared.layout.Laid.{Laid}
 use Rattle.cr_runs.specs.Runs.{out}
-use Rattle.cx_core.specs.Trees.{CObject, CProgram}
+use Rattle.cx_core.specs.Compatible.{AreCompatible}
+use Rattle.cx_core.specs.Trees.{CTy, CObject, CProgram}
 use Rattle.ext_calls.specs.declared.call.Call.{Call}
 use Rattle.cr_world.specs.World.{World, Outside, Terms, open_ended, trail_of}
 use Rattle.cr_world.specs.Held.{zero_block}
-use Rattle.cx_mean.specs.Settings.{CSetting, extent_in}
+use Rattle.cx_mean.specs.Settings.{CSetting, are_compatible, extent_in, setting_of}
 use Rattle.mem_bytes.specs.Counted.{Limit}
 use Rattle.mem_bytes.specs.Memory.{Block, Blocks, live_block}
 use Rattle.cx_mean.specs.Leftmost.{c_begins, c_leftmost_on}
@@ -109,3 +110,10 @@ pub record StaticsBegin : Type 0 where
   -- that block is live, and its bytes are 0
   pub block_is : (setting : CSetting) (objects : List CObject) (number : ℕ) (one : CObject) → slice_get objects number ≡ Some one →
       live_block (zeroed_blocks setting objects) number ≡ Some (zeroed setting one)
+
+-- the test of a run for compatible types is what compatible types are (6.2.7): the pairs of records that a setting holds are
+-- the largest good set
+abbrev pub CompatibleTypesAreFound : Type 0
+CompatibleTypesAreFound =
+    (program : CProgram) (first second : CTy) →
+    IsTrue (are_compatible (setting_of program) first second) ↔ AreCompatible program.types first second

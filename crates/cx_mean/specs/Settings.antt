@@ -16,30 +16,30 @@ pub record CPair : Type 0 where
   pub second : ℕ
 
 -- the pairs of one record with those numbered below another number
-abbrev pairs_below : ℕ → ℕ → List CPair
+abbrev pub pairs_below : ℕ → ℕ → List CPair
 pairs_below first zero = []
 pairs_below first (suc n) = record { first = first; second = n } ∷ pairs_below first n
 
 -- the pairs of those numbered below a number with those below another
-abbrev all_pairs : ℕ → ℕ → List CPair
+abbrev pub all_pairs : ℕ → ℕ → List CPair
 all_pairs zero count = []
 all_pairs (suc n) count = pairs_below n count ++ all_pairs n count
 
 -- the records of two units
-abbrev pairs_of_two_units : CTypes → List CPair
+abbrev pub pairs_of_two_units : CTypes → List CPair
 pairs_of_two_units types =
-    filter (λ pair. of_two_units types.record_units pair.first pair.second) (all_pairs (length types.records) (length types.records))
+    filter (λ pair. of_two_units types.record_units pair.first pair.second) (all_pairs (length types.record_tags) (length types.record_tags))
 
 -- a pair is in a list
 abbrev pub is_pair_in : List CPair → ℕ → ℕ → Bool
 is_pair_in pairs first second = list_any (λ pair. pair.first == first && pair.second == second) pairs
 
 -- a pair agrees where every pair of a list counts as compatible
-abbrev agrees_with : CTypes → List CPair → CPair → Bool
+abbrev pub agrees_with : CTypes → List CPair → CPair → Bool
 agrees_with types pairs one = pair_agrees types (is_pair_in pairs) (record { first = one.first; second = one.second })
 
 -- those pairs that agree where every pair of the list counts as compatible, so many times one after the other
-abbrev agreeing : CTypes → ℕ → List CPair → List CPair
+abbrev pub agreeing : CTypes → ℕ → List CPair → List CPair
 agreeing types zero pairs = pairs
 agreeing types (suc n) pairs = agreeing types n (filter (agrees_with types pairs) pairs)
 

@@ -1,6 +1,6 @@
 //! Laws of the meaning of C. The functions do nothing: their contracts are the laws.
 
-ghost use Rattle.cx_mean.specs.Laws.{LeftmostIsRun, EndedRunsStay, EventsOnlyGrow, TrailIsOutside, StaticsBegin};
+ghost use Rattle.cx_mean.specs.Laws.{CompatibleTypesAreFound, LeftmostIsRun, EndedRunsStay, EventsOnlyGrow, TrailIsOutside, StaticsBegin};
 ghost use Rattle.cx_mean.specs.Unwritten.{UnwrittenStays, UnwrittenStaysInAnyOrder};
 
 /// Law: under the empty order, which always takes the leftmost node, a run shows after any number of
@@ -40,4 +40,10 @@ pub fn unwritten_stays()
 /// Law: the same in whatever order an expression without calls is evaluated, and no step of it calls.
 pub fn unwritten_stays_in_any_order()
     ensures { UnwrittenStaysInAnyOrder }
+{}
+
+/// Law: the types that a run takes as compatible, where a function is called through a pointer, are those that
+/// are compatible (ISO C99, 6.2.7, 6.5.2.2p9).
+pub fn compatible_types_are_found()
+    ensures { CompatibleTypesAreFound }
 {}

@@ -6,6 +6,6 @@
 mod laws;
 
 pub use laws::{
-    ended_runs_stay, events_only_grow, leftmost_is_run, statics_begin, trail_is_outside,
-    unwritten_stays, unwritten_stays_in_any_order,
+    compatible_types_are_found, ended_runs_stay, events_only_grow, leftmost_is_run, statics_begin,
+    trail_is_outside, unwritten_stays, unwritten_stays_in_any_order,
 };

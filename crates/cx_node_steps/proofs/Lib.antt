@@ -1,3 +1,4 @@
+mod Compatible
 mod Given
 mod Grouped
 mod Single

@@ -1,9 +1,8 @@
 -- The accesses of one or two operands.
-use Rattle.std.proofs.Common.{◌≡◌, refl, sym, ◌∙◌, ap, Bool, true, false, ◌||◌, List, [], ◌∷◌, ◌++◌, Result, Ok, Err}
-use Rattle.std.specs.List.{list_any}
+use Rattle.std.proofs.Common.{◌≡◌, refl, false, List, [], ◌∷◌, Ok}
 use Rattle.std.proofs.lemmas.List.{append-nil}
-use Rattle.cx_mean.specs.Marks.{Range, Marks, no_marks, overlap, any_overlap, conflict, both}
-use Rattle.cx_mean.specs.Operands.{CWhy, united}
+use Rattle.cx_mean.specs.Marks.{Range, Marks, no_marks, any_overlap, conflict, both}
+use Rattle.cx_mean.specs.Operands.{united}
 use Rattle.cx_node_steps.specs.Unites.{united_with}
 
 nothing_meets : (ranges : List Range) → any_overlap ranges [] ≡ false

@@ -1,5 +1,5 @@
 -- The load of `++` and `--`.
-use Rattle.std.proofs.Common.{◌≡◌, refl, sym, subst, Bool, List, [], ◌∷◌, Ok}
+use Rattle.std.proofs.Common.{◌≡◌, refl, sym, subst, Bool, [], ◌∷◌, Ok}
 use Rattle.cx_core.specs.Trees.{CExpr, CForm, step}
 use Rattle.cx_mean.specs.Nodes.{CChange, changes, node_updating, update_loaded}
 use Rattle.cx_mean.specs.Operands.{COperand, Frame}

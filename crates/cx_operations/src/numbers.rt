@@ -1,13 +1,13 @@
 //! Operators over numbers (ISO C99, 6.5.3.3 and 6.5.5 to 6.5.12).
 
-ghost use Rattle.std.specs.Prelude.{◌≡◌, true, IsTrue, ℤ, Result};
+ghost use Rattle.std.specs.Prelude.{◌≡◌, true, IfSome, IsTrue, ℤ, Ok, Result};
 ghost use Rattle.cr_base.specs.Scalar.{IsInteger};
 ghost use Rattle.cx_access.specs.Finds.{Finds};
 ghost use Rattle.cx_access.specs.Views.{view_setting};
 ghost use Rattle.cx_mean.specs.Settings.{scalar_in_type};
 ghost use Rattle.cx_mean.specs.Values.{unary_value};
 ghost use Rattle.cx_numbers.specs.Calls.{IsNumber};
-ghost use Rattle.cx_numbers.specs.Numbers.{CWhy, is_shift, number_of_binary, number_of_unary};
+ghost use Rattle.cx_numbers.specs.Numbers.{CWhy, is_shift, number_of_binary, number_of_truth, number_of_unary};
 ghost use Rattle.cx_operations.specs.Parts.{arithmetic_in, numbers_in};
 ghost use Rattle.cx_work.specs.Views.{view_operand_ty};
 
@@ -60,9 +60,33 @@ fn is_shift(op: Op2) -> bool
     matches!(op, Op2::ShiftLeft | Op2::ShiftRight)
 }
 
+// What a comparison says of two numbers of any type (ISO C99, 6.5.8p6, 6.5.9p3); None for another operator.
+fn compared(op: Op2, left: Int, right: Int) -> Option<bool>
+    ensures { (kind : Scalar) → IfSome result (λ holds. number_of_binary op kind left right ≡ Ok (number_of_truth holds)) }
+{
+    match op {
+        Op2::Less => Some(left < right),
+        Op2::Greater => Some(left > right),
+        Op2::LessOrEqual => Some(left <= right),
+        Op2::GreaterOrEqual => Some(left >= right),
+        Op2::Equal => Some(left == right),
+        Op2::NotEqual => Some(left != right),
+        _ => None,
+    }
+}
+
+fn truth(holds: bool) -> Result<Int, Trouble>
+    ensures { Finds (λ one. one) result (Ok (number_of_truth holds)) }
+{
+    Ok(Int::from(holds))
+}
+
 fn binary_in(op: Op2, kind: Scalar, left: Int, right: Int) -> Result<Int, Trouble>
     ensures { Finds (λ one. one) result (number_of_binary op kind left right) }
 {
+    if let Some(holds) = compared(op, left, right) {
+        return truth(holds);
+    }
     if !is_integer(kind) {
         return Err(Trouble::Memory);
     }

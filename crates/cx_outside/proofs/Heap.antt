@@ -1,65 +1,60 @@
--- Places in a list of allocated blocks.
-use Rattle.std.proofs.Common.{◌≡◌, refl, ap, sym, arith, ℕ, suc, ◌+◌, ◌==◌, Bool, true, false, List, [], ◌∷◌, ◌++◌, ◌<◌, take, drop, length, Option, Some, None, option_map, if◌then◌else◌}
+-- The numbers of allocated blocks, held with the greatest in front.
+use Rattle.std.proofs.Common.{◌≡◌, ◌∙◌, refl, ap, sym, arith, ℕ, ℤ, ◌==◌, nat_lt, Bool, true, false, cond, List, [], ◌∷◌, if◌then◌else◌, ◌||◌}
+use Rattle.std.proofs.lemmas.Bool.{ltb-true, ne_eqb}
+use Rattle.std.specs.Bool.{OnFalse}
+use Rattle.std.specs.List.{list_any}
+use Rattle.std.specs.Ordering.{is_eq, nat_cmp}
+use Rattle.std.specs.Set.{remove_key}
+use Rattle.std.specs.declared.cmp.Ordering.TheVariants.{Less, Equal, Greater}
+use Rattle.std.specs.declared.cmp.Reverse.{Reverse}
 use Rattle.cr_world.specs.Held.{is_listed, without_entry}
-use Rattle.cx_outside.specs.Moves.{entry_of}
+use Rattle.cx_outside.specs.Moves.{Released}
+use Rattle.cx_outside.specs.States.{numbers_of}
 
-some_sum : (n k : ℕ) → n + suc k ≡ n + 1 + k
-some_sum n k = omega arith
+-- ---- numbers that are equal
 
-pub one_further : (n : ℕ) (place : Option ℕ) → option_map (λ k. n + 1 + k) place ≡ option_map (λ k. n + k) (option_map suc place)
-one_further n None = refl
-one_further n (Some k) = ap Some (sym (some_sum n k))
+ordered_alike : (less same : Bool) → (less ≡ true → same ≡ false) → is_eq (cond less Less (cond same Equal Greater)) ≡ same
+ordered_alike true same apart = sym (apart refl)
+ordered_alike false true apart = refl
+ordered_alike false false apart = refl
 
-pub from_start : (place : Option ℕ) → option_map (λ k. 0 + k) place ≡ place
-from_start None = refl
-from_start (Some k) = ap Some (omega arith)
+compared : (one other : ℕ) → is_eq (nat_cmp one other) ≡ (one == other)
+compared one other = ordered_alike (nat_lt one other) (one == other)
+    (λ less. ne_eqb one other (λ same. let below = ltb-true one other less in absurd (omega (arith, below, same))))
 
-abbrev placed : Bool → Option ℕ → Option ℕ
-placed test place = if test then Some 0 else option_map suc place
+-- whether a number of the list is this one
+abbrev is_of : ℕ → Reverse ℕ → Bool
+is_of block key = is_eq (nat_cmp key.0 block)
 
--- what follows of the first number of a list, of those behind it
-behind_there : (test : Bool) (listed : Bool) (place : Option ℕ) (index : ℕ) → ((k : ℕ) → Some k ≡ place → listed ≡ true) →
-    Some index ≡ placed test place → (if test then true else listed) ≡ true
-behind_there true listed place index go is = refl
-behind_there false listed None index go is = absurd cc
-behind_there false listed (Some k) index go is = go k refl
+-- ---- a number is taken out
 
--- a number that has a place is listed
-pub is_there : (number : ℕ) (list : List ℕ) (index : ℕ) → Some index ≡ entry_of number list → is_listed number list ≡ true
-is_there number [] index is = absurd cc
-is_there number (first ∷ others) index is =
-    behind_there (first == number) (is_listed number others) (entry_of number others) index (λ k. is_there number others k) is
+listed_step : (one same : Bool) → one ≡ same → (here there : Bool) → here ≡ there → (one || here) ≡ (if same then true else there)
+listed_step true true is here there behind = refl
+listed_step false false is here there behind = behind
+listed_step true false is here there behind = absurd cc
+listed_step false true is here there behind = absurd cc
 
-behind_absent : (test : Bool) (listed : Bool) (place : Option ℕ) → (None ≡ place → listed ≡ false) → None ≡ placed test place → (if test then true else listed) ≡ false
-behind_absent true listed place go is = absurd cc
-behind_absent false listed None go is = go refl
-behind_absent false listed (Some k) go is = absurd cc
+is_there : (block : ℕ) (keys : List (Reverse ℕ)) → list_any (is_of block) keys ≡ is_listed block (numbers_of keys)
+is_there block [] = refl
+is_there block (first ∷ others) =
+    listed_step (is_of block first) (first.0 == block) (compared first.0 block) (list_any (is_of block) others) (is_listed block (numbers_of others)) (is_there block others)
 
--- one without a place isn't
-pub is_absent : (number : ℕ) (list : List ℕ) → None ≡ entry_of number list → is_listed number list ≡ false
-is_absent number [] is = refl
-is_absent number (first ∷ others) is = behind_absent (first == number) (is_listed number others) (entry_of number others) (is_absent number others) is
+removed_step : (one same : Bool) → one ≡ same → (first : Reverse ℕ) (others rest : List (Reverse ℕ)) (numbers : List ℕ) → numbers_of rest ≡ numbers →
+    numbers_of (cond one others (first ∷ rest)) ≡ (if same then numbers_of others else first.0 ∷ numbers)
+removed_step true true is first others rest numbers behind = refl
+removed_step false false is first others rest numbers behind = ap (λ (list : List ℕ). first.0 ∷ list) behind
+removed_step true false is first others rest numbers behind = absurd cc
+removed_step false true is first others rest numbers behind = absurd cc
 
-some_is : (one other : ℕ) → Some one ≡ Some other → one ≡ other
-some_is one other is = cc
+is_removed : (block : ℕ) (keys : List (Reverse ℕ)) → numbers_of (remove_key (is_of block) keys) ≡ without_entry block (numbers_of keys)
+is_removed block [] = refl
+is_removed block (first ∷ others) =
+    removed_step (is_of block first) (first.0 == block) (compared first.0 block) first others (remove_key (is_of block) others) (without_entry block (numbers_of others)) (is_removed block others)
 
-behind_below : (test : Bool) (others : List ℕ) (place : Option ℕ) (index : ℕ) → ((k : ℕ) → Some k ≡ place → k < length others) →
-    Some index ≡ placed test place → index < suc (length others)
-behind_below true others place index go is = let none = some_is index 0 is in omega (arith, none)
-behind_below false others None index go is = absurd cc
-behind_below false others (Some k) index go is = let one = some_is index (suc k) is in let less = go k refl in omega (arith, one, less)
-
-pub is_below : (number : ℕ) (list : List ℕ) (index : ℕ) → Some index ≡ entry_of number list → index < length list
-is_below number [] index is = absurd cc
-is_below number (first ∷ others) index is = behind_below (first == number) others (entry_of number others) index (λ k. is_below number others k) is
-
-behind_removed : (test : Bool) (first : ℕ) (others rest : List ℕ) (place : Option ℕ) (index : ℕ) → ((k : ℕ) → Some k ≡ place → rest ≡ take k others ++ drop (suc k) others) →
-    Some index ≡ placed test place → (if test then others else first ∷ rest) ≡ take index (first ∷ others) ++ drop (suc index) (first ∷ others)
-behind_removed true first others rest place index go is = rw (some_is index 0 is) refl
-behind_removed false first others rest None index go is = absurd cc
-behind_removed false first others rest (Some k) index go is = rw (some_is index (suc k) is) (ap (λ (list : List ℕ). first ∷ list) (go k refl))
-
-pub is_removed : (number : ℕ) (list : List ℕ) (index : ℕ) → Some index ≡ entry_of number list → without_entry number list ≡ take index list ++ drop (suc index) list
-is_removed number [] index is = absurd cc
-is_removed number (first ∷ others) index is =
-    behind_removed (first == number) first others (without_entry number others) (entry_of number others) index (λ k. is_removed number others k) is
+pub is_released : (result : Bool) (block : ℕ) (trail : List ℤ) (before after : List (Reverse ℕ)) →
+    result ≡ list_any (is_of block) before → after ≡ remove_key (is_of block) before → OnFalse result (after ≡ before) →
+    Released result block (record { trail = trail; heap = numbers_of before }) (record { trail = trail; heap = numbers_of after })
+is_released true block trail before after is keys same =
+    (sym (is_there block before) ∙ sym is, ap (λ (list : List ℕ). record { trail = trail; heap = list }) (ap numbers_of keys ∙ is_removed block before))
+is_released false block trail before after is keys same =
+    (sym (is_there block before) ∙ sym is, ap (λ (list : List (Reverse ℕ)). record { trail = trail; heap = numbers_of list }) same)

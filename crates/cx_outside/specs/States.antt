@@ -1,5 +1,5 @@
 -- What a run holds between two steps beside where it stands, and the world of the meaning that it stands for.
-use Rattle.std.specs.Prelude.{◌≡◌, ℕ, Bool, true, ◌≤◌, ℤ, List, [], ◌∷◌, ◌++◌, drop, Option, IfSome, option_map}
+use Rattle.std.specs.Prelude.{◌≡◌, ℕ, Bool, true, ◌≤◌, ℤ, List, [], ◌∷◌, ◌++◌, map, drop, Option, IfSome, option_map}
 use Rattle.cr_world.specs.Held.{Held}
 use Rattle.cr_world.specs.World.{World, trail_of}
 use Rattle.ext_calls.specs.declared.call.Call.{Call}
@@ -7,11 +7,16 @@ use Rattle.ext_calls.specs.declared.call.Made.{Made}
 use Rattle.ext_calls.specs.Host.{HostState, first_answer}
 use Rattle.mem_bytes.specs.Counted.{Limit}
 use Rattle.mem_bytes.specs.Memory.{Blocks}
+use Rattle.std.specs.declared.cmp.Reverse.{Reverse}
 
 -- what is kept beside the memory and the host: the answers taken so far, and the allocated blocks, the newest first
 pub record KeptState : Type 0 where
   pub trail : List ℤ
   pub heap : List ℕ
+
+-- the numbers of blocks that are held with the greatest in front
+abbrev pub numbers_of : List (Reverse ℕ) → List ℕ
+numbers_of keys = map (λ key. key.0) keys
 
 pub record Around : Type 0 where
   pub held : Held

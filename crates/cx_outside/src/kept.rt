@@ -1,10 +1,12 @@
 //! What is kept of a run beside its memory and its host.
 
-ghost use Rattle.std.specs.Prelude.{◌≡◌, pos, [], ◌∷◌, ◌++◌, OnOk, OnErr};
-ghost use Rattle.cx_outside.specs.Moves.{Released, TookOut, entry_of};
+ghost use Rattle.std.specs.Prelude.{◌≡◌, pos, [], ◌∷◌, ◌++◌, OnOk, OnErr, IsTrue};
+ghost use Rattle.cx_outside.specs.Moves.{IsNewest, Released};
 
 use cr_base::{Items, Memory};
 use std::alloc::Global;
+use std::cmp::Reverse;
+use std::collections::BTreeSet;
 use std::marker::Model;
 
 /// The answers that a run has taken, and the blocks that its allocations gave and that live still.
@@ -12,16 +14,16 @@ use std::marker::Model;
 pub struct Kept {
     alloc: Global,
     trail: Items<i64>,
-    // The newest first.
-    heap: Vec<u64>,
+    // The newest first: the numbers of blocks rise.
+    heap: BTreeSet<Reverse<u64>, Global>,
 }
 
 impl Model for Kept {
-    ghost use Rattle.cx_outside.specs.States.{KeptState};
+    ghost use Rattle.cx_outside.specs.States.{KeptState, numbers_of};
 
     ghost Value = { KeptState };
 
-    ghost view = { λ kept. record { trail = kept.trail; heap = kept.heap.items } };
+    ghost view = { λ kept. record { trail = kept.trail; heap = numbers_of kept.heap.keys } };
 }
 
 impl Kept {
@@ -32,7 +34,7 @@ impl Kept {
         Kept {
             alloc,
             trail: Items::new(alloc),
-            heap: Vec::new(alloc),
+            heap: BTreeSet::new(alloc),
         }
     }
 
@@ -57,12 +59,15 @@ impl Kept {
         self.trail.push(answer)
     }
 
-    /// Notes a block that an allocation gave, by its answer 1.
+    /// Notes a block that an allocation gave, by its answer 1. None is noted behind one with a greater number.
     pub(crate) fn granted(&mut self, block: u64) -> Result<(), Memory>
         ensures { OnOk result (self.new ≡ record self.old { trail = self.old.trail ++ pos 1 ∷ []; heap = block ∷ self.old.heap }) }
     {
+        if !is_newest(&self.heap, block) {
+            return Err(Memory);
+        }
         self.trail.push(1)?;
-        self.heap.insert(0, block)?;
+        self.heap.insert(Reverse(block))?;
         Ok(())
     }
 
@@ -70,33 +75,16 @@ impl Kept {
     pub(crate) fn release(&mut self, block: u64) -> bool
         ensures { Released result block self.old self.new }
     {
-        take_out(&mut self.heap, block)
+        self.heap.remove(&Reverse(block))
     }
 }
 
-// Takes the first entry of a number out of a list, if there is one.
-#[tactic(auto, using(crate::proofs::Heap::is_there, crate::proofs::Heap::is_absent, crate::proofs::Heap::is_below, crate::proofs::Heap::is_removed))]
-fn take_out(list: &mut Vec<u64>, number: u64) -> bool
-    ensures { TookOut result number list.old.items list.new.items }
+// Whether a number is greater than those that are held.
+fn is_newest(heap: &BTreeSet<Reverse<u64>, Global>, block: u64) -> bool
+    ensures { IsTrue result → IsNewest block heap.now.keys }
 {
-    let Some(index) = entry_of(list.as_slice(), number) else {
-        return false;
-    };
-    let _number = list.remove(index);
-    true
-}
-
-// The first place of a number in a list.
-#[tactic(auto, using(crate::proofs::Heap::one_further, crate::proofs::Heap::from_start))]
-fn entry_of(list: &[u64], number: u64) -> Option<usize>
-    ensures { result ≡ entry_of number list.now }
-{
-    let mut index = 0;
-    for one in list {
-        if *one == number {
-            return Some(index);
-        }
-        index += 1;
+    match heap.first() {
+        Some(newest) => newest.0 < block,
+        None => true,
     }
-    None
 }

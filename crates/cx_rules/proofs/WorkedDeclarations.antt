@@ -500,3 +500,40 @@ length_seen_in_block = refl
 function_seen_in_block : is_refused (record { parts = (t.Declaration (record { specs = (t.more_specs (t.Key keyword.Int (1 ∷ [])) t.no_specs); list = record { declarator = (t.Function (t.Identifier (codes "f") (1 ∷ [])) (t.more_params (t.Param (t.more_specs (t.Key keyword.Int (1 ∷ [])) t.no_specs) t.Missing []) t.no_params) false (1 ∷ 1 ∷ [])); init = None; lines = [] } ∷ []; lines = (1 ∷ []) })) ∷ (t.Defined (record { specs = (t.more_specs (t.Key keyword.Int (1 ∷ [])) t.no_specs); declarator = (t.Function (t.Identifier (codes "main") (1 ∷ [])) (t.more_params (t.Param (t.more_specs (t.Key keyword.Void (1 ∷ [])) t.no_specs) t.Missing []) t.no_params) false (1 ∷ 1 ∷ [])); body = t.Block (t.more_items (t.Declared (record { specs = (t.more_specs (t.Key keyword.Int (1 ∷ [])) t.no_specs); list = record { declarator = (t.Identifiers (t.Identifier (codes "f") (1 ∷ [])) [] (1 ∷ 1 ∷ [])); init = None; lines = [] } ∷ []; lines = (1 ∷ []) })) (t.more_items (t.Statement (t.Return (t.some_expr (t.Call (t.Name (codes "f") (1 ∷ [])) (t.more_exprs (t.Number 1 ty0.Int (1 ∷ [])) (t.more_exprs (t.Number 2 ty0.Int (1 ∷ [])) t.no_exprs)) (1 ∷ 1 ∷ []))) (1 ∷ 1 ∷ []))) t.no_items)) (1 ∷ 1 ∷ []); lines = [] })) ∷ []; lines = [] }) rule.K9 1
 unfolding layouts_of same_basic holds_const linkage_of clashes with_declaration with_content with_head unit_of landing puts_of constant_of is_null_constant pairing is_assignable check_gives check_chain check_here check_becomes check_look breaks node_rules rule_at same_key specs_type unary_of binary_of assignment_of
 function_seen_in_block = refl
+
+-- Types that an initialiser or another declaration of the unit completes
+
+-- `int f(void) { extern int a[2]; return 0; }` and on line 2 `int a[] = {1, 2, 3};`
+other_length_by_initialiser : is_refused (record { parts = (t.Defined (record { specs = (t.more_specs (t.Key keyword.Int (1 ∷ [])) t.no_specs); declarator = (t.Function (t.Identifier (codes "f") (1 ∷ [])) (t.more_params (t.Param (t.more_specs (t.Key keyword.Void (1 ∷ [])) t.no_specs) t.Missing []) t.no_params) false (1 ∷ 1 ∷ [])); body = t.Block (t.more_items (t.Declared (record { specs = (t.more_specs (t.Key keyword.Extern (1 ∷ [])) (t.more_specs (t.Key keyword.Int (1 ∷ [])) t.no_specs)); list = record { declarator = (t.Array (t.Identifier (codes "a") (1 ∷ [])) (t.Length [] (t.Number 2 ty0.Int (1 ∷ []))) (1 ∷ 1 ∷ [])); init = None; lines = [] } ∷ []; lines = (1 ∷ []) })) (t.more_items (t.Statement (t.Return (t.some_expr (t.Number 0 ty0.Int (1 ∷ []))) (1 ∷ 1 ∷ []))) t.no_items)) (1 ∷ 1 ∷ []); lines = [] })) ∷ (t.Declaration (record { specs = (t.more_specs (t.Key keyword.Int (2 ∷ [])) t.no_specs); list = record { declarator = (t.Array (t.Identifier (codes "a") (2 ∷ [])) (t.Unsized []) (2 ∷ 2 ∷ [])); init = (Some (t.Braced (t.InitialiserList (t.more_entries (t.Entry t.no_designators (t.Single (t.Number 1 ty0.Int (2 ∷ []))) []) (t.more_entries (t.Entry t.no_designators (t.Single (t.Number 2 ty0.Int (2 ∷ []))) []) (t.more_entries (t.Entry t.no_designators (t.Single (t.Number 3 ty0.Int (2 ∷ []))) []) t.no_entries))) false (2 ∷ 2 ∷ 2 ∷ 2 ∷ [])))); lines = [] } ∷ []; lines = (2 ∷ []) })) ∷ []; lines = [] }) rule.K2 2
+unfolding layouts_of same_basic holds_const linkage_of clashes with_declaration with_content with_head unit_of landing puts_of constant_of is_null_constant pairing is_assignable check_gives check_chain check_here check_becomes check_look breaks node_rules rule_at same_key specs_type unary_of binary_of assignment_of
+other_length_by_initialiser = refl
+
+-- `int f(void) { extern int a[3]; return 0; }` and on line 2 `int a[] = {1, 2, 3};`
+same_length_by_initialiser : is_fine (record { parts = (t.Defined (record { specs = (t.more_specs (t.Key keyword.Int (1 ∷ [])) t.no_specs); declarator = (t.Function (t.Identifier (codes "f") (1 ∷ [])) (t.more_params (t.Param (t.more_specs (t.Key keyword.Void (1 ∷ [])) t.no_specs) t.Missing []) t.no_params) false (1 ∷ 1 ∷ [])); body = t.Block (t.more_items (t.Declared (record { specs = (t.more_specs (t.Key keyword.Extern (1 ∷ [])) (t.more_specs (t.Key keyword.Int (1 ∷ [])) t.no_specs)); list = record { declarator = (t.Array (t.Identifier (codes "a") (1 ∷ [])) (t.Length [] (t.Number 3 ty0.Int (1 ∷ []))) (1 ∷ 1 ∷ [])); init = None; lines = [] } ∷ []; lines = (1 ∷ []) })) (t.more_items (t.Statement (t.Return (t.some_expr (t.Number 0 ty0.Int (1 ∷ []))) (1 ∷ 1 ∷ []))) t.no_items)) (1 ∷ 1 ∷ []); lines = [] })) ∷ (t.Declaration (record { specs = (t.more_specs (t.Key keyword.Int (2 ∷ [])) t.no_specs); list = record { declarator = (t.Array (t.Identifier (codes "a") (2 ∷ [])) (t.Unsized []) (2 ∷ 2 ∷ [])); init = (Some (t.Braced (t.InitialiserList (t.more_entries (t.Entry t.no_designators (t.Single (t.Number 1 ty0.Int (2 ∷ []))) []) (t.more_entries (t.Entry t.no_designators (t.Single (t.Number 2 ty0.Int (2 ∷ []))) []) (t.more_entries (t.Entry t.no_designators (t.Single (t.Number 3 ty0.Int (2 ∷ []))) []) t.no_entries))) false (2 ∷ 2 ∷ 2 ∷ 2 ∷ [])))); lines = [] } ∷ []; lines = (2 ∷ []) })) ∷ []; lines = [] })
+unfolding layouts_of same_basic holds_const linkage_of clashes with_declaration with_content with_head unit_of landing puts_of constant_of is_null_constant pairing is_assignable check_gives check_chain check_here check_becomes check_look breaks node_rules rule_at same_key specs_type unary_of binary_of assignment_of
+same_length_by_initialiser = refl
+
+-- `void f(void) { extern int (*p)[2]; }`, on line 2 `int (*p)[] = 0;` and on line 3 `void g(void) { extern int (*p)[3]; }`
+other_length_behind_initialiser : is_refused (record { parts = (t.Defined (record { specs = (t.more_specs (t.Key keyword.Void (1 ∷ [])) t.no_specs); declarator = (t.Function (t.Identifier (codes "f") (1 ∷ [])) (t.more_params (t.Param (t.more_specs (t.Key keyword.Void (1 ∷ [])) t.no_specs) t.Missing []) t.no_params) false (1 ∷ 1 ∷ [])); body = t.Block (t.more_items (t.Declared (record { specs = (t.more_specs (t.Key keyword.Extern (1 ∷ [])) (t.more_specs (t.Key keyword.Int (1 ∷ [])) t.no_specs)); list = record { declarator = (t.Array (t.Group (t.Pointer [] (t.Identifier (codes "p") (1 ∷ [])) (1 ∷ [])) (1 ∷ 1 ∷ [])) (t.Length [] (t.Number 2 ty0.Int (1 ∷ []))) (1 ∷ 1 ∷ [])); init = None; lines = [] } ∷ []; lines = (1 ∷ []) })) t.no_items) (1 ∷ 1 ∷ []); lines = [] })) ∷ (t.Declaration (record { specs = (t.more_specs (t.Key keyword.Int (2 ∷ [])) t.no_specs); list = record { declarator = (t.Array (t.Group (t.Pointer [] (t.Identifier (codes "p") (2 ∷ [])) (2 ∷ [])) (2 ∷ 2 ∷ [])) (t.Unsized []) (2 ∷ 2 ∷ [])); init = (Some (t.Single (t.Number 0 ty0.Int (2 ∷ [])))); lines = [] } ∷ []; lines = (2 ∷ []) })) ∷ (t.Defined (record { specs = (t.more_specs (t.Key keyword.Void (3 ∷ [])) t.no_specs); declarator = (t.Function (t.Identifier (codes "g") (3 ∷ [])) (t.more_params (t.Param (t.more_specs (t.Key keyword.Void (3 ∷ [])) t.no_specs) t.Missing []) t.no_params) false (3 ∷ 3 ∷ [])); body = t.Block (t.more_items (t.Declared (record { specs = (t.more_specs (t.Key keyword.Extern (3 ∷ [])) (t.more_specs (t.Key keyword.Int (3 ∷ [])) t.no_specs)); list = record { declarator = (t.Array (t.Group (t.Pointer [] (t.Identifier (codes "p") (3 ∷ [])) (3 ∷ [])) (3 ∷ 3 ∷ [])) (t.Length [] (t.Number 3 ty0.Int (3 ∷ []))) (3 ∷ 3 ∷ [])); init = None; lines = [] } ∷ []; lines = (3 ∷ []) })) t.no_items) (3 ∷ 3 ∷ []); lines = [] })) ∷ []; lines = [] }) rule.K2 3
+unfolding layouts_of same_basic holds_const linkage_of clashes with_declaration with_content with_head unit_of landing puts_of constant_of is_null_constant pairing is_assignable check_gives check_chain check_here check_becomes check_look breaks node_rules rule_at same_key specs_type unary_of binary_of assignment_of
+other_length_behind_initialiser = refl
+
+-- `void f(void) { extern int (*p)[2]; }`, on line 2 `int (*p)[] = 0;` and on line 3 `void g(void) { extern int (*p)[2]; }`
+same_length_behind_initialiser : is_fine (record { parts = (t.Defined (record { specs = (t.more_specs (t.Key keyword.Void (1 ∷ [])) t.no_specs); declarator = (t.Function (t.Identifier (codes "f") (1 ∷ [])) (t.more_params (t.Param (t.more_specs (t.Key keyword.Void (1 ∷ [])) t.no_specs) t.Missing []) t.no_params) false (1 ∷ 1 ∷ [])); body = t.Block (t.more_items (t.Declared (record { specs = (t.more_specs (t.Key keyword.Extern (1 ∷ [])) (t.more_specs (t.Key keyword.Int (1 ∷ [])) t.no_specs)); list = record { declarator = (t.Array (t.Group (t.Pointer [] (t.Identifier (codes "p") (1 ∷ [])) (1 ∷ [])) (1 ∷ 1 ∷ [])) (t.Length [] (t.Number 2 ty0.Int (1 ∷ []))) (1 ∷ 1 ∷ [])); init = None; lines = [] } ∷ []; lines = (1 ∷ []) })) t.no_items) (1 ∷ 1 ∷ []); lines = [] })) ∷ (t.Declaration (record { specs = (t.more_specs (t.Key keyword.Int (2 ∷ [])) t.no_specs); list = record { declarator = (t.Array (t.Group (t.Pointer [] (t.Identifier (codes "p") (2 ∷ [])) (2 ∷ [])) (2 ∷ 2 ∷ [])) (t.Unsized []) (2 ∷ 2 ∷ [])); init = (Some (t.Single (t.Number 0 ty0.Int (2 ∷ [])))); lines = [] } ∷ []; lines = (2 ∷ []) })) ∷ (t.Defined (record { specs = (t.more_specs (t.Key keyword.Void (3 ∷ [])) t.no_specs); declarator = (t.Function (t.Identifier (codes "g") (3 ∷ [])) (t.more_params (t.Param (t.more_specs (t.Key keyword.Void (3 ∷ [])) t.no_specs) t.Missing []) t.no_params) false (3 ∷ 3 ∷ [])); body = t.Block (t.more_items (t.Declared (record { specs = (t.more_specs (t.Key keyword.Extern (3 ∷ [])) (t.more_specs (t.Key keyword.Int (3 ∷ [])) t.no_specs)); list = record { declarator = (t.Array (t.Group (t.Pointer [] (t.Identifier (codes "p") (3 ∷ [])) (3 ∷ [])) (3 ∷ 3 ∷ [])) (t.Length [] (t.Number 2 ty0.Int (3 ∷ []))) (3 ∷ 3 ∷ [])); init = None; lines = [] } ∷ []; lines = (3 ∷ []) })) t.no_items) (3 ∷ 3 ∷ []); lines = [] })) ∷ []; lines = [] })
+unfolding layouts_of same_basic holds_const linkage_of clashes with_declaration with_content with_head unit_of landing puts_of constant_of is_null_constant pairing is_assignable check_gives check_chain check_here check_becomes check_look breaks node_rules rule_at same_key specs_type unary_of binary_of assignment_of
+same_length_behind_initialiser = refl
+
+-- `enum d { A }; enum e { B }; extern enum d x; extern unsigned x;` and on line 2 `extern enum e x;`
+enumerated_types_around_an_integer : is_refused (record { parts = (t.Declaration (record { specs = (t.more_specs (t.Enum (Some (codes "d")) (t.some_enumerator_list (t.more_enumerators (t.Enumerator (codes "A") t.no_expr (1 ∷ [])) t.no_enumerators)) false (1 ∷ 1 ∷ 1 ∷ [])) t.no_specs); list = []; lines = (1 ∷ []) })) ∷ (t.Declaration (record { specs = (t.more_specs (t.Enum (Some (codes "e")) (t.some_enumerator_list (t.more_enumerators (t.Enumerator (codes "B") t.no_expr (1 ∷ [])) t.no_enumerators)) false (1 ∷ 1 ∷ 1 ∷ [])) t.no_specs); list = []; lines = (1 ∷ []) })) ∷ (t.Declaration (record { specs = (t.more_specs (t.Key keyword.Extern (1 ∷ [])) (t.more_specs (t.Enum (Some (codes "d")) t.no_enumerator_list false (1 ∷ 1 ∷ [])) t.no_specs)); list = record { declarator = (t.Identifier (codes "x") (1 ∷ [])); init = None; lines = [] } ∷ []; lines = (1 ∷ []) })) ∷ (t.Declaration (record { specs = (t.more_specs (t.Key keyword.Extern (1 ∷ [])) (t.more_specs (t.Key keyword.Unsigned (1 ∷ [])) t.no_specs)); list = record { declarator = (t.Identifier (codes "x") (1 ∷ [])); init = None; lines = [] } ∷ []; lines = (1 ∷ []) })) ∷ (t.Declaration (record { specs = (t.more_specs (t.Key keyword.Extern (2 ∷ [])) (t.more_specs (t.Enum (Some (codes "e")) t.no_enumerator_list false (2 ∷ 2 ∷ [])) t.no_specs)); list = record { declarator = (t.Identifier (codes "x") (2 ∷ [])); init = None; lines = [] } ∷ []; lines = (2 ∷ []) })) ∷ []; lines = [] }) rule.K2 2
+unfolding layouts_of same_basic holds_const linkage_of clashes with_declaration with_content with_head unit_of landing puts_of constant_of is_null_constant pairing is_assignable check_gives check_chain check_here check_becomes check_look breaks node_rules rule_at same_key specs_type unary_of binary_of assignment_of
+enumerated_types_around_an_integer = refl
+
+-- `enum d { A }; enum e { B }; extern unsigned x; extern enum d x;` and on line 2 `extern enum e x;`
+integer_between_enumerated_types : is_refused (record { parts = (t.Declaration (record { specs = (t.more_specs (t.Enum (Some (codes "d")) (t.some_enumerator_list (t.more_enumerators (t.Enumerator (codes "A") t.no_expr (1 ∷ [])) t.no_enumerators)) false (1 ∷ 1 ∷ 1 ∷ [])) t.no_specs); list = []; lines = (1 ∷ []) })) ∷ (t.Declaration (record { specs = (t.more_specs (t.Enum (Some (codes "e")) (t.some_enumerator_list (t.more_enumerators (t.Enumerator (codes "B") t.no_expr (1 ∷ [])) t.no_enumerators)) false (1 ∷ 1 ∷ 1 ∷ [])) t.no_specs); list = []; lines = (1 ∷ []) })) ∷ (t.Declaration (record { specs = (t.more_specs (t.Key keyword.Extern (1 ∷ [])) (t.more_specs (t.Key keyword.Unsigned (1 ∷ [])) t.no_specs)); list = record { declarator = (t.Identifier (codes "x") (1 ∷ [])); init = None; lines = [] } ∷ []; lines = (1 ∷ []) })) ∷ (t.Declaration (record { specs = (t.more_specs (t.Key keyword.Extern (1 ∷ [])) (t.more_specs (t.Enum (Some (codes "d")) t.no_enumerator_list false (1 ∷ 1 ∷ [])) t.no_specs)); list = record { declarator = (t.Identifier (codes "x") (1 ∷ [])); init = None; lines = [] } ∷ []; lines = (1 ∷ []) })) ∷ (t.Declaration (record { specs = (t.more_specs (t.Key keyword.Extern (2 ∷ [])) (t.more_specs (t.Enum (Some (codes "e")) t.no_enumerator_list false (2 ∷ 2 ∷ [])) t.no_specs)); list = record { declarator = (t.Identifier (codes "x") (2 ∷ [])); init = None; lines = [] } ∷ []; lines = (2 ∷ []) })) ∷ []; lines = [] }) rule.K2 2
+unfolding layouts_of same_basic holds_const linkage_of clashes with_declaration with_content with_head unit_of landing puts_of constant_of is_null_constant pairing is_assignable check_gives check_chain check_here check_becomes check_look breaks node_rules rule_at same_key specs_type unary_of binary_of assignment_of
+integer_between_enumerated_types = refl
+
+-- `enum d { A }; enum e { B }; extern unsigned x; extern enum d x; extern unsigned x;`
+enumerated_type_and_its_integer : is_fine (record { parts = (t.Declaration (record { specs = (t.more_specs (t.Enum (Some (codes "d")) (t.some_enumerator_list (t.more_enumerators (t.Enumerator (codes "A") t.no_expr (1 ∷ [])) t.no_enumerators)) false (1 ∷ 1 ∷ 1 ∷ [])) t.no_specs); list = []; lines = (1 ∷ []) })) ∷ (t.Declaration (record { specs = (t.more_specs (t.Enum (Some (codes "e")) (t.some_enumerator_list (t.more_enumerators (t.Enumerator (codes "B") t.no_expr (1 ∷ [])) t.no_enumerators)) false (1 ∷ 1 ∷ 1 ∷ [])) t.no_specs); list = []; lines = (1 ∷ []) })) ∷ (t.Declaration (record { specs = (t.more_specs (t.Key keyword.Extern (1 ∷ [])) (t.more_specs (t.Key keyword.Unsigned (1 ∷ [])) t.no_specs)); list = record { declarator = (t.Identifier (codes "x") (1 ∷ [])); init = None; lines = [] } ∷ []; lines = (1 ∷ []) })) ∷ (t.Declaration (record { specs = (t.more_specs (t.Key keyword.Extern (1 ∷ [])) (t.more_specs (t.Enum (Some (codes "d")) t.no_enumerator_list false (1 ∷ 1 ∷ [])) t.no_specs)); list = record { declarator = (t.Identifier (codes "x") (1 ∷ [])); init = None; lines = [] } ∷ []; lines = (1 ∷ []) })) ∷ (t.Declaration (record { specs = (t.more_specs (t.Key keyword.Extern (1 ∷ [])) (t.more_specs (t.Key keyword.Unsigned (1 ∷ [])) t.no_specs)); list = record { declarator = (t.Identifier (codes "x") (1 ∷ [])); init = None; lines = [] } ∷ []; lines = (1 ∷ []) })) ∷ []; lines = [] })
+unfolding layouts_of same_basic holds_const linkage_of clashes with_declaration with_content with_head unit_of landing puts_of constant_of is_null_constant pairing is_assignable check_gives check_chain check_here check_becomes check_look breaks node_rules rule_at same_key specs_type unary_of binary_of assignment_of
+enumerated_type_and_its_integer = refl

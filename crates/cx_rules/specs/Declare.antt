@@ -60,6 +60,10 @@ linkage_of place specs type before =
 abbrev pub thing_named : List ℕ → List CThing → Option CThing
 thing_named name things = find (λ one. bytes_eq one.name name) things
 
+-- that of an identifier with linkage
+abbrev pub linked_thing : Linkage → List ℕ → List CThing → Option CThing
+linked_thing linkage name things = if is_linked linkage then thing_named name things else None
+
 -- a declaration in the same scope doesn't stand in the way: both have the same linkage, and their types are compatible
 abbrev goes_with : CTypes → Bool → CTy → Linkage → CMeant → Bool
 goes_with types typedef type linkage (an_object number before is_register other) =
@@ -74,7 +78,7 @@ clashes_with types typedef type linkage (Some before) = not (goes_with types typ
 
 -- it isn't what other declarations of the unit, in whatever scope, say of the same object or function (6.2.2p7, 6.2.7p2), or has a second
 -- body or initialiser (6.9p3, p5)
-abbrev clashes_thing : CTypes → CTy → Linkage → Bool → Option CThing → Bool
+abbrev pub clashes_thing : CTypes → CTy → Linkage → Bool → Option CThing → Bool
 clashes_thing types type linkage has_content None = false
 clashes_thing types type linkage has_content (Some one) =
     not (same_linkage linkage one.linkage) || (not (compatible types type one.type) || (has_content && one.is_defined))
@@ -84,6 +88,11 @@ unfoldable pub clashes : CScope → List ℕ → Bool → CTy → Linkage → Bo
 clashes scope name typedef type linkage has_content =
     clashes_with scope.types typedef type linkage (ordinary name (innermost scope))
     || (is_linked linkage && clashes_thing scope.types type linkage has_content (thing_named name scope.things))
+
+-- the type that a declaration gives beside what the unit says of the same object or function (6.2.7p4)
+abbrev pub beside_thing : CTy → Option CThing → CTy
+beside_thing type None = type
+beside_thing type (Some one) = composite type one.type
 
 -- the type that a declaration gives beside the visible one before (6.2.7p4)
 abbrev pub joined_with : CTy → Option CMeant → CTy
@@ -318,6 +327,11 @@ abbrev completed_thing : List ℕ → CTy → Option CThing → CScope → CScop
 completed_thing name type None scope = scope
 completed_thing name type (Some one) scope = with_things (set_thing name (thing_completed type one) scope.things) scope
 
+-- the type that an initialiser completes isn't what other declarations of the unit, in whatever scope, say of the same object (6.2.7p2,
+-- 6.7.8p22)
+abbrev pub clashes_completed : CScope → List ℕ → Linkage → CTy → Bool
+clashes_completed scope name linkage type = clashes_thing scope.types type linkage false (linked_thing linkage name scope.things)
+
 abbrev with_content_at : CBegun → CTy → CPuts → Option ℕ → CScope → CScope
 with_content_at begun type puts None scope = scope
 with_content_at begun type puts (Some number) scope = with_object_at number (stored_in begun.is_static type puts) scope
@@ -347,12 +361,16 @@ abbrev completed_mention : Option ℕ → CTy → CScope → CScope
 completed_mention None type scope = scope
 completed_mention (Some index) type scope = with_told_type index type scope
 
+-- the name has the type that the initialiser gives it, and the object that beside all declarations of the unit
+abbrev with_content_as : CBegun → (type whole : CTy) → CPuts → CScope → CScope
+with_content_as begun type whole puts scope =
+    completed_mention begun.mention whole
+    (completed_thing begun.name whole (linked_thing begun.linkage begun.name scope.things)
+    (with_content_at begun whole puts begun.object (record scope { declared = redeclare_first begun.name type scope.declared })))
+
 -- the scope once an initialiser has ended
 unfoldable pub with_content : CBegun → CTy → CPuts → CScope → CScope
-with_content begun type puts scope =
-    completed_mention begun.mention type
-    (completed_thing begun.name type (if is_linked begun.linkage then thing_named begun.name scope.things else None)
-    (with_content_at begun type puts begun.object (record scope { declared = redeclare_first begun.name type scope.declared })))
+with_content begun type puts scope = with_content_as begun type (beside_thing type (linked_thing begun.linkage begun.name scope.things)) puts scope
 
 -- ---- definitions of functions (6.9.1)
 

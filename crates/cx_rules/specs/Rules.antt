@@ -145,7 +145,7 @@ is_open_array (array element None) = true
 is_open_array _ = false
 
 abbrev pub broken_o10 : CNode → Bool
-broken_o10 (member_node is_last name type width before) = is_last && (is_none width && is_open_array (form_of_type type))
+broken_o10 (member_node is_last name type width before) = is_last && is_open_array (form_of_type type)
 broken_o10 _ = false
 
 abbrev pub is_array_member : Option CTy → Bool

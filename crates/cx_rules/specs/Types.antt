@@ -236,7 +236,9 @@ abbrev mutual
   pub composite : CTy → CTy → CTy
   composite (ty first first_const) (ty second second_const) = ty (composite_form first second) first_const
 
+  -- of an enumerated type and the integer type that it is compatible with (6.7.2.2p4), the enumerated type says more
   pub composite_form : CTyForm → CTyForm → CTyForm
+  composite_form (basic which) (enum_type number) = enum_type number
   composite_form (pointer first) (pointer second) = pointer (composite first second)
   composite_form (array first first_length) (array second second_length) = array (composite first second) (known_length first_length second_length)
   composite_form (function first first_params first_more) (function second second_params second_more) =

@@ -4,7 +4,7 @@ use Rattle.cr_base.specs.declared.refusal.Place.{Place as TextPlace}
 use Rattle.cx_core.specs.Trees.{CTy, CTyForm, function, form_of_type, CTypes, CExpr, CPuts, CStmt, stmt, CStmtForm, label, case, default, block, expression, if_then, switch, while, do_while, for_loop, goto, continue, break, returns, begin, COtherwise, no_else, else_do, CStmts, no_stmts, more_stmts, CUnit, CFun}
 use Rattle.cx_rules.specs.declared.kinds.SpecsPlace.{SpecsPlace}
 use Rattle.cx_rules.specs.declared.kinds.SpecsPlace.TheVariants.{File, Definition, Block as InBlock, ForClause}
-use Rattle.cx_rules.specs.Declare.{is_typedef, CBegun, CDeclaring, declaring, begun_as, with_declaration, with_content, with_head, head_number, own_params, clashes, unit_of}
+use Rattle.cx_rules.specs.Declare.{is_typedef, CBegun, CDeclaring, declaring, begun_as, with_declaration, clashes_completed, with_content, with_head, head_number, own_params, clashes, unit_of}
 use Rattle.cx_rules.specs.Initial.{CStored}
 use Rattle.cx_rules.specs.Lines.{own_line, expr_line, specs_line, declarator_line}
 use Rattle.cx_rules.specs.Nodes.{CNode, declares_node, empty_node, head_node, tentative_node, label_node, case_node, default_node, dropped_node, controls_node, switch_node, goto_node, jump_node, return_node, CPlaced}
@@ -178,6 +178,11 @@ abbrev pub with_content_if : Bool → CBegun → CFilled → CScope → CScope
 with_content_if true begun filled scope = with_content begun filled.type filled.puts scope
 with_content_if false begun filled scope = scope
 
+-- another declaration stands in the way of the declarator, or of the type that it has behind its initialiser
+abbrev pub clashes_behind : Bool → CScope → CBegun → CTy → Bool
+clashes_behind true scope begun type = begun.clashes || clashes_completed scope begun.name begun.linkage type
+clashes_behind false scope begun type = begun.clashes
+
 -- ---- functions
 
 abbrev result_of_form : CTyForm → CTy
@@ -306,7 +311,14 @@ module _
     abbrev pub ends_as : SpecsPlace → CSpecs → ℕ → CScope → CBegun → Bool → CScope → CFilled → M CMeant
     ends_as place specs line before begun has_init scope filled =
         changed scope line
-        (declares_node (record { where_stands = place; specs = specs; type = filled.type; linkage = begun.linkage; clashes = begun.clashes; has_init = has_init }))
+        (declares_node (record {
+          where_stands = place;
+          specs = specs;
+          type = filled.type;
+          linkage = begun.linkage;
+          clashes = clashes_behind has_init scope begun filled.type;
+          has_init = has_init;
+        }))
         (with_content_if has_init begun filled scope)
         (declared_meant before scope (at_line scope line) begun has_init filled.puts)
 

@@ -1,4 +1,12 @@
 pub mod Calls
+pub mod Found
+pub mod Indexes
+pub mod Listed
 pub mod Newest
+pub mod Numbered
+pub mod Places
+pub mod Replaced
+pub mod Splits
+pub mod Standing
 pub mod TextPuts
 pub mod Uses

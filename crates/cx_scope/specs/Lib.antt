@@ -1,5 +1,11 @@
 pub mod Changes
+pub mod Indexed
 pub mod Laws
+pub mod MemberNames
+pub mod NameIndex
+pub mod Names
+pub mod Objects
+pub mod Places
 pub mod Texts
 pub mod Uses
 pub mod Views

@@ -1,9 +1,8 @@
 //! Steps on lists.
 
-ghost use Rattle.std.specs.Prelude.{◌≡◌, ◌-◌, length, take, drop, reverse, slice_set, IfOk, OnOk};
+ghost use Rattle.std.specs.Prelude.{◌≡◌, ◌-◌, length, take, slice_set};
 
-use cr_base::{Items, Memory};
-use std::alloc::Global;
+use cr_base::Items;
 
 // Drops the last element.
 pub(crate) fn drop_last<T: Drop>(list: &mut Items<T>)
@@ -19,25 +18,6 @@ pub(crate) fn shorten<T: Drop>(list: &mut Items<T>, count: usize)
     while count < list.len() {
         let _last = list.pop();
     }
-}
-
-// Takes the last elements off, down to so many: the last one first.
-pub(crate) fn split_newest<T: Drop>(
-    alloc: Global,
-    list: &mut Items<T>,
-    count: usize,
-) -> Result<Items<T>, Memory>
-    ensures taken { IfOk result (λ newest. newest ≡ reverse (drop count list.old)) }
-    ensures left { OnOk result (list.new ≡ take count list.old) }
-{
-    let mut newest = Items::new(alloc);
-    while count < list.len() {
-        let Some(last) = list.pop() else {
-            return Ok(newest);
-        };
-        newest.push(last)?;
-    }
-    Ok(newest)
 }
 
 // Replaces the element at an index, where there is one.

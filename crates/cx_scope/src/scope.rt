@@ -8,10 +8,12 @@ ghost use Rattle.cx_rules.specs.Pieces.{declared_since};
 ghost use Rattle.cx_scope.specs.Changes.{begun_at, dropped_to, inside};
 ghost use Rattle.cx_scope.specs.Views.{view_scope, view_declared, view_meant, view_made, view_labels};
 
-use crate::lists::{shorten, split_newest};
+use crate::declarations::Declarations;
 use crate::made::Made;
 use crate::meant::Declared;
-use crate::thing::{Labels, Thing};
+use crate::objects::Objects;
+use crate::thing::Labels;
+use crate::things::Things;
 use cr_base::{Items, Memory};
 use cx_core::{CoreObject, Fun, Mention, Types};
 use std::alloc::Global;
@@ -24,7 +26,7 @@ pub struct Scope {
     /// The number of the unit.
     pub unit: u32,
     /// The declarations whose scope holds the place, the oldest first.
-    pub declared: Items<Declared>,
+    pub declared: Declarations,
     /// How many of them were there when the innermost scope began.
     pub begins: u64,
     /// Whether the place stands inside a function.
@@ -38,11 +40,11 @@ pub struct Scope {
     /// What the unit named so far that has linkage, in text order.
     pub mentions: Vec<Mention>,
     /// The objects so far that aren't those of literals.
-    pub objects: Vec<CoreObject>,
+    pub objects: Objects,
     /// The functions with bodies so far.
     pub functions: Items<Fun>,
     /// The names with linkage, in the order of their first declarations (6.2.2).
-    pub things: Items<Thing>,
+    pub things: Things,
     /// The labels of the function, and of the innermost `switch`.
     pub body: Labels,
 }
@@ -55,7 +57,7 @@ impl Scope {
         Scope {
             alloc,
             unit,
-            declared: Items::new(alloc),
+            declared: Declarations::new(alloc),
             begins: 0,
             in_function: false,
             types: Types::new(alloc),
@@ -63,9 +65,9 @@ impl Scope {
             next_function: 0,
             literals: Items::new(alloc),
             mentions: Vec::new(alloc),
-            objects: Vec::new(alloc),
+            objects: Objects::new(alloc),
             functions: Items::new(alloc),
-            things: Items::new(alloc),
+            things: Things::new(alloc),
             body: no_labels(alloc),
         }
     }
@@ -91,7 +93,7 @@ impl Scope {
         requires { mark ≤ length (view_scope self.old).declared }
         ensures { view_scope self.new ≡ dropped_to mark (view_scope self.old) }
     {
-        shorten(&mut self.declared, mark as usize);
+        self.declared.shorten(mark as usize);
         self.begins = self.begins.min(mark);
     }
 
@@ -177,7 +179,7 @@ impl Scope {
     pub fn leave(&mut self, count: u64, begins: u64)
         ensures { view_scope self.new ≡ left count begins (view_scope self.old) }
     {
-        shorten(&mut self.declared, count as usize);
+        self.declared.shorten(count as usize);
         self.begins = begins;
     }
 
@@ -188,7 +190,7 @@ impl Scope {
         ensures left { OnOk result (view_scope self.new ≡ left count begins (view_scope self.old)) }
         ensures types { (view_scope self.new).types ≡ (view_scope self.old).types }
     {
-        let newest = split_newest(self.alloc, &mut self.declared, count as usize)?;
+        let newest = self.declared.split(self.alloc, count as usize)?;
         self.begins = begins;
         Ok(newest)
     }

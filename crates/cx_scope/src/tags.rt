@@ -9,7 +9,6 @@ ghost use Rattle.cx_rules.specs.Scope.{with_tag};
 ghost use Rattle.cx_scope.specs.Changes.{with_declared_record, without_tag, is_of_kind, is_continued};
 ghost use Rattle.cx_scope.specs.Views.{view_scope, view_tag};
 
-use crate::lists::drop_last;
 use crate::meant::{Declared, Meant, Tag};
 use crate::scope::Scope;
 use cr_base::{Memory, Name};
@@ -49,7 +48,7 @@ impl Scope {
     {
         match name {
             None => {}
-            Some(_) => drop_last(&mut self.declared),
+            Some(_) => self.declared.drop_newest(),
         }
     }
 

@@ -36,6 +36,7 @@ use Rattle.cx_steps.specs.Given.{IsStored}
 use Rattle.cx_steps.proofs.Evaluated.{put_frame_is}
 use Rattle.cx_work.specs.declared.operand.Finished.{Finished}
 use Rattle.cx_work.specs.declared.work.Work.{Work}
+use Rattle.cx_work.specs.Values.{value_in}
 use Rattle.cx_work.specs.Views.{view_finished, view_work}
 use Rattle.mem_bytes.specs.declared.value.Ptr.{Ptr}
 use Rattle.mem_bytes.specs.Counted.{Limit}
@@ -103,8 +104,15 @@ begins_from setting old site level object others goal inner result next before a
 
 -- ---- a full expression that is held, by whether it is finished
 
-pub value_is : (work : CWork) (operand : COperand) → work ≡ finished operand → IsValueOf work operand.value
-value_is work operand is = subst (λ (one : CWork). IsValueOf one operand.value) (sym is) refl
+pub value_is : (work : CWork) (value : CValue) → value_in work ≡ Some value → IsValueOf work value
+value_is (finished operand) value is = cc
+value_is (needs node operands) value is = cc
+value_is (chooses node first) value is = cc
+value_is (tests node marks second) value is = cc
+value_is (carries node marks part) value is = cc
+value_is (updates node update stage marks) value is = cc
+value_is (fills node marks one others held) value is = cc
+value_is (waits node marks) value is = cc
 
 -- of an operand only its value is used
 same_use : (setting : CSetting) (state : CState) (operand : COperand) (purpose : CPurpose) → use_step setting state operand purpose ≡ use_step setting state (used operand.value) purpose

@@ -18,11 +18,10 @@ use crate::params::takes;
 use crate::uses::uses;
 use cr_base::{Int, Memory};
 use cx_access::Setting;
-use cx_eval::operand_of;
 use cx_machine::{Control, Machine, Stop, begins_static, go, returns};
 use cx_moves::{Left, Move, Purpose};
 use cx_outside::{Kept, Lack};
-use cx_work::{Child, Finished, Work, is_finished};
+use cx_work::{Child, Finished, Work, finish, is_finished};
 use ext_calls::Host;
 use mem_bytes::{Store, Value};
 use std::alloc::Global;
@@ -113,13 +112,13 @@ fn is_over(work: &Option<Child<Work<'_>>>) -> Option<bool>
 
 // What a finished expression gives.
 #[tactic(auto, using(crate::proofs::Going::value_is))]
-fn value_of(work: Work<'_>) -> Option<Finished>
+fn value_of(work: Child<Work<'_>>) -> Option<Finished>
     ensures { IfSome result (λ value. IsValueOf (view_work work.entry) (view_finished value)) }
 {
-    match operand_of(work) {
-        Some(operand) => Some(operand.value),
-        None => None,
+    if is_finished(work.get()) {
+        return Some(finish(work.into_inner()));
     }
+    None
 }
 
 // The value of the full expression that is held, which is finished.
@@ -128,7 +127,7 @@ fn take_value(machine: &mut Machine<'_>) -> Option<Finished>
     ensures rest { machine.new ≡ record machine.old { work = None } }
 {
     match machine.work.take() {
-        Some(work) => value_of(work.into_inner()),
+        Some(work) => value_of(work),
         None => None,
     }
 }

@@ -137,10 +137,10 @@ enumerator types scope line name None value = refl
 enumerator types scope line name (Some one) value = enumerator_some (is_taken scope name) (gives_nothing one) (holds_nothing types one) (is_register_array one) (not_constant types one) (not (int_le (neg_ℤ (pos 2147483648)) value && int_le value (pos 2147483647)))
 
 pub member : (types : CTypes) (scope : CScope) (line : ℕ) (is_last : Bool) (name : Option (List ℕ)) (type : CTy) (width : Option COperand) (before : List CMember) → rule_at (placed types scope line (member_node is_last name type width before))
-    ≡ (if is_some width && wider_than_int (basic_of types (form_of_type type)) then Some O6 else if is_last && (not (is_some width) && is_open_array (form_of_type type)) then Some O10 else if is_incomplete types type then Some K5 else if is_function type then Some K8 else if list_any (has_name name) before then Some K8 else if lacks_written types width then Some K10 else if is_fixed_written width then Some K15 else if is_unconstant types width then Some K17 else if is_some width && is_misfit types type name (constant_written types width) then Some K22 else None)
+    ≡ (if is_some width && wider_than_int (basic_of types (form_of_type type)) then Some O6 else if is_last && is_open_array (form_of_type type) then Some O10 else if is_incomplete types type then Some K5 else if is_function type then Some K8 else if list_any (has_name name) before then Some K8 else if lacks_written types width then Some K10 else if is_fixed_written width then Some K15 else if is_unconstant types width then Some K17 else if is_some width && is_misfit types type name (constant_written types width) then Some K22 else None)
 unfolding rule_at breaks node_rules is_unconstant constant_written lacks_written is_fixed_written lacks_value is_fixed is_misfit
-member types scope line is_last name type None before = member_none (is_last && (not false && is_open_array (form_of_type type))) (is_incomplete types type) (is_function type) (list_any (has_name name) before)
-member types scope line is_last name type (Some one) before = member_some (wider_than_int (basic_of types (form_of_type type))) (is_last && (not true && is_open_array (form_of_type type))) (is_incomplete types type) (is_function type) (list_any (has_name name) before) (gives_nothing one) (holds_nothing types one) (is_register_array one) (not_constant types one) (not (is_integer types type) || value_is (not_width types type name) (constant_of types (value_of one)))
+member types scope line is_last name type None before = member_none (is_last && is_open_array (form_of_type type)) (is_incomplete types type) (is_function type) (list_any (has_name name) before)
+member types scope line is_last name type (Some one) before = member_some (wider_than_int (basic_of types (form_of_type type))) (is_last && is_open_array (form_of_type type)) (is_incomplete types type) (is_function type) (list_any (has_name name) before) (gives_nothing one) (holds_nothing types one) (is_register_array one) (not_constant types one) (not (is_integer types type) || value_is (not_width types type name) (constant_of types (value_of one)))
 
 pub param : (types : CTypes) (scope : CScope) (line : ℕ) (is_only : Bool) (specs : CSpecs) (name : Option (List ℕ)) (type : CTy) → rule_at (placed types scope line (param_node is_only specs name type))
     ≡ (if is_taken_by scope name then Some K2 else if is_void type && not (says_nothing is_only specs name type) then Some K7 else None)

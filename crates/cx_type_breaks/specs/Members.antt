@@ -1,13 +1,8 @@
--- Names and widths of members, by parts. Named by the contracts of parts alone.
-use Rattle.std.specs.Prelude.{ℕ, ℤ, Bool, false, not, ◌||◌, List, Option, None, Some}
+-- Widths of members, by parts. Named by the contracts of parts alone.
+use Rattle.std.specs.Prelude.{ℕ, ℤ, Bool, not, ◌||◌, List, Option}
 use Rattle.cx_core.specs.Trees.{CTy, CTypes}
-use Rattle.cx_rules.specs.Rules.{is_given_name, not_width, value_is}
+use Rattle.cx_rules.specs.Rules.{not_width, value_is}
 use Rattle.cx_rules.specs.Types.{is_integer}
-
--- two members have one name
-abbrev pub same_name : Option (List ℕ) → Option (List ℕ) → Bool
-same_name None other = false
-same_name (Some name) other = is_given_name name other
 
 -- a bit-field of a type can't have a width
 unfoldable pub is_misfit : CTypes → CTy → Option (List ℕ) → Option ℤ → Bool

@@ -9,16 +9,17 @@ ghost use Rattle.cx_core.specs.Views.{view_member, view_type, view_types};
 ghost use Rattle.cx_kinds.specs.Known.{IsKnown, types_in};
 ghost use Rattle.cx_operands.specs.Views.{view_operand};
 ghost use Rattle.cx_rules.specs.Nodes.{member_node};
-ghost use Rattle.cx_rules.specs.Rules.{rule_at, has_name, is_given_name, is_open_array, most_width, not_width, value_is, wider_than_int};
+ghost use Rattle.cx_rules.specs.Rules.{rule_at, has_name, is_open_array, most_width, not_width, value_is, wider_than_int};
 ghost use Rattle.cx_rules.specs.Scope.{CScope};
 ghost use Rattle.std.specs.Ordering.{int_eq};
-ghost use Rattle.cx_type_breaks.specs.Members.{is_misfit, same_name};
+ghost use Rattle.cx_type_breaks.specs.Members.{is_misfit};
 
 use crate::written::{constant_written, is_fixed_written, is_unconstant, lacks_written};
 use cr_base::{Int, Name, Rule};
-use cx_core::{Basic, Member, Ty, TyForm, Types, basic_of};
+use cx_core::{Basic, Ty, TyForm, Types, basic_of};
 use cx_kinds::{Known, is_function, is_incomplete, is_integer};
 use cx_operands::Operand;
+use cx_scope::Members;
 
 /// The rule that a member breaks, behind others and as the last one or not: O6 where a bit-field's type is wider than `int`, O10
 /// where it is a flexible array, K5 where its type is incomplete, K8 where it is a function or its name is taken (ISO C99,
@@ -31,7 +32,7 @@ pub fn member_rule(
     name: &Option<Name>,
     t: &Ty,
     width: Option<&Operand>,
-    before: &[Member],
+    before: &Members,
 ) -> Option<Rule>
     requires { IsKnown known }
     ensures { (scope : CScope) (line : ℕ) → result ≡ rule_at (placed (types_in known.entry) scope line
@@ -40,7 +41,7 @@ pub fn member_rule(
     if width.is_some() && is_wide(known.types, t) {
         return Some(Rule::O6);
     }
-    if is_flexible(is_last, width.is_some(), t) {
+    if is_flexible(is_last, t) {
         return Some(Rule::O10);
     }
     if is_incomplete(known, t) {
@@ -76,13 +77,10 @@ fn is_wide(types: &Types, t: &Ty) -> bool
     }
 }
 
-fn is_flexible(is_last: bool, has_width: bool, t: &Ty) -> bool
-    ensures { result ≡ (is_last && (not has_width && is_open_array (form_of_type (view_type t.now)))) }
+fn is_flexible(is_last: bool, t: &Ty) -> bool
+    ensures { result ≡ (is_last && is_open_array (form_of_type (view_type t.now))) }
 {
-    if !is_last {
-        return false;
-    }
-    !has_width && is_open_array(t)
+    is_last && is_open_array(t)
 }
 
 fn is_open_array(t: &Ty) -> bool
@@ -95,32 +93,12 @@ fn is_open_array(t: &Ty) -> bool
 }
 
 // Whether a member has the name.
-fn is_named(name: &Option<Name>, before: &[Member]) -> bool
+fn is_named(name: &Option<Name>, before: &Members) -> bool
     ensures { result ≡ list_any (has_name name.now) (map view_member before.now) }
-{
-    for one in before {
-        if is_same_name(name, &one.name) {
-            return true;
-        }
-    }
-    false
-}
-
-fn is_same_name(name: &Option<Name>, other: &Option<Name>) -> bool
-    ensures { result ≡ same_name name.now other.now }
 {
     match name {
         None => false,
-        Some(name) => is_given_name(name, other),
-    }
-}
-
-fn is_given_name(name: &Name, other: &Option<Name>) -> bool
-    ensures { result ≡ is_given_name name.now other.now }
-{
-    match other {
-        None => false,
-        Some(other) => other.bytes() == name.bytes(),
+        Some(name) => before.has(name),
     }
 }
 

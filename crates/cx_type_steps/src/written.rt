@@ -10,11 +10,11 @@ ghost use Rattle.cx_shapes.specs.Views.{view_step};
 ghost use Rattle.cx_type_steps.specs.Steps as steps;
 ghost use Rattle.cx_type_steps.specs.Written.{natural_of, member_with, value_given};
 
-use cr_base::{Boxed, Int, Items, Memory, Name, Stop};
+use cr_base::{Boxed, Int, Memory, Name, Stop};
 use cx_context::Context;
 use cx_core::{Member, Ty, Types};
 use cx_operands::{Operand, operand_constant};
-use cx_scope::{Declared, Meant};
+use cx_scope::{Declared, Meant, Members};
 use cx_shapes::Step;
 use cx_type_breaks::{array_rule, enumerator_rule, member_rule};
 
@@ -95,7 +95,7 @@ pub fn array_seen(
 pub fn member_seen(
     context: &Context,
     is_last: bool,
-    before: &Items<Member>,
+    before: &Members,
     line: u32,
     name: Option<Name>,
     ty: Boxed<Ty>,
@@ -115,7 +115,7 @@ pub fn member_seen(
 fn member_bits(
     context: &Context,
     is_last: bool,
-    before: &Items<Member>,
+    before: &Members,
     line: u32,
     name: &Option<Name>,
     ty: &Ty,
@@ -125,8 +125,7 @@ fn member_bits(
 {
     let known = context.known();
     let given = operand_in(width);
-    let list = before.as_slice();
-    if let Some(rule) = member_rule(known, is_last, name, ty, given, list) {
+    if let Some(rule) = member_rule(known, is_last, name, ty, given, before) {
         return Err(context.refused(rule, line));
     }
     let number = number_written(known.types, given)?;

@@ -18,6 +18,7 @@ pub fn composite(alloc: Global, first: &Ty, second: &Ty) -> Result<Boxed<Ty>, Me
     ensures { IfOk result (λ made. view_type made ≡ composite (view_type first.now) (view_type second.now)) }
 {
     match (&first.form, &second.form) {
+        (TyForm::Basic(_), TyForm::Enum(_)) => requalified(alloc, second, first.is_const),
         (TyForm::Pointer(one), TyForm::Pointer(other)) => {
             let made = composite(alloc, one.get(), other.get())?;
             Ty::pointer(alloc, made, first.is_const)

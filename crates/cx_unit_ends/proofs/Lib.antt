@@ -1,3 +1,5 @@
+pub mod Merging
+pub mod Numbering
 pub mod Ordering
 pub mod TentativeLaws
 pub mod UnitLaws

@@ -77,11 +77,11 @@ put_last view f left rest one held now sorted e n i =
     (sym (ap (λ all. map f (map view all)) e ∙ ap (map f) (map-append view rest (one ∷ [])) ∙ map-append f (map view rest) (view one ∷ [])))
     ∙ i
 
-onto_nothing : (objects : List CObject) → ordered_onto objects [] ≡ in_number_order objects
+pub onto_nothing : (objects : List CObject) → ordered_onto objects [] ≡ in_number_order objects
 onto_nothing [] = refl
 onto_nothing (one ∷ others) = ap (put_object one) (onto_nothing others)
 
-onto_both : (first second : List CObject) → ordered_onto first (in_number_order second) ≡ in_number_order (first ++ second)
+pub onto_both : (first second : List CObject) → ordered_onto first (in_number_order second) ≡ in_number_order (first ++ second)
 onto_both [] second = refl
 onto_both (one ∷ others) second = ap (put_object one) (onto_both others second)
 

@@ -4,6 +4,7 @@
 mod mentions;
 mod objects;
 mod order;
+mod places;
 mod tentative;
 mod types;
 mod unit;

@@ -1,16 +1,15 @@
 //! Mentions at the end of a unit (ISO C99, 6.9.2p2).
 
-ghost use Rattle.std.specs.Prelude.{◌≡◌, Some, map, option_map, IfOk};
+ghost use Rattle.std.specs.Prelude.{◌≡◌, Some, map, IfOk};
 ghost use Rattle.cx_core.specs.Trees.{form_of_type};
 ghost use Rattle.cx_core.specs.Views.{view_does, view_mention, view_type};
-ghost use Rattle.cx_rules.specs.Declare.{thing_named};
 ghost use Rattle.cx_scope.specs.Views.{view_thing};
 ghost use Rattle.cx_unit_ends.specs.Ends as ends;
 
 use crate::types::{final_type, is_left};
-use cr_base::{Items, Memory, Name};
+use cr_base::{Items, Memory};
 use cx_core::{Does, Mention, Ty, TyForm};
-use cx_scope::Thing;
+use cx_scope::{Thing, Things};
 use std::alloc::Global;
 
 fn is_defining(does: &Does) -> bool
@@ -47,17 +46,6 @@ fn ends_with_one_element(one: &Thing) -> bool
     has_no_length(&one.ty)
 }
 
-fn named<'a>(things: &'a [Thing], name: &Name) -> Option<&'a Thing>
-    ensures { option_map (λ one. view_thing one.now) result ≡ thing_named name.now (map view_thing things.now) }
-{
-    for one in things {
-        if one.name.bytes() == name.bytes() {
-            return Some(one);
-        }
-    }
-    None
-}
-
 fn finished_by(alloc: Global, one: Mention, thing: &Thing) -> Result<Mention, Memory>
     ensures { IfOk result (λ made. view_mention made ≡ ends.final_mention_by (view_mention one) (Some (view_thing thing.now))) }
 {
@@ -81,13 +69,13 @@ fn finished_by(alloc: Global, one: Mention, thing: &Thing) -> Result<Mention, Me
     })
 }
 
-fn finished(alloc: Global, things: &[Thing], one: Mention) -> Result<Mention, Memory>
+fn finished(alloc: Global, things: &Things, one: Mention) -> Result<Mention, Memory>
     ensures { IfOk result (λ made. view_mention made ≡ ends.final_mention (map view_thing things.now) (view_mention one)) }
 {
     if !is_defining(&one.does) {
         return Ok(one);
     }
-    match named(things, &one.name) {
+    match things.named(&one.name) {
         None => Ok(one),
         Some(thing) => finished_by(alloc, one, thing),
     }
@@ -97,7 +85,7 @@ fn finished(alloc: Global, things: &[Thing], one: Mention) -> Result<Mention, Me
 #[tactic(auto, using(crate::proofs::Ordering::reversed_map))]
 pub(crate) fn final_mentions(
     alloc: Global,
-    things: &[Thing],
+    things: &Things,
     mentions: Vec<Mention>,
 ) -> Result<Items<Mention>, Memory>
     ensures { IfOk result (λ made. map view_mention made ≡ map (ends.final_mention (map view_thing things.now)) (map view_mention mentions.items)) }

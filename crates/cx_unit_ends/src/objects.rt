@@ -4,28 +4,27 @@ ghost use Rattle.std.specs.Prelude.{◌≡◌, find, map, option_map, IfOk};
 ghost use Rattle.cx_core.specs.Views.{view_object, view_puts};
 ghost use Rattle.cx_scope.specs.Views.{view_made, view_thing};
 ghost use Rattle.cx_unit_ends.specs.Ends as ends;
+ghost use Rattle.cx_unit_ends.specs.Numbered.{ArePlaces};
 
 use crate::types::final_type;
 use cr_base::{Items, Memory};
 use cx_core::{CoreObject, Linkage, Put};
-use cx_scope::{Made, Thing};
+use cx_scope::{Made, Thing, Things};
 use std::alloc::Global;
+use std::collections::HashMap;
 
-fn names_object(one: &Thing, number: u32) -> bool
-    ensures { result ≡ ends.names_object number (view_thing one.now) }
-{
-    !one.is_function && one.number == number
-}
-
-fn object_thing(things: &[Thing], number: u32) -> Option<&Thing>
+fn object_thing<'a>(
+    things: &'a Things,
+    places: &HashMap<u32, usize>,
+    number: u32,
+) -> Option<&'a Thing>
+    requires { ArePlaces places.now (map view_thing things.now) }
     ensures { option_map (λ one. view_thing one.now) result ≡ find (ends.names_object number) (map view_thing things.now) }
 {
-    for one in things {
-        if names_object(one, number) {
-            return Some(one);
-        }
+    match places.get(&number) {
+        None => None,
+        Some(place) => things.get(*place),
     }
-    None
 }
 
 fn final_puts(alloc: Global, thing: &Thing, puts: Option<Items<Put>>) -> Option<Items<Put>>
@@ -71,12 +70,14 @@ fn finished_by(alloc: Global, thing: &Thing, one: CoreObject) -> Result<CoreObje
 /// An object as it is at the end of its unit. Refused only for want of memory.
 pub(crate) fn finished(
     alloc: Global,
-    things: &[Thing],
+    things: &Things,
+    places: &HashMap<u32, usize>,
     one: CoreObject,
 ) -> Result<CoreObject, Memory>
+    requires { ArePlaces places.now (map view_thing things.now) }
     ensures { IfOk result (λ made. view_object made ≡ ends.final_object (map view_thing things.now) (view_object one)) }
 {
-    match object_thing(things, one.object) {
+    match object_thing(things, places, one.object) {
         None => Ok(one),
         Some(thing) => finished_by(alloc, thing, one),
     }

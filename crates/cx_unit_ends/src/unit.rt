@@ -12,7 +12,7 @@ use crate::order::all_objects;
 use crate::types::outers_of;
 use cr_base::{Items, Memory};
 use cx_core::{CoreObject, CoreUnit, Mention, Outer};
-use cx_scope::Scope;
+use cx_scope::{Objects, Scope};
 use std::mem;
 
 // The mentions as they are at the end, which are taken out of the scope.
@@ -22,7 +22,7 @@ fn take_mentions(scope: &mut Scope) -> Result<Items<Mention>, Memory>
 {
     let alloc = scope.alloc;
     let mentions = mem::replace(&mut scope.mentions, Vec::new(alloc));
-    final_mentions(alloc, scope.things.as_slice(), mentions)
+    final_mentions(alloc, &scope.things, mentions)
 }
 
 // The objects as they are at the end, those of literals among them, which are taken out of the scope.
@@ -32,15 +32,9 @@ fn take_objects(scope: &mut Scope) -> Result<Items<CoreObject>, Memory>
     ensures scope { OnOk result (view_scope scope.new ≡ record (view_scope scope.old) { objects = []; literals = [] }) }
 {
     let alloc = scope.alloc;
-    let objects = mem::replace(&mut scope.objects, Vec::new(alloc));
+    let objects = mem::replace(&mut scope.objects, Objects::new(alloc)).into_vec();
     let literals = mem::replace(&mut scope.literals, Items::new(alloc));
-    all_objects(
-        alloc,
-        scope.unit,
-        scope.things.as_slice(),
-        objects,
-        literals,
-    )
+    all_objects(alloc, scope.unit, &scope.things, objects, literals)
 }
 
 fn unit_with(

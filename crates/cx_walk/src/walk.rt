@@ -35,7 +35,7 @@ use cx_kept::expressions_keep;
 use cx_operands::Operand;
 use cx_parts::At;
 use cx_rules::SpecsPlace;
-use cx_scope::Param;
+use cx_scope::{Members, Param};
 use cx_shapes::{
     Shape, Specs, Step, declarator_line, expr_line, own_line, pointer_step, specs_line,
 };
@@ -366,7 +366,15 @@ fn record_list(
 {
     let begun = context.begin_record(is_union, tag)?;
     let members = member_decls(context, list)?;
-    record_ended(context, begun, all, is_union, tag, own_line(lines), members)
+    record_ended(
+        context,
+        begun,
+        all,
+        is_union,
+        tag,
+        own_line(lines),
+        members.into_items(),
+    )
 }
 
 // An enumerated type with a list of enumerators (6.7.2.2).
@@ -387,10 +395,10 @@ fn enumerator_list(
 
 // The declarations of a list of members.
 #[cycle(walk)]
-fn member_decls(context: &mut Context, list: &[MemberDecl]) -> Result<Items<Member>, Stop>
+fn member_decls(context: &mut Context, list: &[MemberDecl]) -> Result<Members, Stop>
     ensures { Checks (map view_member) result (scope_of context.new) (walks.member_decls_walk [] (member_decl_trees (map member_decl_view list.now)) (scope_of context.old)) }
 {
-    let mut members = Items::new(context.alloc());
+    let mut members = Members::new(context.alloc());
     for index in 0..list.len() {
         let is_last = ends_decls(list, index);
         member_decl(context, &list[index], is_last, &mut members)?;
@@ -404,7 +412,7 @@ fn member_decl(
     context: &mut Context,
     one: &MemberDecl,
     is_last: bool,
-    members: &mut Items<Member>,
+    members: &mut Members,
 ) -> Result<(), Stop>
     ensures { Checks (λ _. map view_member members.new) result (scope_of context.new) (walks.member_decl_walk is_last (map view_member members.old) (member_decl_view one.now) (scope_of context.old)) }
 {
@@ -425,7 +433,7 @@ fn member_declarators(
     context: &mut Context,
     list: &[MemberDeclarator],
     is_last: bool,
-    members: &mut Items<Member>,
+    members: &mut Members,
     from: &Ty,
 ) -> Result<(), Stop>
     ensures { Checks (λ _. map view_member members.new) result (scope_of context.new) (walks.member_declarators_walk is_last (map view_member members.old) (view_type from.now)
@@ -445,7 +453,7 @@ fn member_declarator(
     context: &mut Context,
     one: &MemberDeclarator,
     is_last: bool,
-    members: &Items<Member>,
+    members: &Members,
     from: &Ty,
 ) -> Result<Member, Stop>
     ensures { Checks view_member result (scope_of context.new) (walks.member_declarator_walk is_last (map view_member members.now) (view_type from.now)

@@ -4,7 +4,7 @@ use Rattle.std.proofs.lemmas.List.{append-nil}
 use Rattle.std.proofs.Math.ListN.{drop_of_length-le}
 use Rattle.cx_core.specs.declared.expr.CoreExpr.{CoreExpr}
 use Rattle.cx_core.specs.Views.{exprs_of, view_expr}
-use Rattle.cx_mean.specs.Work.{all_begun, CWork, CWorks, more_works}
+use Rattle.cx_mean.specs.Work.{all_begun, CWorks, more_works}
 use Rattle.cx_work.specs.declared.work.Work.{Work}
 use Rattle.cx_work.specs.Views.{begun_of, view_work, view_works, works_of}
 

@@ -1,5 +1,5 @@
 -- What trees stand for, open one node deep.
-use Rattle.std.proofs.Common.{rules, ◌≡◌, refl, List, Bor, map}
+use Rattle.std.proofs.Common.{rules, ◌≡◌, List, Bor}
 use Rattle.cx_core.specs.declared.expr.CoreExpr.{CoreExpr, fold_out-CoreExpr}
 use Rattle.cx_core.specs.declared.expr.Put.{Put}
 use Rattle.cx_core.specs.Trees.{type_of, place_of}

@@ -1,5 +1,5 @@
 -- The ready nodes among operands, counted one operand after the other.
-use Rattle.std.proofs.Common.{◌≡◌, sym, ◌∙◌, ap, ℕ, ◌+◌, ◌<◌, List, [], ◌∷◌, drop, length, get_or, Option, arith}
+use Rattle.std.proofs.Common.{◌≡◌, sym, ◌∙◌, ap, ℕ, ◌+◌, ◌<◌, List, ◌∷◌, drop, length, get_or, Option, arith}
 use Rattle.std.proofs.lemmas.List.{drop_more}
 use Rattle.cx_mean.specs.Work.{ready, ready_among}
 use Rattle.cx_work.specs.declared.work.Work.{Work}

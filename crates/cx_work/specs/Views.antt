@@ -1,7 +1,7 @@
 -- What the values of src/ stand for in the definitions.
 use Rattle.std.specs.Prelude.{false, List, [], ◌∷◌, map}
 use Rattle.cx_core.specs.declared.expr.CoreExpr.{CoreExpr}
-use Rattle.cx_core.specs.Trees.{CTy, ty, basic, unqualified, CPut, CPuts}
+use Rattle.cx_core.specs.Trees.{CTy, ty, basic, unqualified}
 use Rattle.cx_core.specs.Views.{view_type, view_expr, view_put, view_puts, view_function, view_outer}
 use Rattle.cx_mean.specs.Calls.{CCallee, defined, external, CCalled}
 use Rattle.cx_mean.specs.Operands.{CValue, scalar, cells, names, designates, designates_bits, missing, COperand}

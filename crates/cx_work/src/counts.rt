@@ -1,6 +1,6 @@
 //! Which nodes of an expression under evaluation may take the next step (ISO C99, 5.1.2.3 and 6.5p3).
 
-ghost use Rattle.std.specs.Prelude.{◌≡◌, ℕ, ◌+◌, ◌<◌, ◌^◌};
+ghost use Rattle.std.specs.Prelude.{◌≡◌, ℕ, ◌+◌, ◌-◌, ◌^◌, min};
 ghost use Rattle.cx_mean.specs.Work.{are_finished, are_waiting, is_finished, is_waiting, one_or, ready, ready_among, ready_nodes};
 ghost use Rattle.cx_work.specs.Counts.{Counts};
 ghost use Rattle.cx_work.specs.Views.{view_work, view_works};
@@ -127,16 +127,16 @@ fn are_waiting(operands: &[Work<'_>]) -> bool
     false
 }
 
-/// How many nodes may take the next step: none where the tree is finished, or waits for a call.
+/// How many nodes may take the next step: none where the tree is finished, or waits for a call. The greatest
+/// number of 64 bits stands for more than that.
 pub fn ready(work: &Work<'_>) -> u64
-    requires { ready (view_work work.now) < 2 ^ 64 }
-    ensures { result ≡ ready_nodes (view_work work.now) }
+    ensures { result ≡ min (ready_nodes (view_work work.now)) (2 ^ 64 - 1) }
 {
     if is_waiting(work) {
         return 0;
     }
     match counted(work) {
         Some(count) => count,
-        None => unreachable!(),
+        None => u64::MAX,
     }
 }

@@ -1,12 +1,13 @@
 //! The end of a call for which an expression under evaluation waits (ISO C99, 6.5.2.2p5).
 
-ghost use Rattle.std.specs.Prelude.{◌≡◌, length, OnOk};
+ghost use Rattle.std.specs.Prelude.{◌≡◌, ◌<◌, length, OnErr, OnOk};
 ghost use Rattle.cx_core.specs.Trees.{CExpr};
 ghost use Rattle.cx_core.specs.Views.{view_type};
 ghost use Rattle.cx_mean.specs.Marks.{Marks};
 ghost use Rattle.cx_mean.specs.Work.{finished, resumed, waits};
 ghost use Rattle.cx_work.specs.Resumes.{AllResume, Resumes, WaitsAt};
 ghost use Rattle.cx_work.specs.Views.{view_finished, view_work};
+ghost use Rattle.cx_work.specs.Waiting.{waiting_calls};
 
 use crate::children::Children;
 use crate::marks::Marks;
@@ -21,9 +22,10 @@ use std::mem;
 ///
 /// # Errors
 ///
-/// `Memory` where more than one call waits, which no run has.
+/// `Memory` only where more than one call waits, which no run has: there is one value.
 pub fn resume(alloc: Global, work: &mut Work<'_>, value: Finished) -> Result<(), Memory>
-    ensures { OnOk result (view_work work.new ≡ resumed (view_finished value) (view_work work.old)) }
+    ensures resumed { OnOk result (view_work work.new ≡ resumed (view_finished value) (view_work work.old)) }
+    ensures refused { OnErr result (1 < waiting_calls (view_work work.old)) }
 {
     let mut held = Some(value);
     fill(alloc, work, &mut held)

@@ -1,5 +1,5 @@
 -- Names that the job doesn't write hold what they held.
-use Rattle.std.proofs.Common.{◌≡◌, ℕ, zero, suc, ◌+◌, inl, inr, Bool, true, false, ◌||◌, cond, List, [], ◌∷◌, ◌++◌, map, take, Option, Some, None, refl, sym, ap, ◌∙◌, slice_get, bytes_eq, codes}
+use Rattle.std.proofs.Common.{◌≡◌, ℕ, zero, suc, ◌+◌, Bool, true, false, ◌||◌, cond, List, [], ◌∷◌, ◌++◌, map, take, Option, Some, None, refl, sym, ap, ◌∙◌, slice_get, bytes_eq, codes}
 use Rattle.std.specs.List.{list_any}
 use Rattle.shelf.specs.declared.file.File.{File}
 use Rattle.shelf.specs.Shelf.{ShelfState, with_file, without_file}
@@ -8,28 +8,12 @@ use Rattle.rs_items.specs.Modules.{module_name}
 use Rattle.straight_rust_tree.specs.Text.{text_of, file_of, module_file}
 use Rattle.straight_rust_tree.specs.Tree.{ModuleTree, CrateTree}
 use Rattle.straight_whole.specs.Items.{Outline, outlines_from, items_in, items_of, head_of}
-use Rattle.front.specs.Job.{Job, transpile, several}
-use Rattle.front.specs.Files.{Held, WhereTold, units_of, unit_and, files_in, file_in, name_in, with_files, written_names}
-use Rattle.front.specs.Report.{Ending, done, refused, usage, cannot_read, cannot_write, memory}
-use Rattle.front.specs.Transpile.{WhereTranslated, IsLeftAt, Leaves}
-use Rattle.front.specs.Run.{held_under, names_written}
-use Rattle.front.proofs.RunLaws.{where_map}
+use Rattle.front.specs.Files.{Held, WhereTold, files_in, file_in, name_in, with_files, written_names}
+use Rattle.front.specs.Transpile.{WhereTranslated, IsLeftAt}
+use Rattle.front.specs.Run.{held_under}
+use Rattle.front.proofs.SourceLaws.{where_map, unit_names}
 
 -- ---- the names of the files that are written
-
-unit_parts : (name : List ℕ) (o : Option (List ℕ)) (r : Option (List File)) (units : List File) → unit_and name o r ≡ Some units → (bytes : List ℕ) × (others : List File) × (r ≡ Some others) × (units ≡ file_of name bytes ∷ others)
-unit_parts name None r units e = cc
-unit_parts name (Some bytes) None units e = cc
-unit_parts name (Some bytes) (Some others) units e = (bytes, others, refl, cc)
-
--- units have the names under which they are held
-pub unit_names : (held : List ℕ → Option (List ℕ)) (names : List (List ℕ)) (units : List File) → units_of held names ≡ Some units → map (λ (unit : File). unit.name) units ≡ names
-unit_names held [] units e =
-    let empty : units ≡ [] = cc in
-    ap (map (λ (unit : File). unit.name)) empty
-unit_names held (name ∷ names) units e =
-    let parts = unit_parts name (held name) (units_of held names) units e in
-    ap (map (λ (unit : File). unit.name)) parts.3 ∙ ap (λ ns. name ∷ ns) (unit_names held names parts.1 parts.2)
 
 outline_names : (modules : List ModuleTree) → map (λ (o : Outline). o.name) (map (λ (unit : ModuleTree). record { name = unit.name; heads = map head_of unit.items }) modules) ≡ map (λ (unit : ModuleTree). unit.name) modules
 outline_names [] = refl
@@ -111,21 +95,21 @@ lacks_at (first ∷ names) asked name (suc k) e place =
 
 -- ---- the clause
 
-abbrev Keeps : List (List ℕ) → Held → (List ℕ → Option (List ℕ)) → Type 0
+abbrev pub Keeps : List (List ℕ) → Held → (List ℕ → Option (List ℕ)) → Type 0
 Keeps names h held = (asked : List ℕ) → list_any (λ name. bytes_eq name asked) names ≡ false → held_under asked h ≡ held asked
 
-keeps_same : (names : List (List ℕ)) (before after : Held) → after ≡ before → WhereTold before (Keeps names after)
+pub keeps_same : (names : List (List ℕ)) (before after : Held) → after ≡ before → WhereTold before (Keeps names after)
 keeps_same names None after e = tt
 keeps_same names (Some held) after e = λ asked lacking. ap (held_under asked) e
 
-keeps_done : (directory : List ℕ) (names : List (List ℕ)) (s t : ShelfState) → WhereTranslated directory names s (λ files. t.held ≡ with_files files s.held) → WhereTold s.held (Keeps (written_names directory names) t.held)
+pub keeps_done : (directory : List ℕ) (names : List (List ℕ)) (s t : ShelfState) → WhereTranslated directory names s (λ files. t.held ≡ with_files files s.held) → WhereTold s.held (Keeps (written_names directory names) t.held)
 keeps_done directory names s t leaves = where_map _ (Keeps (written_names directory names) t.held) s.held (λ held told made asked lacking.
     let files = files_in directory (text_of made.1) in
     let named = file_names directory names made.0 made.1 made.3.program (unit_names held names made.0 made.2) made.3.right.items in
     let lacks = ap (list_any (λ name. bytes_eq name asked)) named ∙ lacking in
     ap (held_under asked) made.4 ∙ under_files files asked s.held lacks ∙ ap (held_under asked) told) leaves
 
-keeps_left : (directory : List ℕ) (names : List (List ℕ)) (k : ℕ) (name : List ℕ) (s t : ShelfState) → IsLeftAt directory names k name s t → WhereTold s.held (Keeps (written_names directory names) t.held)
+pub keeps_left : (directory : List ℕ) (names : List (List ℕ)) (k : ℕ) (name : List ℕ) (s t : ShelfState) → IsLeftAt directory names k name s t → WhereTold s.held (Keeps (written_names directory names) t.held)
 keeps_left directory names k name s t left = where_map _ (Keeps (written_names directory names) t.held) s.held (λ held told made asked lacking.
     let files = files_in directory (text_of made.1) in
     let named = file_names directory names made.0 made.1 made.3.program (unit_names held names made.0 made.2) made.3.right.items in
@@ -136,26 +120,3 @@ keeps_left directory names k name s t left = where_map _ (Keeps (written_names d
     ∙ under_without name asked (with_files (take k files) s.held) differs
     ∙ under_files (take k files) asked s.held lacks
     ∙ ap (held_under asked) told) left.left
-
-pub keeps_others : (job : Option Job) (ending : Ending) (s t : ShelfState) → Leaves job ending s t → WhereTold s.held (Keeps (names_written job) t.held)
-keeps_others None done s t leaves = absurd leaves
-keeps_others None (refused file refusal) s t leaves = absurd leaves
-keeps_others None usage s t leaves = keeps_same [] s.held t.held (ap (λ (state : ShelfState). state.held) leaves)
-keeps_others None (cannot_read name) s t leaves = absurd leaves
-keeps_others None (cannot_write name) s t leaves = absurd leaves
-keeps_others None memory s t leaves = keeps_same [] s.held t.held (ap (λ (state : ShelfState). state.held) leaves)
-keeps_others (Some (transpile directory names)) done s t leaves = keeps_done directory names s t leaves
-keeps_others (Some (transpile directory names)) (refused file refusal) s t leaves = keeps_same (written_names directory names) s.held t.held leaves.kept
-keeps_others (Some (transpile directory names)) usage s t leaves = absurd leaves
-keeps_others (Some (transpile directory names)) (cannot_read name) s t leaves = keeps_same (written_names directory names) s.held t.held leaves.kept
-keeps_others (Some (transpile directory names)) (cannot_write name) s t leaves = keeps_left directory names leaves.left.0 name s t leaves.left.1
-keeps_others (Some (transpile directory names)) memory s t leaves = elim leaves [
-  | inl kept ↦ keeps_same (written_names directory names) s.held t.held kept
-  | inr left ↦ keeps_left directory names left.0 left.1 s t left.2
-]
-keeps_others (Some (several first)) done s t leaves = absurd leaves
-keeps_others (Some (several first)) (refused file refusal) s t leaves = keeps_same [] s.held t.held (ap (λ (state : ShelfState). state.held) leaves.2)
-keeps_others (Some (several first)) usage s t leaves = absurd leaves
-keeps_others (Some (several first)) (cannot_read name) s t leaves = absurd leaves
-keeps_others (Some (several first)) (cannot_write name) s t leaves = absurd leaves
-keeps_others (Some (several first)) memory s t leaves = keeps_same [] s.held t.held (ap (λ (state : ShelfState). state.held) leaves)

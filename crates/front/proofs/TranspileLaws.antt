@@ -1,87 +1,106 @@
 -- What the job leaves, from what its steps leave.
-use Rattle.std.proofs.Common.{◌≡◌, ℕ, zero, suc, ◌≤◌, inl, inr, List, [], ◌∷◌, ◌++◌, map, take, length, Option, Some, None, refl, sym, ap, subst, ◌∙◌, arith, slice_get, codes, option_map}
-use Rattle.std.specs.Prelude.{All}
-use Rattle.std.specs.Option.{MatchOption}
+use Rattle.std.proofs.Common.{◌≡◌, ℕ, ◌≤◌, ◌<◌, inl, inr, List, [], ◌∷◌, map, take, length, Option, Some, refl, sym, ap, subst, ◌∙◌, arith, slice_get, option_map}
 use Rattle.std.proofs.lemmas.Option.{slice_get-map}
 use Rattle.cr_base.specs.declared.refusal.Refusal.{Refusal}
 use Rattle.cr_base.specs.declared.refusal.Stop.{Stop}
 use Rattle.cr_base.specs.declared.refusal.Stop.TheVariants.{Refused, Memory}
-use Rattle.cr_base.specs.declared.rule.Rule.TheVariants.{M1}
+use Rattle.cx_units.specs.Sources.{AreOf}
+use Rattle.cx_units.specs.declared.source.Source.{Source}
+use Rattle.cx_units.specs.declared.source.Source.TheVariants.{Bytes}
 use Rattle.shelf.specs.declared.file.File.{File}
-use Rattle.shelf.specs.declared.file.Got.TheVariants.{Bytes, TooLarge}
-use Rattle.shelf.specs.Shelf.{ShelfState, IsGot, IsGotOf, without_file}
+use Rattle.shelf.specs.Shelf.{ShelfState, without_file}
 use Rattle.shelf.proofs.FaultLemmas.{rose_after}
 use Rattle.straight_core.specs.Trees.{CProgram}
-use Rattle.rs_items.specs.Modules.{module_name, stem_of}
+use Rattle.rs_items.specs.Modules.{stem_of}
+use Rattle.straight_rust_tree.specs.Text.{file_of, text_of}
 use Rattle.straight_rust_tree.specs.Tree.{CrateTree}
 use Rattle.straight_whole.specs.Items.{items_in, items_of}
 use Rattle.straight_whole.specs.Right.{IsRight}
-use Rattle.cx_lex.proofs.SpellLemmas.{spell_or_break}
-use Rattle.front.specs.Refusals.{HasTree, IsRead, IsBuiltAs, FirstBroken, StopsUnit}
-use Rattle.front.specs.Files.{Held, WhereTold, units_of, unit_and, files_in, name_in, with_files, written_names}
-use Rattle.straight_rust_tree.specs.Text.{file_of, text_of}
+use Rattle.front.specs.Files.{Held, WhereTold, units_of, files_in, with_files, written_names}
 use Rattle.front.specs.Printed.{IsPlaced}
-use Rattle.front.specs.Report.{Ending, done, refused, usage, cannot_read, cannot_write, memory}
 use Rattle.front.specs.Puts.{Puts}
+use Rattle.front.specs.Refusals.{CoreOf, FirstBroken, bytes_of}
+use Rattle.front.specs.Report.{Ending, done, refused, usage, cannot_read, cannot_write, memory}
+use Rattle.front.specs.Report as ending
+use Rattle.front.specs.Sources.{AreGot, IsBuiltOf, StopsJob, IsWithin, EndsStopped}
 use Rattle.front.specs.Transpile.{Translates, IsTranspiled, IsRefused, IsUnwritten, IsLeftAt}
 use Rattle.front.proofs.OthersLaws.{file_names}
+use Rattle.front.proofs.SourceLaws.{unit_parts, unit_names, where_map}
 
-pub all_one : {X : Type 0} (P : X → Type 0) (x : X) → P x → All P (x ∷ [])
-all_one P x h zero d p = h
-all_one P x h (suc k) d p = absurd (omega arith)
+-- ---- units that are stopped
 
-pub all_none : {X : Type 0} (P : X → Type 0) → All P []
-all_none P k d p = absurd (omega arith)
+-- the units that are held, with what was got of them
+abbrev HeldUnits : List (List ℕ) → List Source → (List ℕ → Option (List ℕ)) → Type 0
+HeldUnits names sources held = (units : List File) × (units_of held names ≡ Some units) × AreOf sources (bytes_of units)
 
-abbrev refusal_by : Refusal → (List ℕ → Option (List ℕ)) → List ℕ → Type 0
-refusal_by refusal held name = (units : List File) × (units_of held (name ∷ []) ≡ Some units) × FirstBroken units refusal
+abbrev HeldBroken : List (List ℕ) → Refusal → (List ℕ → Option (List ℕ)) → Type 0
+HeldBroken names refusal held = (units : List File) × (units_of held names ≡ Some units) × FirstBroken units refusal
 
-abbrev m1 : Refusal
-m1 = record { rule = M1; unit = 0; line = 1 }
-
--- one unit of one file
-one_unit : (held : List ℕ → Option (List ℕ)) (name bytes : List ℕ) → held name ≡ Some bytes → units_of held (name ∷ []) ≡ Some (file_of name bytes ∷ [])
-one_unit held name bytes e = ap (λ o. unit_and name o (Some [])) e
-
-large_by : (held : List ℕ → Option (List ℕ)) (name : List ℕ) (o : Option (List ℕ)) → held name ≡ o → IsGotOf o 1048576 TooLarge → refusal_by m1 held name
-large_by held name None e h = absurd h
-large_by held name (Some bytes) e h =
-    (file_of name bytes ∷ [], one_unit held name bytes e, inl (record { refused = (refl, refl); unit = (file_of name bytes, refl, h); before = all_none IsRead }))
-
-large_told : (held : Held) (name : List ℕ) → IsGot held name 1048576 TooLarge → WhereTold held (λ h. refusal_by m1 h name)
-large_told None name h = tt
-large_told (Some held) name h = large_by held name (held name) refl h
-
--- M1, where the file is too large
-pub refused_large : (name : List ℕ) (before after : ShelfState) → after.held ≡ before.held → IsGot before.held name 1048576 TooLarge → IsRefused (name ∷ []) name m1 before after
-refused_large name before after kept h = record { kept = kept; named = refl; broken = large_told before.held name h }
-
-stopped_by : (held : List ℕ → Option (List ℕ)) (name given : List ℕ) (refusal : Refusal) (o : Option (List ℕ)) → held name ≡ o → IsGotOf o 1048576 (Bytes given) → FirstBroken (file_of name given ∷ []) refusal → refusal_by refusal held name
-stopped_by held name given refusal None e h broken = absurd h
-stopped_by held name given refusal (Some bytes) e h broken =
-    (file_of name given ∷ [], one_unit held name given (e ∙ ap (λ bs. Some bs) (sym h.0)), broken)
-
-stopped_told : (held : Held) (name given : List ℕ) (refusal : Refusal) → IsGot held name 1048576 (Bytes given) → FirstBroken (file_of name given ∷ []) refusal → WhereTold held (λ h. refusal_by refusal h name)
-stopped_told None name given refusal h broken = tt
-stopped_told (Some held) name given refusal h broken = stopped_by held name given refusal (held name) refl h broken
-
--- the first rule that the unit breaks
-pub refused_unit : (name given : List ℕ) (refusal : Refusal) (before after : ShelfState) → after.held ≡ before.held → IsGot before.held name 1048576 (Bytes given) → StopsUnit (file_of name given) (Refused refusal) → IsRefused (name ∷ []) name refusal before after
-refused_unit name given refusal before after kept h stops = record {
-  kept = kept;
-  named = ap (slice_get (name ∷ [])) stops.0;
-  broken = stopped_told before.held name given refusal h stops.1;
+refused_units : (names : List (List ℕ)) (first : List ℕ) (sources : List Source) (refusal : Refusal) (file : List ℕ) (before after : ShelfState) → AreGot names sources before after
+    → slice_get names 0 ≡ Some first → StopsJob first sources (Refused refusal) → slice_get names refusal.unit ≡ Some file → IsRefused names file refusal before after
+refused_units names first sources refusal file before after got at stops named = record {
+  kept = got.kept;
+  unfailed = got.unfailed;
+  named = named;
+  broken = where_map (HeldUnits names sources) (HeldBroken names refusal) before.held (λ held told has. (
+    has.0,
+    has.1,
+    stops.1 has.0 (record { first_is = ap (λ (list : List (List ℕ)). slice_get list 0) (unit_names held names has.0 has.1) ∙ at; given = has.2 }),
+  )) got.held;
 }
 
+-- how the job ends where its units are stopped
+pub stops_leave : (directory : List ℕ) (names : List (List ℕ)) (first : List ℕ) (sources : List Source) (stop : Stop) (ending : Ending) (before after : ShelfState) → AreGot names sources before after
+    → slice_get names 0 ≡ Some first → StopsJob first sources stop → EndsStopped names stop ending → IsTranspiled directory names ending before after
+stops_leave directory names first sources Memory ending before after got at stops ends =
+    subst (λ (how : Ending). IsTranspiled directory names how before after) (sym ends) (inl got.kept)
+stops_leave directory names first sources (Refused refusal) ending before after got at stops ends =
+    subst (λ (how : Ending). IsTranspiled directory names how before after) (sym ends.2)
+    (refused_units names first sources refusal ends.0 before after got at stops ends.1)
+
+-- the refusal stands in one of the files
+pub stops_within : (names : List (List ℕ)) (first : List ℕ) (sources : List Source) (count : ℕ) (stop : Stop) → length sources ≡ count → StopsJob first sources stop → IsWithin count stop
+stops_within names first sources count Memory same stops = tt
+stops_within names first sources count (Refused refusal) same stops = subst (λ (n : ℕ). refusal.unit < n) same stops.0
+
+-- ---- one unit
+
+one_of : (names : List (List ℕ)) (first : List ℕ) → length names ≡ 1 → slice_get names 0 ≡ Some first → names ≡ first ∷ []
+one_of [] first count at = cc
+one_of (name ∷ []) first count at =
+    let same : name ≡ first = cc in
+    ap (λ (one : List ℕ). one ∷ []) same
+one_of (name ∷ other ∷ others) first count at = absurd (omega (arith, count))
+
+-- the job has one file
+pub one_name : (names : List (List ℕ)) (first : List ℕ) (sources : List Source) (program : CProgram) (before after : ShelfState) → AreGot names sources before after
+    → slice_get names 0 ≡ Some first → IsBuiltOf first sources program → names ≡ first ∷ []
+one_name names first sources program before after got at built = one_of names first (sym got.count ∙ ap length built.one) at
+
+-- the one unit that is held
+abbrev HoldsOne : List ℕ → List ℕ → (List ℕ → Option (List ℕ)) → Type 0
+HoldsOne name bytes held = units_of held (name ∷ []) ≡ Some (file_of name bytes ∷ [])
+
+same_unit : (name given : List ℕ) (held : List ℕ → Option (List ℕ)) → HeldUnits (name ∷ []) (Bytes given ∷ []) held → HoldsOne name given held
+same_unit name given held has =
+    let parts = unit_parts name (held name) (Some []) has.0 has.1 in
+    let alone : [] ≡ parts.1 = cc in
+    let is : has.0 ≡ file_of name parts.0 ∷ [] = parts.4 ∙ ap (λ (others : List File). file_of name parts.0 ∷ others) (sym alone) in
+    let bytes : given ≡ parts.0 = (subst (λ (units : List File). AreOf (Bytes given ∷ []) (bytes_of units)) is has.2).0 in
+    has.1 ∙ ap (λ (units : List File). Some units) (is ∙ ap (λ (b : List ℕ). file_of name b ∷ []) (sym bytes))
+
+holds_one : (names : List (List ℕ)) (first : List ℕ) (sources : List Source) (given : List ℕ) (before after : ShelfState) → AreGot names sources before after
+    → names ≡ first ∷ [] → sources ≡ Bytes given ∷ [] → WhereTold before.held (HoldsOne first given)
+holds_one names first sources given before after got one is = where_map (HeldUnits names sources) (HoldsOne first given) before.held (λ held told has.
+    same_unit first given held
+    (subst (λ (list : List (List ℕ)). HeldUnits list (Bytes given ∷ []) held) one (subst (λ (list : List Source). HeldUnits names list held) is has))) got.held
+
 -- the crate of the unit's program is a right translation
-translates : (name bytes : List ℕ) (program : CProgram) (crate : CrateTree) → length bytes ≤ 1048576 → HasTree (file_of name bytes) → IsBuiltAs (file_of name bytes) program → IsRight program (stem_of name ∷ []) crate → Translates (file_of name bytes ∷ []) crate
-translates name bytes program crate small tree built right = record {
+translates : (name bytes : List ℕ) (program : CProgram) (crate : CrateTree) → CoreOf (file_of name bytes ∷ []) program → IsRight program (stem_of name ∷ []) crate → Translates (file_of name bytes ∷ []) crate
+translates name bytes program crate core right = record {
   program = program;
-  core = record {
-    read = all_one IsRead (file_of name bytes) (small, (spell_or_break bytes).0 (built.program_is.tokens, built.program_is.spelled), tree);
-    built = built;
-  };
-  right = subst (λ word. IsRight program (word ∷ []) crate) (sym built.plain) right;
+  core = core;
+  right = subst (λ word. IsRight program (word ∷ []) crate) (sym core.built.plain) right;
 }
 
 -- the files of a crate, under the directory
@@ -91,24 +110,14 @@ files_for directory crate = files_in directory (text_of crate)
 abbrev translated_by : List ℕ → List ℕ → (List File → Type 0) → (List ℕ → Option (List ℕ)) → Type 0
 translated_by directory name P held = (units : List File) × (crate : CrateTree) × (units_of held (name ∷ []) ≡ Some units) × Translates units crate × P (files_in directory (text_of crate))
 
-module _ (directory name given : List ℕ) (program : CProgram) (crate : CrateTree) (tree : HasTree (file_of name given)) (built : IsBuiltAs (file_of name given) program) (right : IsRight program (stem_of name ∷ []) crate) where
-  translated_held : (P : List File → Type 0) (held : List ℕ → Option (List ℕ)) (o : Option (List ℕ)) → held name ≡ o → IsGotOf o 1048576 (Bytes given) → P (files_for directory crate) → translated_by directory name P held
-  translated_held P held None e h p = absurd h
-  translated_held P held (Some bytes) e h p = (
-    file_of name given ∷ [],
-    crate,
-    one_unit held name given (e ∙ ap (λ bs. Some bs) (sym h.0)),
-    translates name given program crate (subst (λ (bs : List ℕ). length bs ≤ 1048576) (sym h.0) h.1) tree built right,
-    p,
-  )
-
-  translated_told : (P : List File → Type 0) (held : Held) → IsGot held name 1048576 (Bytes given) → P (files_for directory crate) → WhereTold held (translated_by directory name P)
-  translated_told P None h p = tt
-  translated_told P (Some held) h p = translated_held P held (held name) refl h p
+module _ (directory name given : List ℕ) (program : CProgram) (crate : CrateTree) (core : CoreOf (file_of name given ∷ []) program) (right : IsRight program (stem_of name ∷ []) crate) where
+  translated_told : (P : List File → Type 0) (held : Held) → WhereTold held (HoldsOne name given) → P (files_for directory crate) → WhereTold held (translated_by directory name P)
+  translated_told P h holds p = where_map (HoldsOne name given) (translated_by directory name P) h
+      (λ held told one. (file_of name given ∷ [], crate, one, translates name given program crate core right, p)) holds
 
   -- the names of the files that are put
   names_put : map (λ (file : File). file.name) (files_for directory crate) ≡ written_names directory (name ∷ [])
-  names_put = file_names directory (name ∷ []) (file_of name given ∷ []) crate program refl (subst (λ word. items_in crate ≡ items_of program (word ∷ [])) (sym built.plain) right.items)
+  names_put = file_names directory (name ∷ []) (file_of name given ∷ []) crate program refl (subst (λ word. items_in crate ≡ items_of program (word ∷ [])) (sym core.built.plain) right.items)
 
   -- the file at place k has the name at place k
   name_put : (k : ℕ) (file : File) → slice_get (files_for directory crate) k ≡ Some file → slice_get (written_names directory (name ∷ [])) k ≡ Some file.name
@@ -119,27 +128,26 @@ module _ (directory name given : List ℕ) (program : CProgram) (crate : CrateTr
 
 -- the facts that stand before the files are put
 pub record IsReady (directory name given : List ℕ) (program : CProgram) (files : List File) (before between : ShelfState) : Type 0 where
-  pub got : IsGot before.held name 1048576 (Bytes given)
+  pub holds : WhereTold before.held (HoldsOne name given)
   pub kept : between.held ≡ before.held
   pub later : before.faults ≤ between.faults
-  pub tree : HasTree (file_of name given)
-  pub built : IsBuiltAs (file_of name given) program
+  pub core : CoreOf (file_of name given ∷ []) program
   pub made : IsPlaced directory program (stem_of name) files
 
 module _ (directory name given : List ℕ) (program : CProgram) (files : List File) (before between after : ShelfState) (ready : IsReady directory name given program files before between) where
   left_at : (k : ℕ) (file : File) → slice_get files k ≡ Some file → without_file file.name after.held ≡ without_file file.name (with_files (take k files) between.held) → IsLeftAt directory (name ∷ []) k file.name before after
   left_at k file place left = record {
-    named = name_put directory name given program ready.made.crate ready.tree ready.built ready.made.right k file (ap (λ fs. slice_get fs k) (sym ready.made.text) ∙ place);
-    left = translated_told directory name given program ready.made.crate ready.tree ready.built ready.made.right
+    named = name_put directory name given program ready.made.crate ready.core ready.made.right k file (ap (λ fs. slice_get fs k) (sym ready.made.text) ∙ place);
+    left = translated_told directory name given program ready.made.crate ready.core ready.made.right
         (λ fs. without_file file.name after.held ≡ without_file file.name (with_files (take k fs) before.held))
-        before.held ready.got
+        before.held ready.holds
         (left ∙ ap (λ held. without_file file.name (with_files (take k files) held)) ready.kept ∙ ap (λ fs. without_file file.name (with_files (take k fs) before.held)) ready.made.text);
   }
 
   -- what putting the crate's files leaves is what the job leaves
   pub put_leaves : (ending : Ending) → Puts files ending between after → IsTranspiled directory (name ∷ []) ending before after
   put_leaves done puts =
-      translated_told directory name given program ready.made.crate ready.tree ready.built ready.made.right (λ fs. after.held ≡ with_files fs before.held) before.held ready.got
+      translated_told directory name given program ready.made.crate ready.core ready.made.right (λ fs. after.held ≡ with_files fs before.held) before.held ready.holds
       (puts.held ∙ ap (λ held. with_files files held) ready.kept ∙ ap (λ fs. with_files fs before.held) ready.made.text)
   put_leaves (refused file refusal) puts = absurd puts
   put_leaves usage puts = absurd puts
@@ -155,3 +163,21 @@ module _ (directory name given : List ℕ) (program : CProgram) (files : List Fi
       } in
       subst Unwritten puts.3 stopped
   put_leaves memory puts = inr (puts.0, puts.1.name, left_at puts.0 puts.1 puts.2.place puts.2.left)
+  put_leaves (ending.told tale) puts = absurd puts
+  put_leaves (ending.not_rust file line) puts = absurd puts
+  put_leaves (ending.ill_typed file item) puts = absurd puts
+
+-- the crate of the one unit is put
+pub one_leaves : (directory : List ℕ) (names : List (List ℕ)) (first : List ℕ) (sources : List Source) (program : CProgram) (files : List File) (before between after : ShelfState) (ending : Ending)
+    → AreGot names sources before between → slice_get names 0 ≡ Some first → IsBuiltOf first sources program → IsPlaced directory program (stem_of first) files
+    → Puts files ending between after → IsTranspiled directory names ending before after
+one_leaves directory names first sources program files before between after ending got at built made puts =
+    let one = one_name names first sources program before between got at built in
+    subst (λ (list : List (List ℕ)). IsTranspiled directory list ending before after) (sym one)
+    (put_leaves directory first built.bytes program files before between after (record {
+      holds = holds_one names first sources built.bytes before between got one built.one;
+      kept = got.kept;
+      later = got.later;
+      core = built.core;
+      made = made;
+    }) ending puts)

@@ -7,7 +7,7 @@ use Rattle.shelf.specs.declared.fault.ShelfFault.TheVariants.{Failed, Memory}
 use Rattle.shelf.specs.declared.file.File.{File}
 use Rattle.shelf.specs.Shelf.{ShelfState, without_file, call_of}
 use Rattle.front.specs.Files.{with_files}
-use Rattle.front.specs.Report.{Ending, done, refused, usage, cannot_read, cannot_write, memory}
+use Rattle.front.specs.Report.{Ending, done, refused, usage, cannot_read, cannot_write, memory, told, not_rust, ill_typed}
 
 -- every file was put
 pub record PutsAll (files : List File) (before after : ShelfState) : Type 0 where
@@ -44,3 +44,6 @@ Puts files memory before after = (k : ℕ) × (file : File) × StopsIn files k f
 Puts files (refused name refusal) before after = ⊥
 Puts files usage before after = ⊥
 Puts files (cannot_read name) before after = ⊥
+Puts files (told tale) before after = ⊥
+Puts files (not_rust name line) before after = ⊥
+Puts files (ill_typed name item) before after = ⊥

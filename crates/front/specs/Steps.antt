@@ -1,28 +1,20 @@
 -- What the steps from tokens to a program find.
 use Rattle.std.specs.Prelude.{◌≡◌, ℕ, List, ⊤, Some}
-use Rattle.cr_base.specs.declared.refusal.Refusal.{Refusal}
 use Rattle.cr_base.specs.declared.refusal.Stop.{Stop}
 use Rattle.cr_base.specs.declared.refusal.Stop.TheVariants.{Refused, Memory}
-use Rattle.cr_base.specs.declared.rule.Rule.TheVariants.{N1}
 use Rattle.straight_core.specs.Trees.{CProgram}
 use Rattle.straight_decl.specs.CoreOf.{core_of}
 use Rattle.cx_lex.specs.declared.token.Token.{Token}
-use Rattle.cx_tree.specs.Derives.{Derives}
-use Rattle.cx_tree.specs.Trees.{UnitTree}
-use Rattle.straight_tree.specs.Derives.{Derives as DerivesStraight}
-use Rattle.straight_tree.specs.Trees.{UnitTree as StraightTree}
+use Rattle.straight_tree.specs.Derives.{Derives}
+use Rattle.straight_tree.specs.Trees.{UnitTree}
 use Rattle.rs_items.specs.Modules.{module_name, stem_of}
 use Rattle.front.specs.Kept.{KeepsNames}
-
--- tokens derive a tree
-pub record HasDerivation (tokens : List Token) : Type 0 where
-  pub tree : UnitTree
-  pub derived : Derives tokens tree
+use Rattle.front.specs.Refusals.{not_built}
 
 -- the program of tokens, by their tree
 pub record HasProgram (tokens : List Token) (program : CProgram) : Type 0 where
-  pub tree : StraightTree
-  pub derived : DerivesStraight tokens tree
+  pub tree : UnitTree
+  pub derived : Derives tokens tree
   pub typed : core_of 0 tree ≡ Some program
 
 -- the program of the tokens of a file that is translated today
@@ -30,10 +22,6 @@ pub record BuildsAs (file : List ℕ) (tokens : List Token) (program : CProgram)
   pub plain : module_name file ≡ stem_of file
   pub has : HasProgram tokens program
   pub kept : KeepsNames program
-
--- the refusal of what isn't built yet
-abbrev pub not_built : Refusal
-not_built = record { rule = N1; unit = 0; line = 1 }
 
 -- a refusal says that there is no such program; want of memory says nothing
 abbrev pub StopsAs : (CProgram → Type 0) → Stop → Type 0

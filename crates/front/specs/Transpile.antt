@@ -1,5 +1,5 @@
 -- What the job to translate units leaves on the shelf, by how it ended.
-use Rattle.std.specs.Prelude.{◌≡◌, ℕ, ◌⊎◌, List, map, take, Option, Some, None, IsSome, slice_get}
+use Rattle.std.specs.Prelude.{◌≡◌, ℕ, ◌⊎◌, List, map, take, Some, IsSome, slice_get}
 use Rattle.cr_base.specs.Count.{Rose}
 use Rattle.cr_base.specs.declared.refusal.Refusal.{Refusal}
 use Rattle.shelf.specs.declared.called.Kind.TheVariants.{Get, Put}
@@ -12,9 +12,9 @@ use Rattle.straight_rust_tree.specs.Tree.{CrateTree}
 use Rattle.straight_whole.specs.Right.{IsRight}
 use Rattle.front.specs.Refusals.{FirstBroken, CoreOf}
 use Rattle.front.specs.Files.{WhereTold, units_of, files_in, with_files, written_names}
-use Rattle.front.specs.Job.{Job, transpile, several}
-use Rattle.front.specs.Steps.{not_built}
-use Rattle.front.specs.Report.{Ending, done, refused, usage, cannot_read, cannot_write, memory}
+use Rattle.cr_base.specs.declared.rule.Rule.TheVariants.{M2}
+use Rattle.cx_link.specs.Rules.{nowhere}
+use Rattle.front.specs.Report.{Ending, done, refused, usage, cannot_read, cannot_write, memory, told, not_rust, ill_typed}
 
 -- a crate is a right translation of units: it is well typed, has the items of their program in modules that are
 -- named after their files, and behaves as that program
@@ -37,6 +37,8 @@ IsDone directory names before after =
 -- the units were refused: the refusal is the first rule that they break, in this file, and nothing was put
 pub record IsRefused (names : List (List ℕ)) (file : List ℕ) (refusal : Refusal) (before after : ShelfState) : Type 0 where
   pub kept : after.held ≡ before.held
+  -- the last call that failed is what it was, so no `get` failed
+  pub unfailed : after.last ≡ before.last
   pub named : slice_get names refusal.unit ≡ Some file
   pub broken : WhereTold before.held (λ held. (units : List File) × (units_of held names ≡ Some units) × FirstBroken units refusal)
 
@@ -71,15 +73,21 @@ IsTranspiled directory names usage before after = ⊥
 IsTranspiled directory names (cannot_read name) before after = IsUnread names name before after
 IsTranspiled directory names (cannot_write name) before after = IsUnwritten directory names name before after
 IsTranspiled directory names memory before after = IsOutOfMemory directory names before after
+IsTranspiled directory names (told tale) before after = ⊥
+IsTranspiled directory names (not_rust name line) before after = ⊥
+IsTranspiled directory names (ill_typed name item) before after = ⊥
 
--- several units were refused: the refusal is N1, in the first file, and nothing was got or put; or memory ran out before
-abbrev pub IsUnbuilt : List ℕ → Ending → ShelfState → ShelfState → Type 0
-IsUnbuilt first (refused file refusal) before after = (file ≡ first) × (refusal ≡ not_built) × (after ≡ before)
-IsUnbuilt first memory before after = after ≡ before
-IsUnbuilt first done before after = ⊥
-IsUnbuilt first usage before after = ⊥
-IsUnbuilt first (cannot_read name) before after = ⊥
-IsUnbuilt first (cannot_write name) before after = ⊥
+-- more units than a program may have were refused by M2, which stands in no unit, and nothing was got or put; or memory ran out before
+abbrev pub IsTooMany : Ending → ShelfState → ShelfState → Type 0
+IsTooMany (refused file refusal) before after = (refusal ≡ nowhere M2) × (after ≡ before)
+IsTooMany memory before after = after ≡ before
+IsTooMany done before after = ⊥
+IsTooMany usage before after = ⊥
+IsTooMany (cannot_read name) before after = ⊥
+IsTooMany (cannot_write name) before after = ⊥
+IsTooMany (told tale) before after = ⊥
+IsTooMany (not_rust name line) before after = ⊥
+IsTooMany (ill_typed name item) before after = ⊥
 
 -- words that are no job leave the shelf as it was, and so does want of memory while they are read
 abbrev pub IsNoJob : Ending → ShelfState → ShelfState → Type 0
@@ -88,10 +96,7 @@ IsNoJob done before after = ⊥
 IsNoJob (refused file refusal) before after = ⊥
 IsNoJob (cannot_read name) before after = ⊥
 IsNoJob (cannot_write name) before after = ⊥
+IsNoJob (told tale) before after = ⊥
+IsNoJob (not_rust name line) before after = ⊥
+IsNoJob (ill_typed name item) before after = ⊥
 IsNoJob memory before after = after ≡ before
-
--- what a job, or none, leaves on the shelf, by how it ended
-abbrev pub Leaves : Option Job → Ending → ShelfState → ShelfState → Type 0
-Leaves None ending before after = IsNoJob ending before after
-Leaves (Some (transpile directory names)) ending before after = IsTranspiled directory names ending before after
-Leaves (Some (several first)) ending before after = IsUnbuilt first ending before after

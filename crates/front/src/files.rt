@@ -1,7 +1,7 @@
 ghost use Rattle.std.specs.Prelude.{◌≡◌, ℕ, ◌<◌, ◌≤◌, length, take, IfOk, MatchResult, Some, slice_get};
 ghost use Rattle.cr_base.specs.Count.{Rose};
 ghost use Rattle.shelf.specs.Shelf.{call_of};
-ghost use Rattle.front.specs.Files.{file_in, files_in, with_files};
+ghost use Rattle.front.specs.Files.{file_in, files_in, name_in, with_files};
 ghost use Rattle.front.specs.Puts.{PutsAll, StopsAt};
 
 use cr_base::{Items, Memory, Text};
@@ -23,16 +23,20 @@ pub(crate) fn placed(
     Ok(all)
 }
 
+/// The name of a path in a directory. Refused only for want of memory.
+pub(crate) fn named(alloc: Global, directory: &str, path: &str) -> Result<Text, Memory>
+    ensures { IfOk result (λ name. name ≡ name_in directory.now path.now) }
+{
+    let path = format!(in alloc; "{directory}/{path}")?;
+    Ok(Text::of(path))
+}
+
 fn placed_file(alloc: Global, directory: &str, file: File) -> Result<File, Memory>
     ensures { IfOk result (λ placed. placed ≡ file_in directory.now file) }
 {
     let File { name, bytes } = file;
-    let path = name.as_str();
-    let path = format!(in alloc; "{directory}/{path}")?;
-    Ok(File {
-        name: Text::of(path),
-        bytes,
-    })
+    let name = named(alloc, directory, name.as_str())?;
+    Ok(File { name, bytes })
 }
 
 /// A `put` that gave no Ok: the number of its file, from 0, and why.

@@ -2,13 +2,20 @@
 //! host, and answers the exit status.
 #![tactic(auto)]
 
+mod crate_files;
 mod files;
 mod kept;
+mod laws;
 mod outcome;
 mod report;
+mod runs;
+mod sources;
 mod top;
 mod transpile;
-mod unit;
+mod ungot;
+mod units;
+mod unread;
 
+pub use laws::{one_is_first, translated_break_none};
 pub use report::out_of_memory;
 pub use top::{run, run_surely};

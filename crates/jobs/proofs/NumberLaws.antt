@@ -101,6 +101,26 @@ reads most (byte ∷ bytes) bound is =
       numeral = subst (λ (digits : List ℕ). IsNumeral 10 digits × (digits_value 10 digits < 2 ^ 64)) (sym more.0) more.1;
     }
 
+-- one of at most nine digits has a value of 32 bits
+smaller : (word : List ℕ) → length word ≤ 9 → list_all is_digit word ≡ true → digits_value 10 word < 2 ^ 32
+smaller word short all =
+    let below = digits_value_short (numerals_by_value (AllDigits 10) tells_digits) word 9 (all_digits word all) short in
+    omega (arith, below)
+
+-- `parse` reads such a word into 32 bits
+pub record ReadsShort (word : List ℕ) : Type 0 where
+  pub numeral : IsNumeral 10 (without_leading_plus word) × (digits_value 10 (without_leading_plus word) < 2 ^ 32)
+
+pub reads_short : (most : ℕ) (word : List ℕ) → most ≤ 9 → is_number most word ≡ true → ReadsShort word
+reads_short most word bound is =
+    let read = reads most word (omega (arith, bound)) is in
+    let outer = and_true (nat_lt 0 (length word) && nat_le (length word) most) (list_all is_digit word) is in
+    let inner = and_true (nat_lt 0 (length word)) (nat_le (length word) most) outer.0 in
+    let short : length word ≤ most = search (rules, tests, inner.1) in
+    record {
+      numeral = (read.numeral.0, subst (λ (digits : List ℕ). digits_value 10 digits < 2 ^ 32) (sym read.same) (smaller word (omega (arith, short, bound)) outer.1));
+    }
+
 -- ---- numbers with a comma between two
 
 -- numbers that were read, and those of the rest

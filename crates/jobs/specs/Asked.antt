@@ -1,5 +1,5 @@
 -- A job as the program holds it.
-use Rattle.std.specs.Prelude.{List, ◌∷◌}
+use Rattle.std.specs.Prelude.{◌≤◌, List, ◌∷◌, ⊤}
 use Rattle.clap.specs.Walk.{Text, texts}
 use Rattle.jobs.specs.Job.{Job, transpile, run_c, run_rust}
 use Rattle.jobs.specs.declared.job.Files.{Files}
@@ -15,3 +15,9 @@ abbrev pub asked_of : Held → Job
 asked_of (Transpile directory files) = transpile directory.now (files_of files)
 asked_of (RunC steps order files) = run_c steps order (files_of files)
 asked_of (RunRust steps directory) = run_rust steps directory.now
+
+-- a run has at most 1,000,000,000 steps or units
+abbrev pub IsBounded : Held → Type 0
+IsBounded (Transpile directory files) = ⊤
+IsBounded (RunC steps order files) = steps ≤ 1000000000
+IsBounded (RunRust steps directory) = steps ≤ 1000000000

@@ -20,7 +20,7 @@ pub enum Job<'a> {
     /// the list is used up.
     RunC {
         steps: u64,
-        order: Items<u64>,
+        order: Items<u32>,
         files: Files<'a>,
     },
     /// Run the crate under a directory. `steps` is the most units that the run may take, from 1 to

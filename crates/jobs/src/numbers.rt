@@ -1,6 +1,6 @@
 //! Numbers that stand in words.
 
-ghost use Rattle.std.specs.Prelude.{◌≡◌, ◌≤◌, IfOk, option_map};
+ghost use Rattle.std.specs.Prelude.{◌≡◌, ◌≤◌, IfOk, IfSome, option_map};
 ghost use Rattle.std.specs.List.{list_all};
 ghost use Rattle.jobs.specs.Numbers.{is_digit, is_number, number_of, within, parts_of, numbers_of, at_most};
 
@@ -47,9 +47,24 @@ pub(crate) fn number_of(word: &str, most: usize) -> Option<u64>
     }
 }
 
+/// The same number of a word of at most nine digits, which has 32 bits.
+fn short_number_of(word: &str, most: usize) -> Option<u32>
+    requires { most ≤ 9 }
+    ensures { result ≡ number_of most word.now }
+{
+    if !is_number(word, most) {
+        return None;
+    }
+    match word.parse::<u32>() {
+        Ok(number) => Some(number),
+        Err(_) => None,
+    }
+}
+
 /// A number that lies between two bounds, both of them taken.
 pub(crate) fn within(number: Option<u64>, least: u64, greatest: u64) -> Option<u64>
-    ensures { result ≡ within least greatest number }
+    ensures within { result ≡ within least greatest number }
+    ensures most { IfSome result (λ found. found ≤ greatest) }
 {
     let number = number?;
     if number < least {
@@ -68,20 +83,20 @@ pub(crate) fn numbers_in(
     word: &str,
     digits: usize,
     most: usize,
-) -> Result<Option<Items<u64>>, Memory>
-    requires { digits ≤ 19 }
+) -> Result<Option<Items<u32>>, Memory>
+    requires { digits ≤ 9 }
     ensures { IfOk result (λ numbers. numbers ≡ at_most most (numbers_of digits (parts_of word.now))) }
 {
     let mut numbers = Items::new(alloc);
     let mut left = word;
     while let Some((first, rest)) = left.split_once(',') {
-        let Some(number) = number_of(first, digits) else {
+        let Some(number) = short_number_of(first, digits) else {
             return Ok(None);
         };
         numbers.push(number)?;
         left = rest;
     }
-    let Some(last) = number_of(left, digits) else {
+    let Some(last) = short_number_of(left, digits) else {
         return Ok(None);
     };
     numbers.push(last)?;

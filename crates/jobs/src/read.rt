@@ -1,13 +1,13 @@
 //! The job that words ask for.
 
-ghost use Rattle.std.specs.Prelude.{◌≡◌, ◌≢◌, None, IfOk, map, option_map, string_bytes};
+ghost use Rattle.std.specs.Prelude.{◌≡◌, ◌≢◌, ◌≤◌, None, IfOk, IfSome, map, option_map, string_bytes};
 ghost use Rattle.std.specs.List.{list_all};
 ghost use Rattle.clap.specs.Values.{kind_of};
 ghost use Rattle.clap.specs.declared.error.kind.ErrorKind.TheVariants.{OutOfMemory};
 ghost use Rattle.clap.specs.Matches.{found_of};
 ghost use Rattle.clap.specs.Simple.{subcommand_rows_of};
 ghost use Rattle.clap.specs.Walk.{all_of, first_of, rows_of, texts};
-ghost use Rattle.jobs.specs.Asked.{asked_of, files_of};
+ghost use Rattle.jobs.specs.Asked.{IsBounded, asked_of, files_of};
 ghost use Rattle.jobs.specs.Job.{job_of, job_in, transpile_in, run_c_in, run_rust_in, is_path, path_in, paths_in, steps_in, order_in, has_end};
 
 use crate::command::{DIRECTORY, FILES, ORDER, OUTPUT, STEPS, command};
@@ -38,6 +38,7 @@ const MOST_ORDER: usize = 10_000;
 pub fn read_job<'a>(alloc: Global, words: &'a [String]) -> Result<Option<Job<'a>>, Memory>
     ensures read { IfOk result (λ job. option_map asked_of job
         ≡ job_of (map string_bytes words.entry.now)) }
+    ensures bounded { IfOk result (λ job. IfSome job IsBounded) }
 {
     if has_end(words) {
         return Ok(None);
@@ -71,7 +72,8 @@ fn untaken<'a>(error: &Error) -> Result<Option<Job<'a>>, Memory>
 }
 
 fn job_in<'a>(alloc: Global, matches: &ArgMatches<'a>) -> Result<Option<Job<'a>>, Memory>
-    ensures { IfOk result (λ job. option_map asked_of job ≡ job_in (subcommand_rows_of matches.now)) }
+    ensures read { IfOk result (λ job. option_map asked_of job ≡ job_in (subcommand_rows_of matches.now)) }
+    ensures bounded { IfOk result (λ job. IfSome job IsBounded) }
 {
     let Some((name, found)) = matches.subcommand() else {
         return Ok(None);
@@ -103,7 +105,8 @@ fn texts_of<'m, 'a>(found: &'m ArgMatches<'a>, id: &str) -> Option<&'m [&'a str]
 }
 
 fn transpile_in<'a>(alloc: Global, found: &ArgMatches<'a>) -> Result<Option<Job<'a>>, Memory>
-    ensures { IfOk result (λ job. option_map asked_of job ≡ transpile_in (rows_of (found_of found.now))) }
+    ensures read { IfOk result (λ job. option_map asked_of job ≡ transpile_in (rows_of (found_of found.now))) }
+    ensures bounded { IfOk result (λ job. IfSome job IsBounded) }
 {
     let Some(directory) = path_in(text_of(found, OUTPUT)) else {
         return Ok(None);
@@ -115,7 +118,8 @@ fn transpile_in<'a>(alloc: Global, found: &ArgMatches<'a>) -> Result<Option<Job<
 }
 
 fn run_c_in<'a>(alloc: Global, found: &ArgMatches<'a>) -> Result<Option<Job<'a>>, Memory>
-    ensures { IfOk result (λ job. option_map asked_of job ≡ run_c_in (rows_of (found_of found.now))) }
+    ensures read { IfOk result (λ job. option_map asked_of job ≡ run_c_in (rows_of (found_of found.now))) }
+    ensures bounded { IfOk result (λ job. IfSome job IsBounded) }
 {
     let Some(steps) = steps_in(text_of(found, STEPS)) else {
         return Ok(None);
@@ -134,7 +138,8 @@ fn run_c_in<'a>(alloc: Global, found: &ArgMatches<'a>) -> Result<Option<Job<'a>>
 }
 
 fn run_rust_in<'a>(found: &ArgMatches<'a>) -> Option<Job<'a>>
-    ensures { option_map asked_of result ≡ run_rust_in (rows_of (found_of found.now)) }
+    ensures read { option_map asked_of result ≡ run_rust_in (rows_of (found_of found.now)) }
+    ensures bounded { IfSome result IsBounded }
 {
     let Some(steps) = steps_in(text_of(found, STEPS)) else {
         return None;
@@ -199,7 +204,8 @@ fn files_in<'w, 'a>(
 
 // How many steps or units a run may take.
 fn steps_in(word: Option<&str>) -> Option<u64>
-    ensures { result ≡ steps_in (option_map (λ word. word.now) word.entry) }
+    ensures steps { result ≡ steps_in (option_map (λ word. word.now) word.entry) }
+    ensures most { IfSome result (λ steps. steps ≤ 1000000000) }
 {
     match word {
         Some(word) => within(number_of(word, STEPS_DIGITS), 1, MOST_STEPS),
@@ -208,7 +214,7 @@ fn steps_in(word: Option<&str>) -> Option<u64>
 }
 
 // An order of evaluation. Refused only for want of memory.
-fn order_in(alloc: Global, word: Option<&str>) -> Result<Option<Items<u64>>, Memory>
+fn order_in(alloc: Global, word: Option<&str>) -> Result<Option<Items<u32>>, Memory>
     ensures { IfOk result (λ order. order ≡ order_in (option_map (λ word. word.now) word.entry)) }
 {
     match word {

@@ -9,7 +9,7 @@ use Rattle.mem_bytes.specs.Laws.{IsHeld}
 use Rattle.mem_bytes.specs.Memory.{unset_cell}
 use Rattle.mem_bytes.proofs.Windows.{bytes_all}
 
-cell_of_held : (cell : Cell) → IsHeld cell → IsCell cell
+pub cell_of_held : (cell : Cell) → IsHeld cell → IsCell cell
 cell_of_held (Bits value set) held = tt
 cell_of_held (PtrByte of index) held = held
 

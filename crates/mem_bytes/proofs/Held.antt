@@ -51,7 +51,7 @@ held_indexes of (index ∷ indexes) p few =
 held_pointer : (of : Value) → IsPointer of → All IsHeld (pointer_bytes of)
 held_pointer of p = held_indexes of (0 ∷ 1 ∷ 2 ∷ 3 ∷ 4 ∷ 5 ∷ 6 ∷ 7 ∷ []) p refl
 
-held_value : (scalar : Scalar) (value : Value) → All IsHeld (cells_of scalar value)
+pub held_value : (scalar : Scalar) (value : Value) → All IsHeld (cells_of scalar value)
 held_value scalar (Whole n) = held_bytes (scalar_size scalar) (residue n (modulus scalar))
 held_value scalar Null = held_replicate 8 (byte_cell 0) (omega arith, omega arith)
 held_value scalar (Object at) = held_pointer (Object at) tt

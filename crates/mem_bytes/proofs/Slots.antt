@@ -1,11 +1,11 @@
 -- What a store of slots shows of its memory, place by place.
-use Rattle.std.proofs.Common.{◌≡◌, ◌≢◌, ℕ, zero, suc, ◌<◌, ◌==◌, true, false, [], ◌∷◌, length, slice_set, slice_index_or, Option, Some, None, is_none, Result, Ok, Err, refl, sym, ap, subst, ◌∙◌, arith}
+use Rattle.std.proofs.Common.{◌≡◌, ◌≢◌, ℕ, zero, suc, ◌<◌, ◌==◌, false, [], ◌∷◌, length, slice_set, slice_index_or, Option, Some, None, Result, Ok, Err, refl, sym, ap, subst, ◌∙◌, arith}
 use Rattle.std.proofs.lemmas.Bool.{cond-false}
 use Rattle.std.proofs.lemmas.List.{length-set, set-get_or, set-set, set_comm}
 use Rattle.mem_bytes.specs.declared.fault.Fault.{Fault}
 use Rattle.mem_bytes.specs.declared.fault.Fault.TheVariants.{Dead}
 use Rattle.mem_bytes.specs.declared.value.Ptr.{Ptr}
-use Rattle.mem_bytes.specs.Access.{and_then, live_read, live_change, block_with_copy, copied_between, after_copy, after_kill}
+use Rattle.mem_bytes.specs.Access.{and_then, live_read, live_change, block_with_copy, copied_between, after_copy}
 use Rattle.mem_bytes.specs.Calls.{Does}
 use Rattle.mem_bytes.specs.Memory.{Block, Blocks, live_block}
 
@@ -38,20 +38,6 @@ change_live items memory number place block new step (Err fault) same p e some d
       ap (λ b. slice_set items number (Some b)) does.1 ∙ ap (slice_set items number) (sym some) ∙ same_place items number place e ∙ same,
     )
 
--- a block that has died doesn't die again
-pub killing_dead : (items memory : Blocks) (number : ℕ) (place after : Option Block) → items ≡ memory → number < length items → place ≡ slice_index_or items number place → is_none place ≡ true → after ≡ None → (after_kill memory number ≡ Err Dead) × (slice_set items number after ≡ memory)
-killing_dead items memory number None after same p e none gone =
-    let live : live_block memory number ≡ None = ap (λ m. live_block m number) (sym same) ∙ live_at items number None p e in
-    (ap (λ slot. live_read slot (λ _. Ok (slice_set memory number None))) live, ap (slice_set items number) gone ∙ same_place items number None e ∙ same)
-killing_dead items memory number (Some block) after same p e none gone = cc
-
--- a live block dies
-pub killing_live : (items memory : Blocks) (number : ℕ) (place after : Option Block) → items ≡ memory → number < length items → place ≡ slice_index_or items number place → is_none place ≡ false → after ≡ None → after_kill memory number ≡ Ok (slice_set items number after)
-killing_live items memory number None after same p e some gone = cc
-killing_live items memory number (Some block) after same p e some gone =
-    let live : live_block memory number ≡ Some block = ap (λ m. live_block m number) (sym same) ∙ live_at items number (Some block) p e in
-    ap (λ slot. live_read slot (λ _. Ok (slice_set memory number None))) live ∙ cc
-
 -- no block is live where the place of its number holds none
 pub set_dead : (memory : Blocks) (number : ℕ) → live_block memory number ≡ None → slice_set memory number None ≡ memory
 set_dead [] number dead = refl
@@ -78,14 +64,14 @@ live_within (first ∷ others) zero block live = omega arith
 live_within (first ∷ others) (suc number) block live = omega (arith, live_within others number block live)
 
 -- a block taken out and put back is as it was
-pub put_back : (memory : Blocks) (number : ℕ) (block : Block) → live_block memory number ≡ Some block → slice_set (slice_set memory number None) number (Some block) ≡ memory
-put_back memory number block live = set-set memory number None (Some block) ∙ set_live memory number block live
+pub put_back : (memory : Blocks) (number : ℕ) (block : Block) (left : Option Block) → live_block memory number ≡ Some block → slice_set (slice_set memory number left) number (Some block) ≡ memory
+put_back memory number block left live = set-set memory number left (Some block) ∙ set_live memory number block live
 
 -- the same, where another block was changed meanwhile
-pub put_back_beside : (memory : Blocks) (number other : ℕ) (block : Block) (place : Option Block) → number ≢ other → live_block memory number ≡ Some block → slice_set (slice_set (slice_set memory number None) other place) number (Some block) ≡ slice_set memory other place
-put_back_beside memory number other block place apart live =
-    ap (λ m. slice_set m number (Some block)) (set_comm memory number other None place apart)
-    ∙ set-set (slice_set memory other place) number None (Some block)
+pub put_back_beside : (memory : Blocks) (number other : ℕ) (block : Block) (left place : Option Block) → number ≢ other → live_block memory number ≡ Some block → slice_set (slice_set (slice_set memory number left) other place) number (Some block) ≡ slice_set memory other place
+put_back_beside memory number other block left place apart live =
+    ap (λ m. slice_set m number (Some block)) (set_comm memory number other left place apart)
+    ∙ set-set (slice_set memory other place) number left (Some block)
     ∙ set_live (slice_set memory other place) number block (live-set_other memory other number place (λ same. apart (sym same)) ∙ live)
 
 -- a copy inside one block is a step on that block
@@ -101,34 +87,34 @@ copying_inside memory from to count same some =
     ∙ copied_in memory from to count (live_block memory from.block) same
 
 -- a step on one block, while another is taken out
-moved : {A : Type 0} (new : Result Block Fault) (memory after : Blocks) (number other : ℕ) (block : Block) (result : Result A Fault) → number ≢ other → live_block memory number ≡ Some block → Does result (slice_set memory number None) after (and_then new (λ b. Ok (slice_set (slice_set memory number None) other (Some b)))) → Does result memory (slice_set after number (Some block)) (and_then new (λ b. Ok (slice_set memory other (Some b))))
-moved (Err fault) memory after number other block (Ok value) apart live does = cc
-moved (Err fault) memory after number other block (Err found) apart live does =
-    (cc, ap (λ m. slice_set m number (Some block)) does.1 ∙ put_back memory number block live)
-moved (Ok new) memory after number other block (Ok value) apart live does =
-    let e : slice_set (slice_set memory number None) other (Some new) ≡ after = cc in
-    ap Ok (sym (put_back_beside memory number other block (Some new) apart live) ∙ ap (λ m. slice_set m number (Some block)) e)
-moved (Ok new) memory after number other block (Err found) apart live does = cc
+moved : {A : Type 0} (new : Result Block Fault) (memory after : Blocks) (number other : ℕ) (block : Block) (left : Option Block) (result : Result A Fault) → number ≢ other → live_block memory number ≡ Some block → Does result (slice_set memory number left) after (and_then new (λ b. Ok (slice_set (slice_set memory number left) other (Some b)))) → Does result memory (slice_set after number (Some block)) (and_then new (λ b. Ok (slice_set memory other (Some b))))
+moved (Err fault) memory after number other block left (Ok value) apart live does = cc
+moved (Err fault) memory after number other block left (Err found) apart live does =
+    (cc, ap (λ m. slice_set m number (Some block)) does.1 ∙ put_back memory number block left live)
+moved (Ok new) memory after number other block left (Ok value) apart live does =
+    let e : slice_set (slice_set memory number left) other (Some new) ≡ after = cc in
+    ap Ok (sym (put_back_beside memory number other block left (Some new) apart live) ∙ ap (λ m. slice_set m number (Some block)) e)
+moved (Ok new) memory after number other block left (Err found) apart live does = cc
 
 -- the block that is copied to
-target_cases : {A : Type 0} (memory after : Blocks) (from to : Ptr) (count : ℕ) (block : Block) (target : Option Block) (result : Result A Fault) → from.block ≢ to.block → live_block memory from.block ≡ Some block → Does result (slice_set memory from.block None) after (and_then (live_read target (λ t. block_with_copy t to.offset block from.offset count)) (λ b. Ok (slice_set (slice_set memory from.block None) to.block (Some b)))) → Does result memory (slice_set after from.block (Some block)) (copied_between memory from to count (Some block) target)
-target_cases memory after from to count block None (Ok value) apart live does = cc
-target_cases memory after from to count block None (Err found) apart live does =
-    (cc, ap (λ m. slice_set m from.block (Some block)) does.1 ∙ put_back memory from.block block live)
-target_cases memory after from to count block (Some target) result apart live does =
-    moved (block_with_copy target to.offset block from.offset count) memory after from.block to.block block result apart live does
+target_cases : {A : Type 0} (memory after : Blocks) (from to : Ptr) (count : ℕ) (block : Block) (left target : Option Block) (result : Result A Fault) → from.block ≢ to.block → live_block memory from.block ≡ Some block → Does result (slice_set memory from.block left) after (and_then (live_read target (λ t. block_with_copy t to.offset block from.offset count)) (λ b. Ok (slice_set (slice_set memory from.block left) to.block (Some b)))) → Does result memory (slice_set after from.block (Some block)) (copied_between memory from to count (Some block) target)
+target_cases memory after from to count block left None (Ok value) apart live does = cc
+target_cases memory after from to count block left None (Err found) apart live does =
+    (cc, ap (λ m. slice_set m from.block (Some block)) does.1 ∙ put_back memory from.block block left live)
+target_cases memory after from to count block left (Some target) result apart live does =
+    moved (block_with_copy target to.offset block from.offset count) memory after from.block to.block block left result apart live does
 
-pub copying_between : {A : Type 0} (memory removed after : Blocks) (from to : Ptr) (count : ℕ) (block : Block) (result : Result A Fault) → from.block ≢ to.block → live_block memory from.block ≡ Some block → removed ≡ slice_set memory from.block None → Does result removed after (live_change removed to.block (λ t. block_with_copy t to.offset block from.offset count)) → Does result memory (slice_set after from.block (Some block)) (copied_between memory from to count (live_block memory from.block) (live_block memory to.block))
-copying_between {A} memory removed after from to count block result apart live out does =
+pub copying_between : {A : Type 0} (memory removed after : Blocks) (from to : Ptr) (count : ℕ) (block : Block) (left : Option Block) (result : Result A Fault) → from.block ≢ to.block → live_block memory from.block ≡ Some block → removed ≡ slice_set memory from.block left → Does result removed after (live_change removed to.block (λ t. block_with_copy t to.offset block from.offset count)) → Does result memory (slice_set after from.block (Some block)) (copied_between memory from to count (live_block memory from.block) (live_block memory to.block))
+copying_between {A} memory removed after from to count block left result apart live out does =
     let step : Block → Result Block Fault = λ t. block_with_copy t to.offset block from.offset count in
-    let beside : live_block removed to.block ≡ live_block memory to.block = ap (λ m. live_block m to.block) out ∙ live-set_other memory from.block to.block None apart in
+    let beside : live_block removed to.block ≡ live_block memory to.block = ap (λ m. live_block m to.block) out ∙ live-set_other memory from.block to.block left apart in
     let taken = subst (λ m. Does {A = A} result m after (and_then (live_read (live_block memory to.block) step) (λ b. Ok (slice_set m to.block (Some b))))) out (subst (λ slot. Does {A = A} result removed after (and_then (live_read slot step) (λ b. Ok (slice_set removed to.block (Some b))))) beside does) in
-    subst (λ slot. Does {A = A} result memory (slice_set after from.block (Some block)) (copied_between memory from to count slot (live_block memory to.block))) (sym live) (target_cases memory after from to count block (live_block memory to.block) result apart live taken)
+    subst (λ slot. Does {A = A} result memory (slice_set after from.block (Some block)) (copied_between memory from to count slot (live_block memory to.block))) (sym live) (target_cases memory after from to count block left (live_block memory to.block) result apart live taken)
 
 -- no copy from a block that has died
-pub copying_dead : (memory removed : Blocks) (from to : Ptr) (count : ℕ) → live_block memory from.block ≡ None → removed ≡ slice_set memory from.block None → (copied_between memory from to count (live_block memory from.block) (live_block memory to.block) ≡ Err Dead) × (removed ≡ memory)
-copying_dead memory removed from to count dead out =
-    (ap (λ slot. copied_between memory from to count slot (live_block memory to.block)) dead, out ∙ set_dead memory from.block dead)
+pub copying_dead : (memory : Blocks) (from to : Ptr) (count : ℕ) → live_block memory from.block ≡ None → copied_between memory from to count (live_block memory from.block) (live_block memory to.block) ≡ Err Dead
+copying_dead memory from to count dead =
+    ap (λ slot. copied_between memory from to count slot (live_block memory to.block)) dead
 
 -- a step keeps the count of blocks made
 pub length-live_change : {A : Type 0} (memory after : Blocks) (number : ℕ) (step : Block → Result Block Fault) (result : Result A Fault) → Does result memory after (live_change memory number step) → length after ≡ length memory

@@ -1,8 +1,10 @@
 pub mod Access
 pub mod Bits
 pub mod Calls
+pub mod Chunks
 pub mod Coding
 pub mod Counted
 pub mod Laws
 pub mod Memory
 pub mod Pointers
+pub mod Reading

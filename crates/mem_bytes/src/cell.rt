@@ -1,5 +1,6 @@
 ghost use Rattle.std.specs.Prelude.{◌≡◌};
 ghost use Rattle.mem_bytes.specs.Coding.{is_set, is_bits, is_zero, bits_in, set_in};
+ghost use Rattle.mem_bytes.specs.Reading.{set_byte};
 
 use crate::value::Value;
 
@@ -23,6 +24,17 @@ impl Cell {
         match *self {
             Cell::Bits { set, .. } => set == 255,
             Cell::PtrByte { .. } => true,
+        }
+    }
+
+    // The bits of a cell all of whose bits are set, unless it is a pointer's byte.
+    #[inline(always)]
+    pub(crate) fn set_byte(&self) -> Option<u8>
+        ensures { result ≡ set_byte self.now }
+    {
+        match *self {
+            Cell::Bits { value, set } if set == 255 => Some(value),
+            _ => None,
         }
     }
 

@@ -3,6 +3,7 @@
 #![tactic(auto)]
 
 mod cell;
+mod chunk;
 mod coding;
 mod fault;
 mod field;

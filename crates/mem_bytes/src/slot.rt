@@ -1,17 +1,20 @@
-ghost use Rattle.std.specs.Prelude.{◌≡◌, ◌+◌, ◌-◌, ◌^◌, ◌<◌, ◌≤◌, ◌++◌, length, take, drop, replicate, Ok, Err, IfOk, MatchResult, All};
+ghost use Rattle.std.specs.Prelude.{◌≡◌, ◌==◌, ◌+◌, ◌-◌, ◌/◌, ◌%◌, ◌^◌, IsTrue, ◌<◌, ◌≤◌, ◌++◌, length, take, drop, replicate, Ok, Err, IfOk, MatchResult, All};
 ghost use Rattle.mem_bytes.specs.Access.{part_of, scalar_part_of, block_value, block_with_value, block_field, block_with_field, block_with_fill, block_cell, block_with_cell, block_with_copy};
 ghost use Rattle.mem_bytes.specs.Calls.{Does, IsCell, IsFieldPlace};
-ghost use Rattle.mem_bytes.specs.Coding.{IsScalar, IsValueOf};
+ghost use Rattle.cr_base.specs.Scalar.{is_width};
+ghost use Rattle.mem_bytes.specs.Coding.{IsScalar, IsValueOf, scalar_size};
+ghost use Rattle.mem_bytes.specs.Chunks.{no_block};
 ghost use Rattle.mem_bytes.specs.Memory.{size_of, byte_cell, new_block, with_part};
 
 use crate::cell::Cell;
-use crate::coding::{decode, encode, scalar_size};
+use crate::coding::{decode, scalar_size, write_value};
 use crate::fault::Fault;
 use crate::field::{bytes_touched, field_in, with_field_in};
 use crate::value::Value;
 use cr_base::{Memory, Scalar};
 use std::alloc::Global;
 use std::marker::Model;
+use std::mem;
 
 // A live block, as a store of lists keeps it: each of its cells is one that memory may hold. Contracts
 // see it as the block.
@@ -43,6 +46,16 @@ impl Slot {
         Ok(Slot { align, cells })
     }
 
+    // Takes the block, and leaves one without cells.
+    pub(crate) fn take(&mut self) -> Slot
+        ensures block { result ≡ self.old }
+        ensures rest { self.new ≡ no_block }
+    {
+        let cells = Vec::new(*self.cells.allocator());
+        mem::replace(self, Slot { align: 1, cells })
+    }
+
+    #[inline(always)]
     pub(crate) fn size(&self) -> u64
         ensures { result ≡ size_of self.now }
     {
@@ -56,6 +69,7 @@ impl Slot {
     }
 
     // The cells of an access.
+    #[inline(always)]
     pub(crate) fn part(&self, offset: u64, count: u64) -> Result<&[Cell], Fault>
         ensures value { MatchResult result
             (λ part. part_of self.now offset count ≡ Ok part.now)
@@ -71,6 +85,7 @@ impl Slot {
     }
 
     // The cells of a scalar.
+    #[inline(always)]
     fn scalar_part(&self, offset: u64, scalar: Scalar) -> Result<&[Cell], Fault>
         requires { IsScalar scalar }
         ensures { MatchResult result
@@ -79,7 +94,7 @@ impl Slot {
     {
         let size = scalar_size(scalar) as u64;
         let part = self.part(offset, size)?;
-        if offset % size != 0 {
+        if !is_multiple(scalar, offset) {
             return Err(Fault::Misaligned);
         }
         if self.align < size {
@@ -88,6 +103,7 @@ impl Slot {
         Ok(part)
     }
 
+    #[inline(always)]
     pub(crate) fn load(&self, offset: u64, scalar: Scalar) -> Result<Value, Fault>
         requires { IsScalar scalar }
         ensures value { result ≡ block_value self.now offset scalar }
@@ -131,14 +147,16 @@ impl Slot {
         held[start..end].copy_from_slice(cells);
     }
 
+    #[inline(always)]
     pub(crate) fn put(&mut self, offset: u64, scalar: Scalar, value: Value) -> Result<(), Fault>
         requires scalar { IsScalar scalar }
         requires value { IsValueOf scalar value }
         ensures { Does result self.old self.new (block_with_value self.old offset scalar value) }
     {
         self.scalar_part(offset, scalar)?;
-        let cells = encode(scalar, value);
-        self.write(offset, &cells[..scalar_size(scalar)]);
+        let start = offset as usize;
+        let end = start + scalar_size(scalar);
+        write_value(&mut self.cells.as_mut_slice()[start..end], scalar, value);
         Ok(())
     }
 
@@ -220,4 +238,31 @@ fn set_bytes(cells: &mut Vec<Cell>, start: usize, end: usize, byte: u8)
         set: 255,
     };
     cells.as_mut_slice()[start..end].fill(cell);
+}
+
+// Whether an offset is a multiple of a scalar's alignment, which is its size. A case for each, so that
+// no division is by a variable.
+#[inline(always)]
+fn is_multiple(scalar: Scalar, offset: u64) -> bool
+    requires { IsScalar scalar }
+    ensures { result ≡ (offset % scalar_size scalar == 0) }
+{
+    match scalar {
+        Scalar::Truth => true,
+        Scalar::Whole { width, .. } => is_multiple_of_width(width, offset),
+        Scalar::Object | Scalar::Code => offset % 8 == 0,
+    }
+}
+
+#[inline(always)]
+fn is_multiple_of_width(width: u8, offset: u64) -> bool
+    requires { IsTrue (is_width width) }
+    ensures { result ≡ (offset % (width / 8) == 0) }
+{
+    match width {
+        8 => true,
+        16 => offset % 2 == 0,
+        32 => offset % 4 == 0,
+        _ => offset % 8 == 0,
+    }
 }

@@ -3,6 +3,7 @@
 mod bytes;
 mod copy;
 mod crates;
+mod ending;
 mod files;
 mod host;
 mod job;
@@ -12,12 +13,14 @@ mod memory;
 mod name;
 mod pace;
 mod parse;
+mod row_host;
 mod rule;
 mod run;
 mod shape;
 mod stream;
 mod transpile;
 mod turns;
+mod units;
 mod value;
 
 use crate::answer::Answer;
@@ -38,6 +41,10 @@ pub(crate) enum Stage {
 pub(crate) enum Inside {
     /// The rules of the profile.
     Rule,
+    /// The rules by which steps of C are undefined.
+    Undefined,
+    /// The causes by which steps of a crate are wrong.
+    Wrong,
     /// Numbers of the C types.
     Value,
     /// Copies of names, texts and lists.
@@ -78,6 +85,8 @@ pub(crate) enum Inside {
     Sure,
     /// The translation of a unit.
     Transpile,
+    /// What a job answers to several units.
+    Units,
     /// The crate that files read as.
     Crate,
     /// The crate of one module.
@@ -100,8 +109,10 @@ pub(crate) enum Outside {
     Disk,
 }
 
-const STAGES: [(&str, Stage); 29] = [
+const STAGES: [(&str, Stage); 32] = [
     ("rule", Stage::Inside(Inside::Rule)),
+    ("undefined", Stage::Inside(Inside::Undefined)),
+    ("wrong", Stage::Inside(Inside::Wrong)),
     ("value", Stage::Inside(Inside::Value)),
     ("copy", Stage::Inside(Inside::Copy)),
     ("bytes", Stage::Inside(Inside::Bytes)),
@@ -122,6 +133,7 @@ const STAGES: [(&str, Stage); 29] = [
     ("files", Stage::Inside(Inside::Files)),
     ("sure", Stage::Inside(Inside::Sure)),
     ("transpile", Stage::Inside(Inside::Transpile)),
+    ("units", Stage::Inside(Inside::Units)),
     ("crate", Stage::Inside(Inside::Crate)),
     ("module", Stage::Inside(Inside::Module)),
     ("modules", Stage::Inside(Inside::Modules)),
@@ -158,6 +170,8 @@ impl Inside {
     fn answer(self, alloc: Global, asked: &mut Asked, out: &mut Answer) {
         match self {
             Inside::Rule => rule::answer(asked, out),
+            Inside::Undefined => ending::answer_undefined(asked, out),
+            Inside::Wrong => ending::answer_wrong(asked, out),
             Inside::Value => value::answer(asked, out),
             Inside::Copy => copy::answer(alloc, asked, out),
             Inside::Bytes => bytes::answer(alloc, asked, out),
@@ -178,6 +192,7 @@ impl Inside {
             Inside::Files => files::answer(alloc, asked, out),
             Inside::Sure => files::answer_surely(alloc, asked, out),
             Inside::Transpile => transpile::answer(alloc, asked, out),
+            Inside::Units => units::answer(alloc, asked, out),
             Inside::Crate => crates::answer(alloc, asked, out),
             Inside::Module => crates::answer_module(alloc, asked, out),
             Inside::Modules => crates::answer_modules(alloc, asked, out),

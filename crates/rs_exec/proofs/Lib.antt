@@ -3,6 +3,7 @@ pub mod Formed
 pub mod Opened
 pub mod OpenedExprs
 pub mod Operated
+pub mod Quickly
 pub mod Outcomes
 pub mod Started
 pub mod Turned

@@ -92,6 +92,7 @@ pub(crate) enum StmtForm<'t> {
 }
 
 /// How an expression runs.
+#[inline(always)]
 pub(crate) fn form_of<'t>(tree: &'t RExpr) -> Form<'t>
     ensures { (frame : Frame) → form_run frame result ≡ run_expr frame (expr_view tree.now) }
 {
@@ -174,6 +175,7 @@ fn dropped_form<'t>(value: &'t RExpr) -> StmtForm<'t>
 }
 
 /// How a statement runs.
+#[inline(always)]
 pub(crate) fn stmt_form<'t>(tree: &'t RStmt) -> StmtForm<'t>
     ensures { (frame : Frame) → stmt_run frame result ≡ run_stmt frame (stmt_view tree.now) }
 {

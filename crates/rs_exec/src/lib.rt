@@ -9,6 +9,7 @@ mod operations;
 mod outcome;
 mod places;
 mod program;
+mod quick;
 mod run;
 mod stmts;
 

@@ -1,7 +1,7 @@
 //! What operators, methods and casts give of values, as steps of a run (the Rust Reference, "Operator
 //! expressions").
 
-ghost use Rattle.std.specs.Prelude.{map};
+ghost use Rattle.std.specs.Prelude.{List, map};
 ghost use Rattle.rs_exec.specs.Forms.{pair_run, plain_run, used_as};
 ghost use Rattle.rs_layout.specs.Layouts.{ModulesAreAligned};
 ghost use Rattle.rs_machine.specs.Does.{Stays, end_of};
@@ -11,6 +11,7 @@ ghost use Rattle.rs_mean.specs.Values as meant;
 ghost use Rattle.rs_mean.specs.World.{looks, or_fails, pure};
 ghost use Rattle.rs_scene.specs.Scenes.{IsScene, frame_view};
 ghost use Rattle.rs_tree.specs.Tree as tree;
+ghost use Rattle.rs_tree.specs.Tree.{ModuleTree};
 ghost use Rattle.rs_tree.specs.Views.{module_view};
 ghost use Rattle.rs_value.specs.Operators.{unary_of};
 ghost use Rattle.rs_value.specs.Views.{spot_view, typed_view};
@@ -26,6 +27,7 @@ use rs_value::{
 };
 
 /// What an operator, a method or a cast with one operand gives.
+#[inline(never)]
 pub(crate) fn unary_value<'t>(
     operator: Unary<'t>,
     operand: TypedValue<'t>,
@@ -39,6 +41,7 @@ pub(crate) fn unary_value<'t>(
 }
 
 /// What an operation modulo 2 to the width gives.
+#[inline(always)]
 fn wrapping_value<'t>(
     operation: Wrapping,
     left: TypedValue<'t>,
@@ -53,6 +56,7 @@ fn wrapping_value<'t>(
 }
 
 /// What an operator between two operands gives.
+#[inline(always)]
 fn binary_value<'t, S: Store>(
     store: &S,
     operator: Operator,
@@ -100,6 +104,7 @@ fn offset_from_value<'t, S: Store>(
 }
 
 /// What an operation on two operands gives.
+#[inline(never)]
 pub(crate) fn pair_value<'t, S: Store>(
     store: &S,
     modules: &[Module],
@@ -118,6 +123,26 @@ pub(crate) fn pair_value<'t, S: Store>(
     }
 }
 
+/// What an operation on two numbers gives. None of these moves a pointer, so want of memory stands for
+/// what a pointer would give.
+#[inline(always)]
+pub(crate) fn number_value<'t, S: Store>(
+    store: &S,
+    operation: Pair,
+    left: TypedValue<'t>,
+    right: TypedValue<'t>,
+) -> Result<TypedValue<'t>, Halt<'t>>
+    ensures { (modules : List ModuleTree) → LookDoes (pair_run modules operation (typed_view left.entry) (typed_view right.entry)) (end_of typed_view result) (S.memory store.now) }
+{
+    match operation {
+        Pair::Wrapping(operation) => wrapping_value(operation, left, right),
+        Pair::Offset => Err(Halt::Memory),
+        Pair::OffsetFrom => Err(Halt::Memory),
+        Pair::Binary(operator) => binary_value(store, operator, left, right),
+    }
+}
+
+#[inline(always)]
 fn address<'t>(spot: ValueSpot<'t>) -> Result<TypedValue<'t>, Halt<'t>>
     ensures { Stays (pure (meant.typed (tree.Pointer (spot_view spot.entry).ty) (spot_view spot.entry).at)) (end_of typed_view result) }
 {
@@ -128,6 +153,7 @@ fn address<'t>(spot: ValueSpot<'t>) -> Result<TypedValue<'t>, Halt<'t>>
 }
 
 /// The value or the address of a place.
+#[inline(never)]
 pub(crate) fn used_value<'t, S: Store>(
     store: &S,
     what: PlaceUse,
@@ -142,6 +168,7 @@ pub(crate) fn used_value<'t, S: Store>(
 }
 
 /// The value of an expression without operands.
+#[inline(never)]
 pub(crate) fn plain_value<'t>(
     scene: Scene<'t, '_>,
     form: Plain<'t>,

@@ -20,7 +20,7 @@ use rs_tree::Crate;
 use std::alloc::Global;
 
 /// How deep calls, blocks and expressions may be nested, all together.
-const MOST_ROOM: u32 = 20_000;
+const MOST_ROOM: u32 = 14_000;
 
 // The run of the modules of a crate, of which one is the entry.
 fn run_scene<'t, S: Store, H: Host>(

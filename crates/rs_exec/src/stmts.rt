@@ -1,29 +1,33 @@
 //! Statements (the Rust Reference, "Statements" and "Loops").
 
-ghost use Rattle.std.specs.Prelude.{◌≡◌, map, Some};
+ghost use Rattle.std.specs.Prelude.{◌≡◌, map, Some, if◌then◌else◌};
 ghost use Rattle.rs_exec.specs.Forms.{call_run, nested_run};
 ghost use Rattle.rs_scene.specs.Scenes.{IsScene, frame_view};
 ghost use Rattle.rs_machine.specs.Does.{Does, Stays, end_of};
 ghost use Rattle.rs_machine.specs.States.{state};
+ghost use Rattle.rs_machine.specs.Steps.{StoreDoes};
 ghost use Rattle.rs_tree.specs.Views.{module_view};
 ghost use Rattle.rs_scene.specs.Flows.{flow_view};
-ghost use Rattle.rs_mean.specs.Run.{goes_on, run_expr, run_stmt, run_stmts};
+ghost use Rattle.rs_mean.specs.Calls as piece;
+ghost use Rattle.rs_mean.specs.Run.{goes_on, run_expr, run_place, run_stmt, run_stmts};
 ghost use Rattle.rs_mean.specs.World.{pure, seq};
 ghost use Rattle.rs_tree.specs.Tree as tree;
 ghost use Rattle.rs_tree.specs.Tree.{arms, stmts};
 ghost use Rattle.rs_tree.specs.Views.{arm_view, expr_view, place_view, stmt_view};
+ghost use Rattle.rs_value.specs.Views.{spot_view, typed_view};
 
 use crate::calls::call;
 use crate::exprs::expr;
 use crate::forms::{CallForm, Nested, StmtForm, stmt_form};
 use crate::places::place;
+use crate::quick::{quick_spot, quick_test, quick_value};
 use cr_base::{Items, Name};
 use ext_calls::Host;
 use mem_bytes::Store;
 use rs_machine::{Halt, Machine, copy_bytes, store_at};
 use rs_scene::{Flow, Scene, Turn, after_block, after_turn, chosen, is_normal};
 use rs_tree::{Arm, RExpr, RPlace, RStmt};
-use rs_value::test_of;
+use rs_value::{TypedValue, ValueSpot, test_of};
 
 /// Control leaves by a flow.
 fn leaves<'t>(flow: Flow<'t>) -> Result<Flow<'t>, Halt<'t>>
@@ -165,6 +169,50 @@ pub(crate) fn stmts<'t, S: Store, H: Host>(
     Ok(Flow::Normal)
 }
 
+/// A value is stored in a place.
+#[cycle(knot)]
+fn assign_value<'t, S: Store, H: Host>(
+    machine: &mut Machine,
+    store: &mut S,
+    host: &mut H,
+    scene: Scene<'t, '_>,
+    room: u32,
+    of: &'t RPlace,
+    value: TypedValue<'t>,
+) -> Result<Flow<'t>, Halt<'t>>
+    requires { IsScene scene }
+    ensures { Does (seq (run_place (frame_view scene.entry) (place_view of.now)) (λ at. seq (piece.store at (typed_view value.entry).value) goes_on)) (end_of flow_view result)
+        (state machine.old (S.memory store.old) (S.limit store.old) (H.state host.old)) (state machine.new (S.memory store.new) (S.limit store.new) (H.state host.new)) }
+{
+    if room == 0 {
+        return Err(Halt::Memory);
+    }
+    if let Some(spot) = quick_spot(scene, of) {
+        return store_in(store, spot, value);
+    }
+    let spot = match place(machine, store, host, scene, room - 1, of) {
+        Ok(spot) => spot,
+        Err(halt) => return Err(halt),
+    };
+    store_in(store, spot, value)
+}
+
+/// A value is stored in a place that was found.
+#[inline(never)]
+fn store_in<'t, S: Store>(
+    store: &mut S,
+    spot: ValueSpot<'t>,
+    value: TypedValue<'t>,
+) -> Result<Flow<'t>, Halt<'t>>
+    ensures { StoreDoes (seq (piece.store (spot_view spot.entry) (typed_view value.entry).value) goes_on) (end_of flow_view result)
+        (S.memory store.old) (S.memory store.new) (S.limit store.old) (S.limit store.new) }
+{
+    match store_at(store, spot.ty, spot.at, value.value) {
+        Ok(()) => Ok(Flow::Normal),
+        Err(halt) => Err(halt),
+    }
+}
+
 /// The value goes first, then the place.
 #[cycle(knot)]
 fn assign<'t, S: Store, H: Host>(
@@ -183,18 +231,14 @@ fn assign<'t, S: Store, H: Host>(
     if room == 0 {
         return Err(Halt::Memory);
     }
+    if let Some(stored) = quick_value(store, scene, value) {
+        return assign_value(machine, store, host, scene, room - 1, of, stored);
+    }
     let stored = match expr(machine, store, host, scene, room - 1, value) {
         Ok(stored) => stored,
         Err(halt) => return Err(halt),
     };
-    let spot = match place(machine, store, host, scene, room - 1, of) {
-        Ok(spot) => spot,
-        Err(halt) => return Err(halt),
-    };
-    match store_at(store, spot.ty, spot.at, stored.value) {
-        Ok(()) => Ok(Flow::Normal),
-        Err(halt) => Err(halt),
-    }
+    assign_value(machine, store, host, scene, room - 1, of, stored)
 }
 
 /// A value that is dropped.
@@ -258,6 +302,16 @@ fn copied<'t, S: Store, H: Host>(
     }
 }
 
+// The statements on the side of a test.
+fn side_of<'t>(test: bool, if_true: &'t Items<RStmt>, if_false: &'t Items<RStmt>) -> &'t [RStmt]
+    ensures { result.now ≡ (if test then if_true.now else if_false.now) }
+{
+    if test {
+        return if_true.as_slice();
+    }
+    if_false.as_slice()
+}
+
 /// One of two lists of statements.
 #[cycle(knot)]
 fn branch<'t, S: Store, H: Host>(
@@ -277,6 +331,10 @@ fn branch<'t, S: Store, H: Host>(
     if room == 0 {
         return Err(Halt::Memory);
     }
+    if let Some(test) = quick_test(store, scene, condition) {
+        let list = side_of(test, if_true, if_false);
+        return stmts(machine, store, host, scene, room - 1, list);
+    }
     let value = match expr(machine, store, host, scene, room - 1, condition) {
         Ok(value) => value,
         Err(halt) => return Err(halt),
@@ -285,10 +343,8 @@ fn branch<'t, S: Store, H: Host>(
         Ok(test) => test,
         Err(why) => return Err(Halt::Wrong(why)),
     };
-    if test {
-        return stmts(machine, store, host, scene, room - 1, if_true.as_slice());
-    }
-    stmts(machine, store, host, scene, room - 1, if_false.as_slice())
+    let list = side_of(test, if_true, if_false);
+    stmts(machine, store, host, scene, room - 1, list)
 }
 
 /// Turns, each of which takes a unit first. No budget has 2^64 of them.

@@ -31,6 +31,7 @@ pub(crate) fn cause_of(fault: Fault) -> Cause
 }
 
 /// A scalar type as memory sees it.
+#[inline(always)]
 pub(crate) fn scalar_of(ty: &RTy) -> Option<Scalar>
     ensures scalar { result ≡ scalar_of (ty_view ty.now) }
     ensures is { IfSome result IsScalar }
@@ -44,6 +45,7 @@ pub(crate) fn scalar_of(ty: &RTy) -> Option<Scalar>
     }
 }
 
+#[inline(always)]
 fn loaded_at<S: Store>(store: &S, scalar: Scalar, at: Value) -> Result<Value, Cause>
     requires { IsScalar scalar }
     ensures { result ≡ loaded_at (S.memory store.now) scalar at }
@@ -60,6 +62,7 @@ fn loaded_at<S: Store>(store: &S, scalar: Scalar, at: Value) -> Result<Value, Ca
 }
 
 /// The value that a place holds.
+#[inline(always)]
 pub(crate) fn loaded<'t, S: Store>(store: &S, place: ValueSpot<'t>) -> Result<TypedValue<'t>, Cause>
     ensures { seen_as typed_view result ≡ loaded (S.memory store.now) (spot_view place.entry) }
 {
@@ -76,6 +79,7 @@ pub(crate) fn loaded<'t, S: Store>(store: &S, place: ValueSpot<'t>) -> Result<Ty
 }
 
 // Whether a value is one of a scalar type, as each is that a well typed crate stores.
+#[inline(always)]
 fn is_value_of(scalar: Scalar, value: Value) -> bool
     requires { IsScalar scalar }
     ensures { IsTrue result → IsValueOf scalar value }
@@ -94,6 +98,7 @@ fn is_value_of(scalar: Scalar, value: Value) -> bool
     }
 }
 
+#[inline(always)]
 fn put_at<S: Store>(store: &mut S, scalar: Scalar, at: Value, value: Value) -> Result<(), Trouble>
     requires { IsScalar scalar }
     ensures blocks { Changes result (S.memory store.old) (S.memory store.new) (stored_at (S.memory store.old) scalar at value) }
@@ -115,6 +120,7 @@ fn put_at<S: Store>(store: &mut S, scalar: Scalar, at: Value, value: Value) -> R
 }
 
 /// Stores a value at a place.
+#[inline(always)]
 pub(crate) fn put<S: Store>(store: &mut S, ty: &RTy, at: Value, value: Value) -> Result<(), Trouble>
     ensures blocks { Changes result (S.memory store.old) (S.memory store.new) (stored (S.memory store.old) (spot (ty_view ty.now) at) value) }
     ensures limit { S.limit store.new ≡ S.limit store.old }

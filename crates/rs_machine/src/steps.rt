@@ -19,6 +19,7 @@ use rs_tree::RTy;
 use rs_value::{TypedValue, ValueSpot};
 
 /// The value that a place holds.
+#[inline(always)]
 pub fn load<'t, S: Store>(store: &S, place: ValueSpot<'t>) -> Result<TypedValue<'t>, Halt<'t>>
     ensures { LookDoes (piece.load (spot_view place.entry)) (end_of typed_view result) (S.memory store.now) }
 {
@@ -29,6 +30,7 @@ pub fn load<'t, S: Store>(store: &S, place: ValueSpot<'t>) -> Result<TypedValue<
 }
 
 /// Stores a value at a place.
+#[inline(always)]
 pub fn store_at<'t, S: Store>(
     store: &mut S,
     ty: &RTy,

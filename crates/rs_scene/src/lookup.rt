@@ -33,6 +33,7 @@ pub fn static_home<'t>(statics: &[HeldStatic<'t>], path: &RPath) -> Option<HeldH
 }
 
 /// The block of the parameter or local of a name.
+#[inline(always)]
 pub fn local_home<'t>(locals: &[HeldLocal<'t>], name: &Name) -> Option<HeldHome<'t>>
     ensures { option_map home_view result ≡ named.local_home name.now (map held_local locals.now) }
 {

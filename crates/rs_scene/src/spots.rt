@@ -26,6 +26,7 @@ use rs_mean::Cause;
 use rs_tree::{Module, RPath, RTy};
 use rs_value::{TypedValue, ValueSpot, ValueTy, cause_of_pointer};
 
+#[inline(always)]
 fn settle_spot<'t>(found: Result<ValueSpot<'t>, Cause>) -> Result<ValueSpot<'t>, Halt<'t>>
     ensures { end_of spot_view result ≡ found_end (seen_as spot_view found.entry) }
 {
@@ -35,6 +36,7 @@ fn settle_spot<'t>(found: Result<ValueSpot<'t>, Cause>) -> Result<ValueSpot<'t>,
     }
 }
 
+#[inline(always)]
 fn home_spot<'t>(home: Option<HeldHome<'t>>) -> Result<ValueSpot<'t>, Cause>
     ensures { run.spot_of_home (option_map home_view home.entry) ≡ or_fails (seen_as spot_view result) }
 {
@@ -50,6 +52,7 @@ fn home_spot<'t>(home: Option<HeldHome<'t>>) -> Result<ValueSpot<'t>, Cause>
     }
 }
 
+#[inline(always)]
 fn local_found<'t>(scene: Scene<'t, '_>, name: &Name) -> Result<ValueSpot<'t>, Cause>
     ensures { run.run_place (frame_view scene.entry) (tree.Local name.now) ≡ or_fails (seen_as spot_view result) }
 {
@@ -57,6 +60,7 @@ fn local_found<'t>(scene: Scene<'t, '_>, name: &Name) -> Result<ValueSpot<'t>, C
 }
 
 /// The place of a parameter or a local.
+#[inline(always)]
 pub fn local_spot<'t>(scene: Scene<'t, '_>, name: &Name) -> Result<ValueSpot<'t>, Halt<'t>>
     ensures { Stays (run.run_place (frame_view scene.entry) (tree.Local name.now)) (end_of spot_view result) }
 {

@@ -31,6 +31,7 @@ pub struct Pointed<'t> {
     pub fun: Option<&'t Function>,
 }
 
+#[inline(always)]
 fn integer_value<'t>(value: &Int, ty: IntegerTy) -> TypedValue<'t>
     ensures { typed_view result ≡ typed (tree.Integer ty) (Value.Whole value.now) }
 {
@@ -41,6 +42,7 @@ fn integer_value<'t>(value: &Int, ty: IntegerTy) -> TypedValue<'t>
 }
 
 /// An integer literal.
+#[inline(always)]
 pub fn literal<'t>(value: &Int, ty: IntegerTy) -> Result<TypedValue<'t>, Halt<'t>>
     ensures { Stays (pure (typed (tree.Integer ty) (Value.Whole value.now))) (end_of typed_view result) }
 {

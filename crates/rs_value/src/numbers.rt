@@ -12,6 +12,7 @@ use cr_base::{Int, Scalar, convert, wrap};
 use rs_mean::{Cause, fits_integer};
 use rs_tree::{IntegerTy, Operator, Wrapping};
 
+#[inline(always)]
 fn whole(width: u8, signed: bool) -> Scalar
     ensures { result ≡ Scalar.Whole width signed }
 {
@@ -19,6 +20,7 @@ fn whole(width: u8, signed: bool) -> Scalar
 }
 
 /// An integer type as memory sees it.
+#[inline(always)]
 pub fn integer_scalar(ty: IntegerTy) -> Scalar
     ensures scalar { result ≡ scalar.integer_scalar ty }
     ensures whole { IsWhole result }
@@ -72,6 +74,7 @@ pub fn truth_of(value: Int) -> Int
 }
 
 // A number that has to be a value of its type.
+#[inline(always)]
 fn checked(why: Cause, ty: IntegerTy, value: Int) -> Result<Int, Trouble>
     ensures { Finds (λ n. n) result (number.checked why ty value) }
 {
@@ -82,6 +85,7 @@ fn checked(why: Cause, ty: IntegerTy, value: Int) -> Result<Int, Trouble>
     }
 }
 
+#[inline(always)]
 fn sum(ty: IntegerTy, left: Int, right: Int) -> Result<Int, Trouble>
     ensures { Finds (λ n. n) result (number.computed op.Add ty left right) }
 {
@@ -91,6 +95,7 @@ fn sum(ty: IntegerTy, left: Int, right: Int) -> Result<Int, Trouble>
     }
 }
 
+#[inline(always)]
 fn difference(ty: IntegerTy, left: Int, right: Int) -> Result<Int, Trouble>
     ensures { Finds (λ n. n) result (number.computed op.Sub ty left right) }
 {
@@ -257,6 +262,7 @@ fn bit_of(value: Int) -> u64
 }
 
 /// Whether an operator compares.
+#[inline(always)]
 pub(crate) fn is_comparison(operator: Operator) -> bool
     ensures { result ≡ number.is_comparison operator }
 {
@@ -272,6 +278,7 @@ pub(crate) fn is_comparison(operator: Operator) -> bool
 }
 
 /// What a comparison says of two numbers.
+#[inline(always)]
 pub(crate) fn compared(operator: Operator, left: Int, right: Int) -> bool
     ensures { result ≡ number.compared operator left right }
 {

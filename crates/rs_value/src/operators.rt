@@ -27,6 +27,7 @@ use rs_mean::Cause;
 use rs_tree::{IntegerTy, Module, Operator, RTy, Wrapping};
 
 /// A truth value.
+#[inline(always)]
 pub fn truth<'t>(test: bool) -> TypedValue<'t>
     ensures { typed_view result ≡ truth test }
 {
@@ -47,6 +48,7 @@ pub fn integer<'t>(ty: IntegerTy, number: Int) -> TypedValue<'t>
 }
 
 // A number of an integer type.
+#[inline(always)]
 fn numbered<'t>(ty: IntegerTy, number: Result<Int, Trouble>) -> Result<TypedValue<'t>, Trouble>
     ensures { (found : Result ℤ Cause) → Finds (λ n. n) number found → Finds typed_view result (numbered ty found) }
 {
@@ -73,6 +75,7 @@ fn judged<'t>(number: Result<Int, Trouble>) -> Result<TypedValue<'t>, Trouble>
 }
 
 // An operator between two integers.
+#[inline(always)]
 fn on_integers<'t>(
     operator: Operator,
     ty: IntegerTy,
@@ -176,6 +179,7 @@ fn on_functions<'t>(
 }
 
 // An operator between numbers, where both values are.
+#[inline(always)]
 fn on_numbers<'t>(
     operator: Operator,
     ty: IntegerTy,
@@ -201,6 +205,7 @@ fn on_booleans<'t>(operator: Operator, left: Value, right: Value) -> Result<Type
 }
 
 /// What an operator between two operands gives.
+#[inline(always)]
 pub fn binary_of<'t, S: Store>(
     store: &S,
     operator: Operator,

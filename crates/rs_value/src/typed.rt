@@ -51,6 +51,7 @@ pub fn result_ty(given: &Option<Boxed<RTy>>) -> Option<&RTy>
 }
 
 /// The type of the values of a type.
+#[inline(always)]
 pub fn value_ty(ty: &RTy) -> ValueTy<'_>
     ensures { value_ty_view result ≡ ty_view ty.now }
 {

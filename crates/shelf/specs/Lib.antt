@@ -3,9 +3,13 @@ pub mod Fault
 pub mod Files
 pub mod MemShelf
 pub mod MemSink
+pub mod MemSource
 pub mod Reading
 pub mod Shelf
 pub mod Sink
+pub mod Source
 pub mod StdSink
+pub mod StdSource
 pub mod SureShelf
 pub mod SureSink
+pub mod SureSource

@@ -11,7 +11,7 @@ use std::alloc::Global;
 use std::io::{ErrorKind, Read};
 
 // How many bytes a read asks for at most.
-const PIECE: usize = 4096;
+pub(crate) const PIECE: usize = 4096;
 
 // How often a read or a write is tried that the system interrupts each time.
 pub(crate) const TRIES: usize = 64;
@@ -63,7 +63,7 @@ fn append_piece<F: Read>(
 }
 
 // One read, tried again where the system interrupts it.
-fn read_retrying<F: Read>(file: &mut F, piece: &mut [u8]) -> Result<usize, ShelfFault>
+pub(crate) fn read_retrying<F: Read>(file: &mut F, piece: &mut [u8]) -> Result<usize, ShelfFault>
     ensures within { ReadsAtMost result piece.new }
     ensures ok { IfOk result (λ count.
         Consumes (F.remaining file.old) (F.remaining file.new) (take count piece.new)) }

@@ -3,6 +3,7 @@ pub mod Examples
 pub mod Linking
 pub mod Lists
 pub mod Named
+pub mod ObjectNumbers
 pub mod Objects
 pub mod Typed
 pub mod Whole

@@ -1,2 +1,3 @@
 pub mod CoreOf
 pub mod Given
+pub mod ObjectNames

@@ -5,6 +5,7 @@
 mod declaration;
 mod expr;
 mod function;
+mod object_names;
 mod scope;
 mod unit;
 

@@ -7,6 +7,7 @@ ghost use Rattle.straight_core.specs.Views.{view_type};
 ghost use Rattle.straight_decl.specs.CoreOf as spec;
 ghost use Rattle.straight_decl.specs.Given.{Gives, not_built, scope_of};
 
+use crate::object_names::ObjectNames;
 use cr_base::{Items, Name, Place, Refusal, Rule, Stop};
 use straight_core::{Ty, TyForm};
 
@@ -14,7 +15,7 @@ use straight_core::{Ty, TyForm};
 #[derive(Drop)]
 pub(crate) struct Scope {
     /// The names of the objects: that at an index is the object with this number.
-    pub(crate) objects: Items<Name>,
+    pub(crate) objects: ObjectNames,
     /// Whether the function `putchar` is declared, which then is function 0.
     pub(crate) has_putchar: bool,
 }
@@ -70,25 +71,11 @@ pub(crate) fn place_in(unit: u32, lines: &Items<u32>) -> Place
     }
 }
 
-fn index_of(name: &[u8], objects: &[Name]) -> Option<usize>
-    ensures value { result ≡ spec.object_named name.now objects.now }
-    ensures within { IfSome result (λ index. index < length objects.now) }
-{
-    let [first, others @ ..] = objects else {
-        return None;
-    };
-    if first.bytes() == name {
-        return Some(0);
-    }
-    let index = index_of(name, others)?;
-    Some(index + 1)
-}
-
 /// The number of the object that a name declares.
 pub(crate) fn object_named(unit: u32, name: &Name, scope: &Scope) -> Result<u32, Stop>
     ensures { Gives (λ number. number) unit result (spec.object_named name.now scope.now.objects) }
 {
-    let Some(index) = index_of(name.bytes(), scope.objects.as_slice()) else {
+    let Some(index) = scope.objects.number_of(name.bytes()) else {
         return Err(not_built(unit));
     };
     match u32::try_from(index) {
@@ -97,17 +84,18 @@ pub(crate) fn object_named(unit: u32, name: &Name, scope: &Scope) -> Result<u32,
     }
 }
 
-fn is_object(name: &[u8], objects: &[Name]) -> bool
+#[tactic(auto, using(crate::proofs::ObjectNumbers::is_named))]
+fn is_object(name: &[u8], objects: &ObjectNames) -> bool
     ensures { result ≡ list_any (λ other. bytes_eq other name.now) objects.now }
 {
-    objects.iter().any(|other| other.bytes() == name)
+    objects.number_of(name).is_some()
 }
 
 /// Whether a name is declared, or will be.
 pub(crate) fn is_declared(name: &[u8], scope: &Scope) -> bool
     ensures { result ≡ spec.is_declared name.now (scope_of scope.now) }
 {
-    is_object(name, scope.objects.as_slice())
+    is_object(name, &scope.objects)
         || (scope.has_putchar && b"putchar".as_slice() == name)
         || b"main".as_slice() == name
 }

@@ -9,6 +9,7 @@ ghost use Rattle.straight_tree.specs.Views.{external_view, unit_view};
 
 use crate::declaration::{core_objects, is_putchar_declared};
 use crate::function::{core_function, name_of, putchar_type};
+use crate::object_names::ObjectNames;
 use crate::scope::{Scope, not_built};
 use cr_base::{Items, Memory, Stop};
 use std::alloc::Global;
@@ -79,7 +80,7 @@ fn core_parts(
     ensures value { Gives view_program unit result (spec.parted unit has_putchar (map external_view parts.now) (external_view last.now)) }
 {
     let mut scope = Scope {
-        objects: Items::new(alloc),
+        objects: ObjectNames::new(alloc),
         has_putchar,
     };
     let objects = core_objects(alloc, unit, &mut scope, parts)?;

@@ -1,6 +1,6 @@
 //! Units that are large.
 
-use crate::tests::statuses::{MODULE, UNIT, Wanted, leaves, unit, words};
+use crate::tests::statuses::{MODULE, UNIT, Wanted, file, leaves, unit, words};
 use cr_base::Memory;
 use shelf::MemShelf;
 use std::alloc::{AllocError, Global};
@@ -37,6 +37,34 @@ fn larger_is_refused(alloc: Global) -> Result<bool, Memory> {
         module: "",
     };
     transpiles(alloc, text.as_slice(), wanted)
+}
+
+// Whether a unit, and behind it one that is too large, are refused with this report.
+fn is_told(alloc: Global, text: &str, report: &str) -> Result<bool, Memory> {
+    let mut words = words(alloc)?;
+    words.push(String::from_str(alloc, "b.c")?)?;
+    let blanks = padded(alloc, "", 1_048_577)?;
+    let mut files = unit(alloc, text.as_bytes())?;
+    files.push(file(alloc, "b.c", blanks.as_slice())?)?;
+    let wanted = Wanted {
+        status: 1,
+        report,
+        module: "",
+    };
+    let mut shelf = MemShelf::new(files, Vec::new(alloc));
+    Ok(leaves(alloc, words.as_slice(), &mut shelf, wanted))
+}
+
+// A size is told in the place of its unit: behind what an earlier unit breaks, and before what units break together.
+#[test]
+fn sizes_are_told_in_order(rt: HostRuntime) {
+    let alloc = rt.alloc();
+    let right = [
+        is_told(alloc, UNIT, "b.c: M1: unit too large\n"),
+        is_told(alloc, "int x;", "b.c: M1: unit too large\n"),
+        is_told(alloc, "int x = y;", "a.c:1: K1: undeclared\n"),
+    ];
+    assert_eq!(rt; right, [Ok(true); 3]);
 }
 
 // A unit with 20,000 statements beside each other.

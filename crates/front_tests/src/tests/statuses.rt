@@ -26,11 +26,16 @@ pub(crate) fn words(alloc: Global) -> Result<Vec<String>, AllocError> {
     Ok(words)
 }
 
+/// The file of a name with these bytes.
+pub(crate) fn file(alloc: Global, name: &str, bytes: &[u8]) -> Result<File, Memory> {
+    let name = Text::from_str(alloc, name)?;
+    let bytes = Items::from_slice(alloc, bytes)?;
+    Ok(File { name, bytes })
+}
+
 /// The file `a.c` with these bytes.
 pub(crate) fn unit(alloc: Global, bytes: &[u8]) -> Result<Vec<File>, Memory> {
-    let name = Text::from_str(alloc, "a.c")?;
-    let bytes = Items::from_slice(alloc, bytes)?;
-    let files = vec![in alloc; File { name, bytes }]?;
+    let files = vec![in alloc; file(alloc, "a.c", bytes)?]?;
     Ok(files)
 }
 

@@ -7,15 +7,17 @@
 //! | `fail NUMBER` | none: the call with this number on a shelf of `files` fails, counted from 0 |
 //! | `get FILE LIMIT` | the bytes of the file, if they are at most LIMIT, or `too large` |
 //! | `put FILE TEXT` | `ok` |
-//! | `run MOST WORD ..` | the exit status of the job of these words, its report, and what it wrote to standard output, over streams that take MOST bytes a call; a word `""` is empty |
+//! | `host HOST` | none: the host of the runs behind it, as `row_host.rt` says; before, each call is answered by 0 |
+//! | `run MOST WORD ..` | the exit status of the job of these words, its report, and what it wrote to standard output, over streams that take MOST bytes a call; then the calls that it made at the host, each with its answer, or how many where they are more than ten; a word `""` is empty |
 //!
 //! Each call on the shelf may answer a fault in the place of that, by its name.
 
 use crate::answer::Answer;
 use crate::asked::Asked;
+use crate::stage::row_host::RowHost;
 use crate::steps::{Steps, answer_steps};
 use cr_base::{Items, Text};
-use ext_calls::SureHost;
+use ext_calls::{Host, SureHost};
 use front::run;
 use shelf::{DiskShelf, File, Got, MemShelf, MemSink, Shelf, SureShelf};
 use std::alloc::Global;
@@ -26,19 +28,22 @@ pub(crate) fn answer(alloc: Global, asked: &mut Asked, out: &mut Answer) {
     let Held { files, fails } = read_held(alloc, asked);
     asked.begin(steps);
     let shelf = MemShelf::new(files, fails);
-    answer_steps(&mut Stored { shelf }, alloc, asked, out);
+    let host = RowHost::zeros(alloc);
+    answer_steps(&mut Stored { shelf, host }, alloc, asked, out);
 }
 
 pub(crate) fn answer_surely(alloc: Global, asked: &mut Asked, out: &mut Answer) {
     let steps = asked.rest();
     let shelf = SureShelf::new(read_held(alloc, asked).files);
     asked.begin(steps);
-    answer_steps(&mut Stored { shelf }, alloc, asked, out);
+    let host = RowHost::zeros(alloc);
+    answer_steps(&mut Stored { shelf, host }, alloc, asked, out);
 }
 
 pub(crate) fn answer_on_disk<R: Files>(rt: &R, alloc: Global, asked: &mut Asked, out: &mut Answer) {
     let shelf = DiskShelf::new(alloc, rt);
-    answer_steps(&mut Stored { shelf }, alloc, asked, out);
+    let host = RowHost::zeros(alloc);
+    answer_steps(&mut Stored { shelf, host }, alloc, asked, out);
 }
 
 // With what a shelf begins.
@@ -83,6 +88,7 @@ fn fail(asked: &mut Asked, fails: &mut Vec<u64>) {
 #[derive(Drop)]
 struct Stored<S> {
     shelf: S,
+    host: RowHost,
 }
 
 #[derive(Clone, Copy)]
@@ -91,14 +97,16 @@ enum Step {
     Begin,
     Get,
     Put,
+    Host,
     Run,
 }
 
-const STEPS: [(&str, Step); 5] = [
+const STEPS: [(&str, Step); 6] = [
     ("hold", Step::Begin),
     ("fail", Step::Begin),
     ("get", Step::Get),
     ("put", Step::Put),
+    ("host", Step::Host),
     ("run", Step::Run),
 ];
 
@@ -108,7 +116,8 @@ impl<S: Shelf> Steps for Stored<S> {
             Some(Step::Begin) => asked.begin(""),
             Some(Step::Get) => get(&mut self.shelf, asked, out),
             Some(Step::Put) => put(alloc, &mut self.shelf, asked, out),
-            Some(Step::Run) => run_words(alloc, &mut self.shelf, asked, out),
+            Some(Step::Host) => self.host = RowHost::asked(alloc, asked),
+            Some(Step::Run) => run_words(alloc, &mut self.shelf, &mut self.host, asked, out),
             None => {}
         }
     }
@@ -134,11 +143,19 @@ fn put<S: Shelf>(alloc: Global, shelf: &mut S, asked: &mut Asked, out: &mut Answ
     }
 }
 
-fn run_words<S: Shelf>(alloc: Global, shelf: &mut S, asked: &mut Asked, out: &mut Answer) {
+fn run_words<S: Shelf>(
+    alloc: Global,
+    shelf: &mut S,
+    host: &mut RowHost,
+    asked: &mut Asked,
+    out: &mut Answer,
+) {
     let most = asked.number();
     let job = words(alloc, asked);
+    let before = host.count();
     out.separate();
-    run_job(alloc, job.as_slice(), shelf, most, out);
+    run_hosted(alloc, job.as_slice(), shelf, host, most, out);
+    host.write_made(before, out);
 }
 
 /// The words that are left.
@@ -161,10 +178,22 @@ pub(crate) fn run_job<S: Shelf>(
     most: usize,
     out: &mut Answer,
 ) {
+    let mut host = SureHost::new(Vec::new(alloc));
+    run_hosted(alloc, words, shelf, &mut host, most, out);
+}
+
+// The same with the answers of a host.
+fn run_hosted<S: Shelf, H: Host>(
+    alloc: Global,
+    words: &[String],
+    shelf: &mut S,
+    host: &mut H,
+    most: usize,
+    out: &mut Answer,
+) {
     let mut output = MemSink::new(Vec::new(alloc), most);
     let mut report = MemSink::new(Vec::new(alloc), most);
-    let mut host = SureHost::new(Vec::new(alloc));
-    let status = run(alloc, words, shelf, &mut output, &mut report, &mut host);
+    let status = run(alloc, words, shelf, &mut output, &mut report, host);
     out.value(status);
     write_taken(" ", report.written(), out);
     write_taken(" and to standard output ", output.written(), out);

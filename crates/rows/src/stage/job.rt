@@ -60,7 +60,7 @@ fn write_files(files: &Files, out: &mut Answer) {
     }
 }
 
-fn write_order(order: &[u64], out: &mut Answer) {
+fn write_order(order: &[u32], out: &mut Answer) {
     if MOST_WRITTEN < order.len() {
         out.text(" ");
         out.value(order.len());
@@ -70,7 +70,7 @@ fn write_order(order: &[u64], out: &mut Answer) {
     }
 }
 
-fn write_numbers(numbers: &[u64], out: &mut Answer) {
+fn write_numbers(numbers: &[u32], out: &mut Answer) {
     out.text(" [");
     for (place, number) in numbers.iter().enumerate() {
         if 0 < place {

@@ -1,5 +1,6 @@
 use Rattle.rs_exec.proofs.Formed.{by_call, by_form, by_nested, by_side, by_stmt_form}
 use Rattle.rs_exec.proofs.Called.{arg_stops, args_begin, args_go, body_runs, callee_out, callee_refused, callee_runs, found_runs, frame_runs, frame_stops, locals_end, no_args, no_callee, no_target, no_unit_taken, target_gives, target_refused, target_runs, target_stops, unit_taken}
+use Rattle.rs_exec.proofs.Quickly.{side_runs, test_gives}
 use Rattle.rs_exec.proofs.Turned.{arms_run, block_does, gives_same, listed, stmt_goes, stmt_leaves, stmt_stops, stmts_end, turns_end, turns_go, turns_out, turns_stop}
 use Rattle.rs_machine.proofs.Pieces.{stops_first, then_does}
 use Rattle.rs_machine.proofs.Rules.{false_does, found_fails, found_gives, pure_does, pure_is, true_does}
@@ -88,17 +89,17 @@ stmts::block-returns-in-Err g t c = stops_first _ (listed (frame_view c.args.sce
 pub stmts::block-returns : goal.stmts::block-returns
 stmts::block-returns g t c = then_does _ (listed (frame_view c.args.scene) c.args.body.now c.as_slice.result.now c.as_slice.ensures c.in-Ok.ensures) (gives_same (block_does c.args.label.now (flow_view c.in-Ok.flow) _) c.after_block.ensures)
 
+pub stmts::branch-returns-in-Some : goal.stmts::branch-returns-in-Some
+stmts::branch-returns-in-Some g t c = then_does _ (c.in-Some.ensures _ _ _) (then_does _ (test_gives c.in-Some.test _) (side_runs (frame_view c.args.scene) c.in-Some.test c.args.if_true.now c.args.if_false.now c.side_of-list.result.now c.side_of-list.ensures c.stmts.ensures))
+
 pub stmts::branch-returns-in-Err : goal.stmts::branch-returns-in-Err
 stmts::branch-returns-in-Err g t c = stops_first _ c.in-Err.ensures
 
 pub stmts::branch-returns-in-Err-test_of : goal.stmts::branch-returns-in-Err-test_of
 stmts::branch-returns-in-Err-test_of g t c = then_does _ c.in-Ok.ensures (stops_first _ (found_fails _ _ _ c.in-Err-test_of.ensures))
 
-pub stmts::branch-returns-then-test : goal.stmts::branch-returns-then-test
-stmts::branch-returns-then-test g t c = then_does _ c.in-Ok.ensures (then_does _ (found_gives _ _ _ c.in-Ok-test_of.ensures) (true_does _ _ _ c.if-test.true (listed (frame_view c.args.scene) c.args.if_true.now c.as_slice.result.now c.as_slice.ensures c.stmts.ensures)))
-
 pub stmts::branch-returns : goal.stmts::branch-returns
-stmts::branch-returns g t c = then_does _ c.in-Ok.ensures (then_does _ (found_gives _ _ _ c.in-Ok-test_of.ensures) (false_does _ _ _ c.if-test.false (listed (frame_view c.args.scene) c.args.if_false.now c.as_slice-2.result.now c.as_slice-2.ensures c.stmts-2.ensures)))
+stmts::branch-returns g t c = then_does _ c.in-Ok.ensures (then_does _ (found_gives _ _ _ c.in-Ok-test_of.ensures) (side_runs (frame_view c.args.scene) c.in-Ok-test_of.test c.args.if_true.now c.args.if_false.now c.side_of-list-2.result.now c.side_of-list-2.ensures c.stmts-2.ensures))
 
 pub stmts::matched-returns-in-Err : goal.stmts::matched-returns-in-Err
 stmts::matched-returns-in-Err g t c = stops_first _ c.in-Err.ensures
@@ -130,17 +131,23 @@ stmts::turns-returns-in-Done g t c = turns_end (map module_view c.args.scene.mod
 pub stmts::turns-loop-turn-preserved : goal.stmts::turns-loop-turn-preserved
 stmts::turns-loop-turn-preserved g t c = record { follows = turns_go (map module_view c.args.scene.modules.now) (map held_local c.args.scene.locals.now) c.args.label.now (stmts (map stmt_view c.args.body.now)) _ (flow_view c.in-Ok.flow) c.in_default.ensures c.loop-turn.invariant.follows (unit_taken _ _ _ _ _ c.if-not-take_unit.ensures) (listed (frame_view c.args.scene) c.args.body.now c.as_slice.result.now c.as_slice.ensures c.in-Ok.ensures) }
 
+pub stmts::assign_value-returns-in-Some : goal.stmts::assign_value-returns-in-Some
+stmts::assign_value-returns-in-Some g t c = then_does _ (c.in-Some.ensures _) (c.store_in.ensures _ _)
+
+pub stmts::assign_value-returns-in-Err : goal.stmts::assign_value-returns-in-Err
+stmts::assign_value-returns-in-Err g t c = stops_first _ c.in-Err.ensures
+
+pub stmts::assign_value-returns : goal.stmts::assign_value-returns
+stmts::assign_value-returns g t c = then_does _ c.in-Ok.ensures (c.store_in-2.ensures _ _)
+
+pub stmts::assign-returns-in-Some : goal.stmts::assign-returns-in-Some
+stmts::assign-returns-in-Some g t c = then_does _ (c.in-Some.ensures _ _ _) c.assign_value.ensures
+
 pub stmts::assign-returns-in-Err : goal.stmts::assign-returns-in-Err
 stmts::assign-returns-in-Err g t c = stops_first _ c.in-Err.ensures
 
-pub stmts::assign-returns-in-Err-place : goal.stmts::assign-returns-in-Err-place
-stmts::assign-returns-in-Err-place g t c = then_does _ c.in-Ok.ensures (stops_first _ c.in-Err-place.ensures)
-
-pub stmts::assign-returns-in-Ok-store_at : goal.stmts::assign-returns-in-Ok-store_at
-stmts::assign-returns-in-Ok-store_at g t c = then_does _ c.in-Ok.ensures (then_does _ c.in-Ok-place.ensures (then_does _ (c.in-Ok-store_at.ensures _ _) (pure_does _ _)))
-
-pub stmts::assign-returns-in-Err-store_at : goal.stmts::assign-returns-in-Err-store_at
-stmts::assign-returns-in-Err-store_at g t c = then_does _ c.in-Ok.ensures (then_does _ c.in-Ok-place.ensures (stops_first _ (c.in-Err-store_at.ensures _ _)))
+pub stmts::assign-returns : goal.stmts::assign-returns
+stmts::assign-returns g t c = then_does _ c.in-Ok.ensures c.assign_value-2.ensures
 
 pub stmts::copied-returns-in-Err : goal.stmts::copied-returns-in-Err
 stmts::copied-returns-in-Err g t c = stops_first _ c.in-Err.ensures

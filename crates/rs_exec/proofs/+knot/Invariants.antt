@@ -117,3 +117,6 @@ decreases-stmts::nested g l = l.room
 
 abbrev pub decreases-stmts::dropped_call : goal.decreases-stmts::dropped_call
 decreases-stmts::dropped_call g l = l.room
+
+abbrev pub decreases-stmts::assign_value : goal.decreases-stmts::assign_value
+decreases-stmts::assign_value g l = l.room

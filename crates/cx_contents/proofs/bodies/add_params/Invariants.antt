@@ -7,5 +7,5 @@ use Rattle.cx_contents.proofs.bodies.add_params.Given as goal
 -- the objects so far, and those of the parameters that are left
 abbrev pub invariant-loop-one : goal.invariant-loop-one
 invariant-loop-one l =
-    map view_object l.objects.items ++ map (contents.param_object l.unit) (map view_param (drop l.one-index l.params))
-    ≡ map view_object l.initial.objects.items ++ map (contents.param_object l.unit) (map view_param l.params)
+    map view_object l.objects ++ map (contents.param_object l.unit) (map view_param (drop l.one-index l.params))
+    ≡ map view_object l.initial.objects ++ map (contents.param_object l.unit) (map view_param l.params)

@@ -5,7 +5,7 @@ use Rattle.cx_core.specs.Views.{view_mention, view_unit}
 use Rattle.cx_link.specs.Program.{all_mentions, counts_before, mentions_from}
 use Rattle.cx_renumber.specs.Numbers.{counts_of, mention_there, together}
 use Rattle.cx_renumber.specs.Views.{view_counts}
-use Rattle.cx_link.proofs.Together.{counts_next, mentions_next}
+use Rattle.cx_link.proofs.Joining.{counts_next, mentions_next}
 use Rattle.cx_link.proofs.joined.all_mentions.Goals as goal
 
 pub loop-number-preserved : goal.loop-number-preserved

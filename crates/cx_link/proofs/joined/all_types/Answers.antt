@@ -5,7 +5,7 @@ use Rattle.cx_core.specs.Views.{view_types, view_unit}
 use Rattle.cx_link.specs.Program.{counts_before, own_types, types_from, types_of_all, types_with}
 use Rattle.cx_renumber.specs.Numbers.{counts_of, together}
 use Rattle.cx_renumber.specs.Views.{view_counts}
-use Rattle.cx_link.proofs.Together.{counts_next, types_next}
+use Rattle.cx_link.proofs.Joining.{counts_next, types_next}
 use Rattle.cx_link.proofs.joined.all_types.Goals as goal
 
 pub loop-one-preserved : goal.loop-one-preserved

@@ -17,16 +17,14 @@ pub returns-in-Some : goal.returns-in-Some
 unfolding check_chain check_here
 returns-in-Some c = refused_step (member_with c.args.name.now (view_type c.args.ty.now)) _ (scope_of c.args.context.now) _ (refusal_of (scope_of c.args.context.now).unit c.args.line c.in-Some.rule) c.refused.ensures
     (settled_no _ (types_in c.known-known.result) (scope_of c.args.context.now) c.args.line (member_node c.args.is_last c.args.name.now (view_type c.args.ty.now) (option_map view_operand c.args.width.now) (map view_member c.args.before.now)) (member_of (scope_of c.args.context.now).types c.args.name.now (view_type c.args.ty.now) (option_map view_operand c.args.width.now))
-    c.member_rule.result c.in-Some.rule c.known-known.ensures.types (subst (λ list. c.member_rule.result ≡ rule_at (placed (types_in c.known-known.result) (scope_of c.args.context.now) c.args.line (member_node c.args.is_last c.args.name.now (view_type c.args.ty.now) (option_map view_operand c.args.width.now) (map view_member list)))) c.as_slice-list.ensures
-    (subst (λ one. c.member_rule.result ≡ rule_at (placed (types_in c.known-known.result) (scope_of c.args.context.now) c.args.line (member_node c.args.is_last c.args.name.now (view_type c.args.ty.now) one (map view_member c.as_slice-list.result.now)))) c.operand_in-given.ensures
-    (c.member_rule.ensures (scope_of c.args.context.now) c.args.line))) c.in-Some.is)
+    c.member_rule.result c.in-Some.rule c.known-known.ensures.types (subst (λ one. c.member_rule.result ≡ rule_at (placed (types_in c.known-known.result) (scope_of c.args.context.now) c.args.line (member_node c.args.is_last c.args.name.now (view_type c.args.ty.now) one (map view_member c.args.before.now)))) c.operand_in-given.ensures
+    (c.member_rule.ensures (scope_of c.args.context.now) c.args.line)) c.in-Some.is)
 
 pub returns : goal.returns
 unfolding check_chain check_here
 returns c =
     let width : c.in_ok-bits.bits ≡ width_written (scope_of c.args.context.now).types (option_map view_operand c.args.width.now) = search rules in
     settled_ok _ (types_in c.known-known.result) (scope_of c.args.context.now) c.args.line (member_node c.args.is_last c.args.name.now (view_type c.args.ty.now) (option_map view_operand c.args.width.now) (map view_member c.args.before.now)) (member_of (scope_of c.args.context.now).types c.args.name.now (view_type c.args.ty.now) (option_map view_operand c.args.width.now))
-    c.member_rule.result c.known-known.ensures.types (subst (λ list. c.member_rule.result ≡ rule_at (placed (types_in c.known-known.result) (scope_of c.args.context.now) c.args.line (member_node c.args.is_last c.args.name.now (view_type c.args.ty.now) (option_map view_operand c.args.width.now) (map view_member list)))) c.as_slice-list.ensures
-    (subst (λ one. c.member_rule.result ≡ rule_at (placed (types_in c.known-known.result) (scope_of c.args.context.now) c.args.line (member_node c.args.is_last c.args.name.now (view_type c.args.ty.now) one (map view_member c.as_slice-list.result.now)))) c.operand_in-given.ensures
-    (c.member_rule.ensures (scope_of c.args.context.now) c.args.line))) c.in_default.is
+    c.member_rule.result c.known-known.ensures.types (subst (λ one. c.member_rule.result ≡ rule_at (placed (types_in c.known-known.result) (scope_of c.args.context.now) c.args.line (member_node c.args.is_last c.args.name.now (view_type c.args.ty.now) one (map view_member c.args.before.now)))) c.operand_in-given.ensures
+    (c.member_rule.ensures (scope_of c.args.context.now) c.args.line)) c.in_default.is
     ∙ ap (λ bits. fine (member_with c.args.name.now (view_type c.args.ty.now) bits) (scope_of c.args.context.now)) (sym width)

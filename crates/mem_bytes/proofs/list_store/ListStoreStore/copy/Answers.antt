@@ -1,13 +1,18 @@
-use Rattle.std.proofs.Common.{rules}
-use Rattle.mem_bytes.proofs.Slots.{change_dead, change_live, copying_inside}
+use Rattle.std.proofs.Common.{is_some, sym, ap, ◌∙◌, rules}
+use Rattle.mem_bytes.proofs.Slots.{copying_inside}
+use Rattle.mem_bytes.proofs.Stored.{emptied_none, taken_lives, change_none, change_taken}
 use Rattle.mem_bytes.proofs.list_store.ListStoreStore.copy.Goals as goal
 
-pub returns-in_default-place-clause-outcome : goal.returns-in_default-place-clause-outcome
-returns-in_default-place-clause-outcome c =
+pub returns-in_default-clause-outcome : goal.returns-in_default-clause-outcome
+returns-in_default-clause-outcome c =
     rw (copying_inside c.args.self.now c.args.from c.args.to c.args.count (search rules) (search rules))
-    (change_dead _ _ _ _ _ c.self.view_is (search rules) (search rules) c.in_default-place.is)
+    (change_none c.args.self.now c.args.from.block _ (search rules), c.take_block.ensures.rest ∙ emptied_none c.args.self.now c.args.from.block (search rules))
+
+pub set_block-requires : goal.set_block-requires
+set_block-requires c =
+    ap is_some (taken_lives _ _ _ _ (sym c.in-Some.ensures.block) c.take_block.ensures.rest)
 
 pub returns-clause-outcome : goal.returns-clause-outcome
 returns-clause-outcome c =
     rw (copying_inside c.args.self.now c.args.from c.args.to c.args.count (search rules) (search rules))
-    (change_live _ _ _ _ _ _ _ _ c.self.view_is (search rules) (search rules) c.in-Some-place.is c.copy.ensures)
+    (change_taken _ _ _ _ _ _ _ _ (sym c.in-Some.ensures.block) c.take_block.ensures.rest c.set_block.ensures c.copy-outcome.ensures)

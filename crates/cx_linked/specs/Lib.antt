@@ -1,0 +1,4 @@
+pub mod Found
+pub mod Linking
+pub mod Named
+pub mod Program

@@ -1,0 +1,3 @@
+pub mod Initialisers
+pub mod Placing
+pub mod Views

@@ -1,0 +1,85 @@
+-- The common type of a type and of its common type with another is that common type (ISO C99, 6.3.1.8).
+use Rattle.std.proofs.Common.{◌≡◌, true, refl}
+use Rattle.cx_core.specs.declared.ty.Basic.{Basic}
+use Rattle.cx_core.specs.declared.ty.Basic.TheVariants.{Truth, Char, SignedChar, UnsignedChar, Short, UnsignedShort, Int, Unsigned, Long, UnsignedLong, LongLong, UnsignedLongLong}
+use Rattle.cx_core.specs.Conversions.{common_basic, is_promoted_basic}
+
+pub joined_is : (one other : Basic) → is_promoted_basic one ≡ true → is_promoted_basic other ≡ true → common_basic one (common_basic one other) ≡ common_basic one other
+joined_is Truth other one two = absurd cc
+joined_is Char other one two = absurd cc
+joined_is SignedChar other one two = absurd cc
+joined_is UnsignedChar other one two = absurd cc
+joined_is Short other one two = absurd cc
+joined_is UnsignedShort other one two = absurd cc
+joined_is Int Truth one two = absurd cc
+joined_is Int Char one two = absurd cc
+joined_is Int SignedChar one two = absurd cc
+joined_is Int UnsignedChar one two = absurd cc
+joined_is Int Short one two = absurd cc
+joined_is Int UnsignedShort one two = absurd cc
+joined_is Int Int one two = refl
+joined_is Int Unsigned one two = refl
+joined_is Int Long one two = refl
+joined_is Int UnsignedLong one two = refl
+joined_is Int LongLong one two = refl
+joined_is Int UnsignedLongLong one two = refl
+joined_is Unsigned Truth one two = absurd cc
+joined_is Unsigned Char one two = absurd cc
+joined_is Unsigned SignedChar one two = absurd cc
+joined_is Unsigned UnsignedChar one two = absurd cc
+joined_is Unsigned Short one two = absurd cc
+joined_is Unsigned UnsignedShort one two = absurd cc
+joined_is Unsigned Int one two = refl
+joined_is Unsigned Unsigned one two = refl
+joined_is Unsigned Long one two = refl
+joined_is Unsigned UnsignedLong one two = refl
+joined_is Unsigned LongLong one two = refl
+joined_is Unsigned UnsignedLongLong one two = refl
+joined_is Long Truth one two = absurd cc
+joined_is Long Char one two = absurd cc
+joined_is Long SignedChar one two = absurd cc
+joined_is Long UnsignedChar one two = absurd cc
+joined_is Long Short one two = absurd cc
+joined_is Long UnsignedShort one two = absurd cc
+joined_is Long Int one two = refl
+joined_is Long Unsigned one two = refl
+joined_is Long Long one two = refl
+joined_is Long UnsignedLong one two = refl
+joined_is Long LongLong one two = refl
+joined_is Long UnsignedLongLong one two = refl
+joined_is UnsignedLong Truth one two = absurd cc
+joined_is UnsignedLong Char one two = absurd cc
+joined_is UnsignedLong SignedChar one two = absurd cc
+joined_is UnsignedLong UnsignedChar one two = absurd cc
+joined_is UnsignedLong Short one two = absurd cc
+joined_is UnsignedLong UnsignedShort one two = absurd cc
+joined_is UnsignedLong Int one two = refl
+joined_is UnsignedLong Unsigned one two = refl
+joined_is UnsignedLong Long one two = refl
+joined_is UnsignedLong UnsignedLong one two = refl
+joined_is UnsignedLong LongLong one two = refl
+joined_is UnsignedLong UnsignedLongLong one two = refl
+joined_is LongLong Truth one two = absurd cc
+joined_is LongLong Char one two = absurd cc
+joined_is LongLong SignedChar one two = absurd cc
+joined_is LongLong UnsignedChar one two = absurd cc
+joined_is LongLong Short one two = absurd cc
+joined_is LongLong UnsignedShort one two = absurd cc
+joined_is LongLong Int one two = refl
+joined_is LongLong Unsigned one two = refl
+joined_is LongLong Long one two = refl
+joined_is LongLong UnsignedLong one two = refl
+joined_is LongLong LongLong one two = refl
+joined_is LongLong UnsignedLongLong one two = refl
+joined_is UnsignedLongLong Truth one two = absurd cc
+joined_is UnsignedLongLong Char one two = absurd cc
+joined_is UnsignedLongLong SignedChar one two = absurd cc
+joined_is UnsignedLongLong UnsignedChar one two = absurd cc
+joined_is UnsignedLongLong Short one two = absurd cc
+joined_is UnsignedLongLong UnsignedShort one two = absurd cc
+joined_is UnsignedLongLong Int one two = refl
+joined_is UnsignedLongLong Unsigned one two = refl
+joined_is UnsignedLongLong Long one two = refl
+joined_is UnsignedLongLong UnsignedLong one two = refl
+joined_is UnsignedLongLong LongLong one two = refl
+joined_is UnsignedLongLong UnsignedLongLong one two = refl

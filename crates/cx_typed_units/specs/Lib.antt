@@ -1,0 +1,6 @@
+pub mod Forms
+pub mod Labels
+pub mod Rest
+pub mod Spelled
+pub mod Statements
+pub mod Stretches

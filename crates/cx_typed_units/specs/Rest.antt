@@ -1,0 +1,43 @@
+-- What stays of a scope behind an expression, a type or an initialiser: all but its declarations, its types, its literals, its mentions and
+-- the number of the next object.
+use Rattle.std.specs.Prelude.{◌≡◌, ℕ, Bool, List}
+use Rattle.cx_core.specs.Trees.{CObject, CFun}
+use Rattle.cx_rules.specs.Pieces.{CTarget}
+use Rattle.cx_rules.specs.Readings.{Seen, seen_gives, seen_chain, seen_here, seen_becomes, seen_look}
+use Rattle.cx_rules.specs.Scope.{CThing, CLabels, CScope}
+use Rattle.cx_rules.specs.Shapes.{CSpecs}
+use Rattle.cx_rules.specs.Units.{seen_expr, seen_type_name, seen_initialiser}
+use Rattle.cx_rules.specs.Walk as walk
+use Rattle.cx_tree.specs.Trees.{ExprTree, TypeNameTree, SpecTrees, DeclaratorTree, InitialiserTree}
+
+pub record CRest : Type 0 where
+  pub unit : ℕ
+  pub begins : ℕ
+  pub in_function : Bool
+  pub next_function : ℕ
+  pub objects : List CObject
+  pub functions : List CFun
+  pub things : List CThing
+  pub body : CLabels
+
+abbrev pub rest_of : CScope → CRest
+rest_of scope = record {
+  unit = scope.unit;
+  begins = scope.begins;
+  in_function = scope.in_function;
+  next_function = scope.next_function;
+  objects = scope.objects;
+  functions = scope.functions;
+  things = scope.things;
+  body = scope.body;
+}
+
+abbrev pub LeavesRest : {A : Type 0} → Seen A → Type 0
+LeavesRest walked = (scope : CScope) → rest_of (walked scope).scope ≡ rest_of scope
+
+pub record ExpressionsLeaveRest : Type 0 where
+  pub expr : (tree : ExprTree) → LeavesRest (seen_expr tree)
+  pub type_name : (tree : TypeNameTree) → LeavesRest (seen_type_name tree)
+  pub specs : (alone : Bool) (specs : CSpecs) (trees : SpecTrees) → LeavesRest (walk.specs_walk Seen seen_gives seen_chain seen_here seen_becomes seen_look alone specs trees)
+  pub declarator : (tree : DeclaratorTree) → LeavesRest (walk.declarator_walk Seen seen_gives seen_chain seen_here seen_becomes seen_look tree)
+  pub initialiser : (target : CTarget) (tree : InitialiserTree) → LeavesRest (seen_initialiser target tree)

@@ -1,0 +1,4 @@
+mod EffectExamples
+mod OutputLemmas
+mod PrintfExamples
+mod PrintingLemmas
