@@ -262,6 +262,13 @@ KNOWN = [
         r"\btypedef\b",
     ),
     Known(
+        "uses of names that are declared by typedef beside another storage class",
+        "S1",
+        r"multiple storage classes in declaration specifiers",
+        "such a declaration declares a typedef name (6.7), whose use is no expression; gcc declares an object",
+        r"\b(?:auto|extern|register|static) typedef (\w+) ;.*[-+*/%=(] \1\b",
+    ),
+    Known(
         "assignments as constant expressions",
         "S1",
         r"'\w+' undeclared|enumerator value for ",

@@ -20,12 +20,3 @@ completed_is one type whole puts old first second third a b c =
     ap (contents.completed_mention one.mention whole)
     (c ∙ ap (λ things. contents.completed_thing one.name whole (linked_thing one.linkage one.name things) second) before
     ∙ ap (contents.completed_thing one.name whole (linked_thing one.linkage one.name old.things)) (b ∙ ap (contents.with_stored one.is_static whole puts one.object) a))
-
-pub defined_is : (one : CDeclaring) (old mid later : CScope) (mention : CMention) (number : ℕ) (meant : CMeant)
-    → number ≡ entities.function_number old one → mention ≡ entities.told_mention old one one.type true
-    → mid ≡ entities.with_function_declared one true old → later ≡ with_mention mention mid → meant ≡ a_function number one.type one.linkage
-    → with_declared one.name meant later ≡ contents.with_function one old
-defined_is one old mid later mention number meant n m d l is =
-    ap (λ all. with_declared one.name all later) (is ∙ ap (λ k. a_function k one.type one.linkage) n)
-    ∙ ap (with_declared one.name (a_function (entities.function_number old one) one.type one.linkage))
-    (l ∙ ap (λ told. with_mention told mid) m ∙ ap (with_mention (entities.told_mention old one one.type true)) d)

@@ -140,10 +140,11 @@ body_begun within params scope = record scope {
   in_function = true;
 }
 
-abbrev pub with_function : CDeclaring → CScope → CScope
-with_function one scope =
+-- a definition says the type that is written there
+abbrev pub with_function : CDeclaring → (written : CTy) → CScope → CScope
+with_function one written scope =
     with_declared one.name (a_function (function_number scope one) one.type one.linkage)
-    (with_mention (mention_of scope one.name one.line one.type one.linkage defines)
+    (with_mention (mention_of scope one.name one.line written one.linkage defines)
     (with_linked_function one.name one.type one.linkage true (thing_named one.name scope.things) scope))
 
 -- ---- bodies of functions

@@ -11,7 +11,7 @@ ghost use Rattle.cx_scope.specs.Views.{view_declared, view_labels, view_meant, v
 ghost use Rattle.cx_shapes.specs.Views.{view_step};
 
 use cr_base::{Boxed, Items, Memory, Name};
-use cx_core::{CoreObject, Fun, Linkage};
+use cx_core::{CoreObject, Fun, Linkage, Ty};
 use cx_entities::{Declaring, add_meant, declare_function, function_number, told_mention};
 use cx_scope::{Declarations, Declared, Labels, Meant, Objects, Param, Scope};
 use cx_shapes::Step;
@@ -184,14 +184,14 @@ fn meant_function(alloc: Global, one: Declaring<'_>, function: u32) -> Result<Bo
     )
 }
 
-/// The declarator of a definition has ended: the function is declared, and its name comes into scope. Refused only for want of memory,
-/// and then nothing is said but that the types stay.
-pub fn define_function(scope: &mut Scope, one: Declaring<'_>) -> Result<(), Memory>
-    ensures defined { OnOk result (view_scope scope.new ≡ contents.with_function (view_declaring one.entry) (view_scope scope.old)) }
+/// The declarator of a definition has ended, with this type as it is written: the function is declared, and its name comes into scope.
+/// Refused only for want of memory, and then nothing is said but that the types stay.
+pub fn define_function(scope: &mut Scope, one: Declaring<'_>, written: &Ty) -> Result<(), Memory>
+    ensures defined { OnOk result (view_scope scope.new ≡ contents.with_function (view_declaring one.entry) (view_type written.now) (view_scope scope.old)) }
     ensures types { (view_scope scope.new).types ≡ (view_scope scope.old).types }
 {
     let number = function_number(scope, one);
-    let made = told_mention(scope, one, one.ty, true)?;
+    let made = told_mention(scope, one, written, true)?;
     declare_function(scope, one, true)?;
     scope.mentions.push(made)?;
     let meant = meant_function(scope.alloc, one, number)?;

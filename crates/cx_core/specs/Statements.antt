@@ -278,7 +278,6 @@ abbrev mutual
 -- each parameter is an object of its type, which is complete (6.9.1p7, 6.7.5.3p4)
 pub record IsParamObject (home : CHome) (type : CTy) (one : CObject) : Type 0 where
   pub object : IsBlockObject home one
-  pub named : IsSome one.name
   pub type_is : unqualified one.type ≡ unqualified type
 
 abbrev pub AreParams : CHome → List ℕ → CTys → Type 0

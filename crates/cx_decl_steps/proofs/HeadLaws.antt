@@ -17,9 +17,10 @@ use Rattle.cx_rules.specs.Shapes.{CSpecs, CStep, CShape}
 use Rattle.cx_rules.specs.UnitWalk.{CHead, name_or_none}
 use Rattle.cx_rules.specs.Walk as walk
 
-pub head_is : (one : CDeclaring) (list : List CStep) (old mid new : CScope) → mid ≡ contents.with_function one old → new ≡ steps.body_begun list mid → new ≡ with_head one list old
+pub head_is : (one : CDeclaring) (written : CTy) (list : List CStep) (old mid new : CScope)
+    → mid ≡ contents.with_function one written old → new ≡ steps.body_begun list mid → new ≡ with_head one written list old
 unfolding with_head
-head_is one list old mid new m n = n ∙ ap (steps.body_begun list) m
+head_is one written list old mid new m n = n ∙ ap (steps.body_begun list) m
 
 kept_by : {A B : Type 0} (after : CScope) (meaning : A) (f : A → B) (broken : Option Refusal) (scope : CScope)
     → check_behind (check_behind (check_by broken scope) (λ _. check_chain Done A (check_becomes after) (λ _. check_gives A meaning))) (λ one. check_gives B (f one))
@@ -44,7 +45,7 @@ unfolding check_here check_look check_becomes check_chain check_gives
 kept_is specs line shape written scope =
     kept_changed scope line
     (head_node (record { specs = specs; type = written; steps = shape.steps; clashes = clashes scope (name_or_none shape.name) (is_typedef specs) written (declaring scope Definition specs (name_or_none shape.name) line written true).linkage true }))
-    (with_head (declaring scope Definition specs (name_or_none shape.name) line written true) shape.steps scope)
+    (with_head (declaring scope Definition specs (name_or_none shape.name) line written true) written shape.steps scope)
     (head_of_one scope (declaring scope Definition specs (name_or_none shape.name) line written true) shape.steps written) kept_of scope
 
 abbrev declared : CSpecs → ℕ → List ℕ → Linkage → CTy → CDeclaring

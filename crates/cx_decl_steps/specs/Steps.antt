@@ -127,7 +127,7 @@ abbrev pub head_as : CDeclaring → List CStep → CTy → CScope → Check CHea
 head_as one steps written scope =
     walk.changed Check check_gives check_chain check_here check_becomes check_look scope one.line
     (head_node (record { specs = one.specs; type = written; steps = steps; clashes = clashes scope one.name (is_typedef one.specs) written one.linkage true }))
-    (with_head one steps scope) (head_of scope one steps written)
+    (with_head one written steps scope) (head_of scope one steps written)
 
 abbrev pub function_in : (unit : ℕ) → CHeadKept → CStmt → CFun
 function_in unit one body = record {

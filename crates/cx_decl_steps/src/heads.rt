@@ -51,10 +51,10 @@ pub fn name_or_none(alloc: Global, name: Option<Name>) -> Name
 }
 
 // The function is declared, and the scope of its body begins.
-fn define_in(context: &mut Context, one: Declaring<'_>) -> Result<(), Memory>
-    ensures { OnOk result (scope_of context.new ≡ contents.with_function (view_declaring one.entry) (scope_of context.old)) }
+fn define_in(context: &mut Context, one: Declaring<'_>, written: &Ty) -> Result<(), Memory>
+    ensures { OnOk result (scope_of context.new ≡ contents.with_function (view_declaring one.entry) (view_type written.now) (scope_of context.old)) }
 {
-    define_function(&mut context.scope, one)?;
+    define_function(&mut context.scope, one, written)?;
     Ok(())
 }
 
@@ -70,11 +70,12 @@ fn head_declared(
     context: &mut Context,
     one: Declaring<'_>,
     derivation: Items<Step>,
+    written: &Ty,
 ) -> Result<Items<u32>, Memory>
-    ensures scope { OnOk result (scope_of context.new ≡ declare.with_head (view_declaring one.entry) (reverse (map view_step derivation)) (scope_of context.old)) }
+    ensures scope { OnOk result (scope_of context.new ≡ declare.with_head (view_declaring one.entry) (view_type written.now) (reverse (map view_step derivation)) (scope_of context.old)) }
     ensures numbers { IfOk result (λ numbers. numbers ≡ numbers_of (declare.own_params (reverse (map view_step derivation)))) }
 {
-    define_in(context, one)?;
+    define_in(context, one, written)?;
     let numbers = begin_in(context, derivation)?;
     Ok(numbers)
 }
@@ -85,7 +86,7 @@ fn head_made(
     derivation: Items<Step>,
     written: Boxed<Ty>,
 ) -> Result<Head, Memory>
-    ensures scope { OnOk result (scope_of context.new ≡ declare.with_head (view_declaring one.entry) (reverse (map view_step derivation)) (scope_of context.old)) }
+    ensures scope { OnOk result (scope_of context.new ≡ declare.with_head (view_declaring one.entry) (view_type written) (reverse (map view_step derivation)) (scope_of context.old)) }
     ensures head { IfOk result (λ head. view_head head ≡ steps.head_of (scope_of context.old) (view_declaring one.entry) (reverse (map view_step derivation)) (view_type written)) }
 {
     let scope = context.scope();
@@ -93,7 +94,7 @@ fn head_made(
     let begins = scope.begins();
     let number = function_number(scope, one);
     let name = one.name.copy()?;
-    let params = head_declared(context, one, derivation)?;
+    let params = head_declared(context, one, derivation, written.get())?;
     Ok(Head {
         count,
         begins,

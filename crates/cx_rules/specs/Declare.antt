@@ -409,14 +409,15 @@ in_body steps scope = record scope {
   in_function = true;
 }
 
-abbrev with_function : CDeclaring → CScope → CScope
-with_function one scope =
+-- a definition says the type that is written there, since its body goes by that one
+abbrev with_function : CDeclaring → (written : CTy) → CScope → CScope
+with_function one written scope =
     with_declared one.name (a_function (function_number scope one) one.type one.linkage)
-    (with_mention (mention_of scope one.name one.line one.type one.linkage defines)
+    (with_mention (mention_of scope one.name one.line written one.linkage defines)
     (with_linked_function one.name one.type one.linkage true (thing_named one.name scope.things) scope))
 
-unfoldable pub with_head : CDeclaring → List CStep → CScope → CScope
-with_head one steps scope = in_body steps (with_function one scope)
+unfoldable pub with_head : CDeclaring → (written : CTy) → List CStep → CScope → CScope
+with_head one written steps scope = in_body steps (with_function one written scope)
 
 abbrev pub head_number : CScope → CDeclaring → ℕ
 head_number scope one = function_number scope one

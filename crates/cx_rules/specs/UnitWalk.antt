@@ -524,7 +524,7 @@ module _
     head_as specs line shape written scope one =
         changed scope line
         (head_node (record { specs = specs; type = written; steps = shape.steps; clashes = clashes scope one.name (is_typedef specs) written one.linkage true }))
-        (with_head one shape.steps scope)
+        (with_head one written shape.steps scope)
         (record { before = scope; declaring = one; number = head_number scope one; written = written; params = own_params shape.steps })
 
     -- what the declarator of a definition says is looked at before its body

@@ -36,7 +36,7 @@ returns-in-Some c =
     ∙ ap (λ clashed. rule_at (placed (types_in c.known-known.result) old c.args.one.line (node written list clashed))) clash)) in
     refused_step view_head _ old _ (refusal_of old.unit c.args.one.line c.in-Some.rule) c.refused.ensures
     (changed_no _ (types_in c.known-known.result) old c.args.one.line (node written list (declare.clashes old one.name (declare.is_typedef one.specs) written one.linkage true))
-    (declare.with_head one list old) (steps.head_of old one list written)
+    (declare.with_head one written list old) (steps.head_of old one list written)
     c.head_rule.result c.in-Some.rule c.known-known.ensures.types rule c.in-Some.is)
 
 pub returns : goal.returns
@@ -57,7 +57,7 @@ returns c =
     ∙ (ap (λ all. rule_at (placed (types_in c.known-known.result) old c.args.one.line (node written (reverse (map view_step all)) c.clashes-clash.result))) c.as_slice.ensures
     ∙ ap (λ clashed. rule_at (placed (types_in c.known-known.result) old c.args.one.line (node written list clashed))) clash)) in
     changed_ok _ (types_in c.known-known.result) old c.args.one.line (node written list (declare.clashes old one.name (declare.is_typedef one.specs) written one.linkage true))
-    (declare.with_head one list old) (steps.head_of old one list written)
+    (declare.with_head one written list old) (steps.head_of old one list written)
     c.head_rule.result c.known-known.ensures.types rule c.in_default.is
-    ∙ (ap (λ meaning. fine meaning (declare.with_head one list old)) (sym c.in_ok-made.ensures.head)
+    ∙ (ap (λ meaning. fine meaning (declare.with_head one written list old)) (sym c.in_ok-made.ensures.head)
     ∙ ap (fine (view_head c.in_ok-made.made)) (sym c.in_ok-made.ensures.scope))
