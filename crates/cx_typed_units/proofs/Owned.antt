@@ -126,7 +126,7 @@ abbrev retype : CTy → CMeant → CMeant
 retype type (an_object number before is_register linkage) = an_object number type is_register linkage
 retype type meant = meant
 
-linkage_of_object : CMeant → Linkage
+abbrev linkage_of_object : CMeant → Linkage
 linkage_of_object (an_object number type is_register linkage) = linkage
 linkage_of_object _ = External
 
