@@ -56,22 +56,39 @@ pub number_formed : (frame : Frame) (which : RExpr) (form one : Form) (found : O
 number_formed frame which form one None blocks is form_is does = tt
 number_formed frame which form one (Some number) blocks is form_is does = λ kept limit host. by_form frame which form one is form_is (does kept limit host)
 
-pub value_formed : {A : Type 0} (view : A → Typed) (frame : Frame) (which : RExpr) (form one : Form) (found : Option A) (blocks : Blocks) →
+-- what an operation gives of its operands, an expression with the form that has them gives
+pub operands_formed : {A : Type 0} (piece : A → Run Typed) (frame : Frame) (which : RExpr) (form one : Form) (found : Option A) (blocks : Blocks) →
     ((around : Frame) → form_run around form ≡ run_expr around (expr_view which)) → form ≡ one →
-    IfSome found (λ (value : A). LookDoes (form_run frame one) (gives (view value)) blocks) →
-    IfSome found (λ (value : A). LookDoes (run_expr frame (expr_view which)) (gives (view value)) blocks)
-value_formed view frame which form one None blocks is form_is does = tt
-value_formed view frame which form one (Some value) blocks is form_is does = λ kept limit host. by_form frame which form one is form_is (does kept limit host)
+    IfSome found (λ (all : A). (given : Typed) → LookDoes (piece all) (gives given) blocks → LookDoes (form_run frame one) (gives given) blocks) →
+    IfSome found (λ (all : A). (given : Typed) → LookDoes (piece all) (gives given) blocks → LookDoes (run_expr frame (expr_view which)) (gives given) blocks)
+operands_formed piece frame which form one None blocks is form_is does = tt
+operands_formed piece frame which form one (Some all) blocks is form_is does = λ given looks kept limit host. by_form frame which form one is form_is (does given looks kept limit host)
 
--- two numbers, and what an operation gives of their values
-pub pair_held : (modules : List ModuleTree) (left right : Run Typed) (operation : Pair) (first second : Number) (one other given : Typed) (blocks : Blocks) →
-    LookDoes left (gives (value_is first)) blocks → LookDoes right (gives (value_is second)) blocks → one ≡ value_is first → other ≡ value_is second →
-    LookDoes (pair_run modules operation one other) (gives given) blocks →
+-- two numbers, and what an operation gives of them
+pub operands_held : (modules : List ModuleTree) (left right : Run Typed) (operation : Pair) (first second : Number) (blocks : Blocks) →
+    LookDoes left (gives (value_is first)) blocks → LookDoes right (gives (value_is second)) blocks → (given : Typed) →
+    LookDoes (pair_run modules operation (value_is first) (value_is second)) (gives given) blocks →
     LookDoes (seq left (λ (a : Typed). seq right (λ (b : Typed). pair_run modules operation a b))) (gives given) blocks
-pair_held modules left right operation first second one other given blocks a b one_is other_is does =
-    let moved = subst (λ (value : Typed). LookDoes (pair_run modules operation (value_is first) value) (gives given) blocks) other_is
-    (subst (λ (value : Typed). LookDoes (pair_run modules operation value other) (gives given) blocks) one_is does) in
-    λ kept limit host. then_does _ (a kept limit host) (then_does _ (b kept limit host) (moved kept limit host))
+operands_held modules left right operation first second blocks a b given does =
+    λ kept limit host. then_does _ (a kept limit host) (then_does _ (b kept limit host) (does kept limit host))
+
+-- the values of the numbers
+pub values_given : (modules : List ModuleTree) (operation : Pair) (first second : Number) (one other given : Typed) (blocks : Blocks) →
+    one ≡ value_is first → other ≡ value_is second → LookDoes (pair_run modules operation one other) (gives given) blocks →
+    LookDoes (pair_run modules operation (value_is first) (value_is second)) (gives given) blocks
+values_given modules operation first second one other given blocks one_is other_is does =
+    subst (λ (value : Typed). LookDoes (pair_run modules operation (value_is first) value) (gives given) blocks) other_is
+    (subst (λ (value : Typed). LookDoes (pair_run modules operation value other) (gives given) blocks) one_is does)
+
+-- what an operation gives, the expression gives
+pub operands_give : {A : Type 0} (view : A → Typed) (piece whole : Run Typed) (found : Option A) (blocks : Blocks) →
+    ((given : Typed) → LookDoes piece (gives given) blocks → LookDoes whole (gives given) blocks) →
+    IfSome found (λ (one : A). LookDoes piece (gives (view one)) blocks) → IfSome found (λ (one : A). LookDoes whole (gives (view one)) blocks)
+operands_give view piece whole None blocks goes does = tt
+operands_give view piece whole (Some one) blocks goes does = goes (view one) does
+
+pub same_given : (piece : Run Typed) (value other : Typed) (blocks : Blocks) → other ≡ value → LookDoes piece (gives value) blocks → LookDoes piece (gives other) blocks
+same_given piece value other blocks is does = subst (λ (given : Typed). LookDoes piece (gives given) blocks) (sym is) does
 
 pub test_gives : (test : Bool) (at : State) → Does (tests (truth test)) (gives test) at at
 test_gives true at = pure_does true at

@@ -1,19 +1,21 @@
 //! Operators between integers that a literal or a local gives, in one step (the Rust Reference, "Operator
 //! expressions"): what a body does most takes no function for each of its parts.
 
-ghost use Rattle.std.specs.Prelude.{◌≡◌, map, IfSome};
+ghost use Rattle.std.specs.Prelude.{◌≡◌, IfSome, List, map};
 ghost use Rattle.mem_bytes.specs.declared.value.Value.TheVariants.{Whole};
 ghost use Rattle.rs_forms.specs.Forms.{pair_run, plain_run, used_as};
+ghost use Rattle.rs_forms.specs.Paired.{operands_run};
 ghost use Rattle.rs_forms.specs.declared.forms.PlaceUse.TheVariants as place_use;
 ghost use Rattle.rs_layout.specs.Layouts.{ModulesAreAligned};
 ghost use Rattle.rs_machine.specs.Does.{Stays, gives};
 ghost use Rattle.rs_machine.specs.Steps.{LookDoes};
 ghost use Rattle.rs_mean.specs.Calls.{load};
 ghost use Rattle.rs_mean.specs.Run.{Frame, run_expr, run_place};
-ghost use Rattle.rs_mean.specs.Values.{truth, typed};
+ghost use Rattle.rs_mean.specs.Values.{Typed, truth, typed};
 ghost use Rattle.rs_mean.specs.World.{pure, seq};
 ghost use Rattle.rs_scene.specs.Scenes.{IsScene, frame_view};
 ghost use Rattle.rs_tree.specs.Tree as tree;
+ghost use Rattle.rs_tree.specs.Tree.{Integer, ModuleTree};
 ghost use Rattle.rs_tree.specs.Views.{expr_view, module_view, place_view};
 ghost use Rattle.rs_value.specs.Views.{spot_view, typed_view};
 
@@ -28,14 +30,22 @@ use rs_value::{TypedValue, ValueSpot, ValueTy};
 
 /// A number of an integer type.
 #[derive(Clone, Copy)]
-struct Number {
+pub(crate) struct Number {
     ty: IntegerTy,
     number: Int,
 }
 
-// The value of a number.
+// An operation and the numbers on which it is done.
+#[derive(Clone, Copy)]
+struct Operands {
+    operation: Pair,
+    left: Number,
+    right: Number,
+}
+
+/// The value of a number.
 #[inline(always)]
-fn value_of<'t>(one: Number) -> TypedValue<'t>
+pub(crate) fn value_of<'t>(one: Number) -> TypedValue<'t>
     ensures { typed_view result ≡ typed (tree.Integer one.ty) (Whole one.number) }
 {
     TypedValue {
@@ -163,17 +173,19 @@ fn is_plain(tree: &RExpr) -> bool {
     }
 }
 
-// What an operator gives of two numbers that literals or locals give, if it gives a value.
+// The operands of an operator, if literals or locals give both.
 #[inline(always)]
-fn pair_of_plain<'t, S: Store>(
+fn operands_of<'t, S: Store>(
     store: &S,
     scene: Scene<'t, '_>,
     operation: Pair,
     left: &'t RExpr,
     right: &'t RExpr,
-) -> Option<TypedValue<'t>>
+) -> Option<Operands>
     requires { IsScene scene }
-    ensures { IfSome result (λ value. LookDoes (seq (run_expr (frame_view scene.entry) (expr_view left.now)) (λ first. seq (run_expr (frame_view scene.entry) (expr_view right.now)) (λ second. pair_run (map module_view scene.entry.modules.now) operation first second))) (gives (typed_view value)) (S.memory store.now)) }
+    ensures { IfSome result (λ all. (given : Typed) →
+        LookDoes (operands_run (map module_view scene.entry.modules.now) all) (gives given) (S.memory store.now) →
+        LookDoes (seq (run_expr (frame_view scene.entry) (expr_view left.now)) (λ first. seq (run_expr (frame_view scene.entry) (expr_view right.now)) (λ second. pair_run (map module_view scene.entry.modules.now) operation first second))) (gives given) (S.memory store.now)) }
 {
     if !is_plain(left) {
         return None;
@@ -181,19 +193,86 @@ fn pair_of_plain<'t, S: Store>(
     if !is_plain(right) {
         return None;
     }
-    let Some(first) = number_of(store, scene, left) else {
+    let Some(left) = number_of(store, scene, left) else {
         return None;
     };
-    let Some(second) = number_of(store, scene, right) else {
+    let Some(right) = number_of(store, scene, right) else {
         return None;
     };
-    match number_value(store, operation, value_of(first), value_of(second)) {
-        Ok(value) => Some(value),
+    Some(Operands {
+        operation,
+        left,
+        right,
+    })
+}
+
+// The operands of an expression, if it is an operator between literals or locals that give numbers.
+#[inline(never)]
+fn operands_in<'t, S: Store>(store: &S, scene: Scene<'t, '_>, tree: &'t RExpr) -> Option<Operands>
+    requires { IsScene scene }
+    ensures { IfSome result (λ all. (given : Typed) →
+        LookDoes (operands_run (map module_view scene.entry.modules.now) all) (gives given) (S.memory store.now) →
+        LookDoes (run_expr (frame_view scene.entry) (expr_view tree.now)) (gives given) (S.memory store.now)) }
+{
+    match form_of(tree) {
+        Form::Two(operation, left, right) => operands_of(store, scene, operation, left, right),
+        Form::Alone(_) => None,
+        Form::Place(_, _) => None,
+        Form::Call(_) => None,
+        Form::One(_, _) => None,
+        Form::Test(_, _, _) => None,
+    }
+}
+
+// The number that an operation gives of its operands, if it gives one.
+#[inline(always)]
+fn number_given<S: Store>(store: &S, all: Operands) -> Option<Number>
+    ensures { (modules : List ModuleTree) → IfSome result (λ one. LookDoes (operands_run modules all) (gives (typed (tree.Integer one.ty) (Whole one.number))) (S.memory store.now)) }
+{
+    match number_value(
+        store,
+        all.operation,
+        value_of(all.left),
+        value_of(all.right),
+    ) {
+        Ok(value) => number_in(value),
         Err(_) => None,
     }
 }
 
-/// The value of an operator between two literals or locals, if the expression is one and has a value.
+// The truth value that an operation gives of its operands, if it gives one.
+#[inline(always)]
+fn truth_given<S: Store>(store: &S, all: Operands) -> Option<bool>
+    ensures { (modules : List ModuleTree) → IfSome result (λ test. LookDoes (operands_run modules all) (gives (truth test)) (S.memory store.now)) }
+{
+    match number_value(
+        store,
+        all.operation,
+        value_of(all.left),
+        value_of(all.right),
+    ) {
+        Ok(value) => truth_in(value),
+        Err(_) => None,
+    }
+}
+
+/// The number of an operator between two literals or locals, if the expression is one and gives a number.
+#[inline(never)]
+pub(crate) fn quick_number<'t, S: Store>(
+    store: &S,
+    scene: Scene<'t, '_>,
+    tree: &'t RExpr,
+) -> Option<Number>
+    requires { IsScene scene }
+    ensures { IfSome result (λ one. LookDoes (run_expr (frame_view scene.entry) (expr_view tree.now)) (gives (typed (Integer one.ty) (Whole one.number))) (S.memory store.now)) }
+{
+    match operands_in(store, scene, tree) {
+        Some(all) => number_given(store, all),
+        None => None,
+    }
+}
+
+/// The value of an operator between two literals or locals, if the expression is one and gives a number.
 #[inline(never)]
 pub fn quick_value<'t, S: Store>(
     store: &S,
@@ -203,26 +282,9 @@ pub fn quick_value<'t, S: Store>(
     requires { IsScene scene }
     ensures { IfSome result (λ value. LookDoes (run_expr (frame_view scene.entry) (expr_view tree.now)) (gives (typed_view value)) (S.memory store.now)) }
 {
-    operated(store, scene, tree)
-}
-
-// The same.
-#[inline(always)]
-fn operated<'t, S: Store>(
-    store: &S,
-    scene: Scene<'t, '_>,
-    tree: &'t RExpr,
-) -> Option<TypedValue<'t>>
-    requires { IsScene scene }
-    ensures { IfSome result (λ value. LookDoes (run_expr (frame_view scene.entry) (expr_view tree.now)) (gives (typed_view value)) (S.memory store.now)) }
-{
-    match form_of(tree) {
-        Form::Two(operation, left, right) => pair_of_plain(store, scene, operation, left, right),
-        Form::Alone(_) => None,
-        Form::Place(_, _) => None,
-        Form::Call(_) => None,
-        Form::One(_, _) => None,
-        Form::Test(_, _, _) => None,
+    match quick_number(store, scene, tree) {
+        Some(one) => Some(value_of(one)),
+        None => None,
     }
 }
 
@@ -279,8 +341,8 @@ pub(crate) fn quick_test<'t, S: Store>(
     requires { IsScene scene }
     ensures { IfSome result (λ test. LookDoes (run_expr (frame_view scene.entry) (expr_view tree.now)) (gives (truth test)) (S.memory store.now)) }
 {
-    match operated(store, scene, tree) {
-        Some(value) => truth_in(value),
+    match operands_in(store, scene, tree) {
+        Some(all) => truth_given(store, all),
         None => None,
     }
 }
