@@ -25,7 +25,7 @@ half_by half r front false is less e =
     let least : half ≤ r = grind (arith, nat_tests) in
     (omega (arith, ints), omega (arith, ints))
 
-from_half_in_range : (half r : ℕ) (front : ℤ) → r < half + half → front ≡ pos 0 -ℤ pos half → (front ≤ℤ from_half half r) × (from_half half r <ℤ pos half)
+pub from_half_in_range : (half r : ℕ) (front : ℤ) → r < half + half → front ≡ pos 0 -ℤ pos half → (front ≤ℤ from_half half r) × (from_half half r <ℤ pos half)
 from_half_in_range half r front less e = half_by half r front (nat_lt r half) refl less e
 
 pub wrapped_in_range : (width : ℕ) (signed : Bool) (value : ℤ) → IsTrue (is_width width) → IsInRange (Whole width signed) (wrapped (Whole width signed) value)

@@ -1,0 +1,17 @@
+pub mod Accesses
+pub mod Begun
+pub mod BitStores
+pub mod Bits
+pub mod Fields
+pub mod Given
+pub mod GoesOn
+pub mod Loads
+pub mod Lvalues
+pub mod Memories
+pub mod Nodes
+pub mod Operators
+pub mod Outcomes
+pub mod Places
+pub mod Spots
+pub mod Stores
+pub mod Twos

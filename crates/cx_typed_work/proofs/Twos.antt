@@ -1,0 +1,148 @@
+-- What operators with two operands give as nodes whose operands are typed, and addresses.
+use Rattle.std.proofs.Common.{◌≡◌, ◌⊎◌, inl, inr, ℕ, Bool, true, false, Option, Some, None, IsSome, Result, Ok, Err, refl, sym, ap, subst, ◌∙◌}
+use Rattle.cr_base.specs.declared.refusal.Place.{Place}
+use Rattle.cr_base.specs.declared.scalar.Scalar.{Scalar}
+use Rattle.cr_base.specs.declared.scalar.Scalar.TheVariants.{Object}
+use Rattle.cx_core.specs.Conversions.{scalar_of, scalar_of_pointer, IsScalarType, IsPromoted}
+use Rattle.cx_core.specs.declared.expr.Op2.{Op2}
+use Rattle.cx_core.specs.declared.expr.Op2.TheVariants.{Multiply, Divide, Remainder, Add, Subtract, ShiftLeft, ShiftRight, Less, Greater, LessOrEqual, GreaterOrEqual, Equal, NotEqual, BitAnd, BitXor, BitOr}
+use Rattle.cx_core.specs.Trees.{CTy, ty, CTyForm, void, basic, enum_type, pointer, array, record_type, function, form_of_type, CTypes, CProgram, CExpr, expr, binary, type_of}
+use Rattle.cx_core.specs.Typing.{CHome, IsTyped, IsElementPointer, AreCommon, IsMoved, PointAlike, IsDifference, IsShift, AreNumbers, AreOrdered, AreEqual, IsBinaryOf}
+use Rattle.cx_mean.specs.Nodes.{typed_value}
+use Rattle.cx_mean.specs.Operands.{CWhy, CValue, scalar, COperand, scalar_value}
+use Rattle.cx_mean.specs.Settings.{setting_of}
+use Rattle.cx_mean.specs.Values.{CTyped, binary_value}
+use Rattle.mem_bytes.specs.Access.{and_then}
+use Rattle.mem_bytes.specs.declared.value.Value.{Value}
+use Rattle.mem_bytes.specs.Memory.{Blocks}
+use Rattle.cx_typed_values.proofs.BinaryValues.{binary_values}
+use Rattle.cx_typed_values.proofs.ScalarKinds.{promoted_kind}
+use Rattle.cx_typed_values.specs.Outcomes.{Comes}
+use Rattle.cx_typed_values.specs.Values.{IsScalarOf, AreObjects}
+use Rattle.cx_typed_work.proofs.Given.{value_given}
+use Rattle.cx_typed_work.proofs.Nodes.{scalar_comes}
+use Rattle.cx_typed_work.proofs.Operators.{some_of, integer_is_scalar}
+use Rattle.cx_typed_work.proofs.Outcomes.{comes_and}
+use Rattle.cx_typed_work.specs.Operands.{IsGivenBy, IsOperandOf}
+
+-- ---- operands of operators are scalar (6.5.5 to 6.5.12)
+
+record AreScalar (types : CTypes) (left right : CTy) : Type 0 where
+  left_is : IsScalarType types left
+  right_is : IsScalarType types right
+
+promoted_is_scalar : (types : CTypes) (type : CTy) → IsPromoted type → IsScalarType types type
+promoted_is_scalar types type is = some_of (scalar_of types (form_of_type type)) _ (promoted_kind types type is).kind_is
+
+element_is_scalar : (types : CTypes) (type : CTy) → IsElementPointer types type → IsScalarType types type
+element_is_scalar types (ty (pointer to) is_const) is = refl
+element_is_scalar types (ty void is_const) is = absurd is
+element_is_scalar types (ty (basic which) is_const) is = absurd is
+element_is_scalar types (ty (enum_type number) is_const) is = absurd is
+element_is_scalar types (ty (array element length) is_const) is = absurd is
+element_is_scalar types (ty (record_type number) is_const) is = absurd is
+element_is_scalar types (ty (function result params variadic) is_const) is = absurd is
+
+alike_left : (types : CTypes) (left right : CTy) → PointAlike types left right → IsScalarType types left
+alike_left types (ty (pointer to) is_const) right is = refl
+alike_left types (ty void is_const) right is = absurd is
+alike_left types (ty (basic which) is_const) right is = absurd is
+alike_left types (ty (enum_type number) is_const) right is = absurd is
+alike_left types (ty (array element length) is_const) right is = absurd is
+alike_left types (ty (record_type number) is_const) right is = absurd is
+alike_left types (ty (function result params variadic) is_const) right is = absurd is
+
+alike_right : (types : CTypes) (left right : CTy) → PointAlike types left right → IsScalarType types right
+alike_right types (ty (pointer to) is_const) (ty (pointer from) also) is = refl
+alike_right types (ty (pointer to) is_const) (ty void also) is = absurd is
+alike_right types (ty (pointer to) is_const) (ty (basic which) also) is = absurd is
+alike_right types (ty (pointer to) is_const) (ty (enum_type number) also) is = absurd is
+alike_right types (ty (pointer to) is_const) (ty (array element length) also) is = absurd is
+alike_right types (ty (pointer to) is_const) (ty (record_type number) also) is = absurd is
+alike_right types (ty (pointer to) is_const) (ty (function result params variadic) also) is = absurd is
+alike_right types (ty void is_const) right is = absurd is
+alike_right types (ty (basic which) is_const) right is = absurd is
+alike_right types (ty (enum_type number) is_const) right is = absurd is
+alike_right types (ty (array element length) is_const) right is = absurd is
+alike_right types (ty (record_type number) is_const) right is = absurd is
+alike_right types (ty (function result params variadic) is_const) right is = absurd is
+
+common_scalar : (types : CTypes) (type left right : CTy) → AreCommon type left right → AreScalar types left right
+common_scalar types type left right is =
+    let one = promoted_is_scalar types type is.promoted in
+    record { left_is = subst (IsScalarType types) (sym is.left_is) one; right_is = subst (IsScalarType types) (sym is.right_is) one }
+
+moved_scalar : (types : CTypes) (type pointer_type by : CTy) → IsMoved types type pointer_type by → AreScalar types pointer_type by
+moved_scalar types type pointer_type by is = record { left_is = element_is_scalar types pointer_type is.elements; right_is = integer_is_scalar types by is.integer }
+
+other_way : (types : CTypes) (left right : CTy) → AreScalar types left right → AreScalar types right left
+other_way types left right are = record { left_is = are.right_is; right_is = are.left_is }
+
+sum_scalar : (types : CTypes) (type left right : CTy) → AreCommon type left right ⊎ (IsMoved types type left right ⊎ IsMoved types type right left) → AreScalar types left right
+sum_scalar types type left right (inl is) = common_scalar types type left right is
+sum_scalar types type left right (inr (inl is)) = moved_scalar types type left right is
+sum_scalar types type left right (inr (inr is)) = other_way types right left (moved_scalar types type right left is)
+
+subtraction_scalar : (types : CTypes) (type left right : CTy) → AreCommon type left right ⊎ (IsMoved types type left right ⊎ IsDifference types type left right) → AreScalar types left right
+subtraction_scalar types type left right (inl is) = common_scalar types type left right is
+subtraction_scalar types type left right (inr (inl is)) = moved_scalar types type left right is
+subtraction_scalar types type left right (inr (inr is)) = record { left_is = element_is_scalar types left is.left_elements; right_is = element_is_scalar types right is.right_elements }
+
+shift_scalar : (types : CTypes) (type left right : CTy) → IsShift type left right → AreScalar types left right
+shift_scalar types type left right is =
+    record { left_is = subst (IsScalarType types) (sym is.left_is) (promoted_is_scalar types type is.promoted); right_is = promoted_is_scalar types right is.right_promoted }
+
+numbers_scalar : (types : CTypes) (type left right : CTy) → AreNumbers type left right → AreScalar types left right
+numbers_scalar types type left right is =
+    let one = promoted_is_scalar types left is.promoted in
+    record { left_is = one; right_is = subst (IsScalarType types) (sym is.right_is) one }
+
+order_scalar : (types : CTypes) (type left right : CTy) → AreNumbers type left right ⊎ AreOrdered types type left right → AreScalar types left right
+order_scalar types type left right (inl is) = numbers_scalar types type left right is
+order_scalar types type left right (inr is) = record { left_is = alike_left types left right is.alike; right_is = alike_right types left right is.alike }
+
+equality_scalar : (types : CTypes) (type left right : CTy) → AreNumbers type left right ⊎ AreEqual types type left right → AreScalar types left right
+equality_scalar types type left right (inl is) = numbers_scalar types type left right is
+equality_scalar types type left right (inr is) = record { left_is = alike_left types left right is.alike; right_is = alike_right types left right is.alike }
+
+both_scalar : (types : CTypes) (op : Op2) (type left right : CTy) → IsBinaryOf types op type left right → AreScalar types left right
+both_scalar types Multiply type left right is = common_scalar types type left right is
+both_scalar types Divide type left right is = common_scalar types type left right is
+both_scalar types Remainder type left right is = common_scalar types type left right is
+both_scalar types BitAnd type left right is = common_scalar types type left right is
+both_scalar types BitXor type left right is = common_scalar types type left right is
+both_scalar types BitOr type left right is = common_scalar types type left right is
+both_scalar types Add type left right is = sum_scalar types type left right is
+both_scalar types Subtract type left right is = subtraction_scalar types type left right is
+both_scalar types ShiftLeft type left right is = shift_scalar types type left right is
+both_scalar types ShiftRight type left right is = shift_scalar types type left right is
+both_scalar types Less type left right is = order_scalar types type left right is
+both_scalar types Greater type left right is = order_scalar types type left right is
+both_scalar types LessOrEqual type left right is = order_scalar types type left right is
+both_scalar types GreaterOrEqual type left right is = order_scalar types type left right is
+both_scalar types Equal type left right is = equality_scalar types type left right is
+both_scalar types NotEqual type left right is = equality_scalar types type left right is
+
+-- ---- the node
+
+-- an operand with its type
+typed_comes : (home : CHome) (node : CExpr) (operand : COperand) → IsTyped home node → IsScalarType home.program.types (type_of node) → IsOperandOf home node operand
+    → Comes (λ (one : CTyped). (one.type ≡ type_of node) × IsScalarOf home.program.types (type_of node) one.value) (typed_value operand)
+typed_comes home node operand is scalar_is given =
+    comes_and (IsScalarOf home.program.types (type_of node)) (λ (one : CTyped). (one.type ≡ type_of node) × IsScalarOf home.program.types (type_of node) one.value) (scalar_value operand.value) _
+    (scalar_comes home.program node operand.value scalar_is (value_given home node operand.value is given.given)) (λ value fits. (given.type_is, fits))
+
+pub binary_comes : (home : CHome) (type : CTy) (place : Place) (op : Op2) (left right : CExpr) (blocks : Blocks) (one other : COperand) → AreObjects blocks → IsTyped home (expr type place (binary op left right))
+    → IsOperandOf home left one → IsOperandOf home right other
+    → Comes (IsGivenBy home (expr type place (binary op left right)))
+    (and_then (typed_value one) (λ first. and_then (typed_value other) (λ second. and_then (binary_value (setting_of home.program) op type blocks first second) (λ new. Ok (scalar new)))))
+binary_comes home type place op left right blocks one other objects is first second =
+    let are = both_scalar home.program.types op type (type_of left) (type_of right) is.1.2 in
+    let Goal = IsGivenBy home (expr type place (binary op left right)) in
+    comes_and (λ (t : CTyped). (t.type ≡ type_of left) × IsScalarOf home.program.types (type_of left) t.value) Goal (typed_value one) _ (typed_comes home left one is.1.0 are.left_is first) (λ a fits.
+    comes_and (λ (t : CTyped). (t.type ≡ type_of right) × IsScalarOf home.program.types (type_of right) t.value) Goal (typed_value other) _ (typed_comes home right other is.1.1 are.right_is second) (λ b good.
+    comes_and (IsScalarOf home.program.types type) Goal (binary_value (setting_of home.program) op type blocks a b) _
+    (subst (λ l. Comes (IsScalarOf home.program.types type) (binary_value (setting_of home.program) op type blocks (record { type = l; value = a.value }) b)) (sym fits.0)
+    (subst (λ r. Comes (IsScalarOf home.program.types type) (binary_value (setting_of home.program) op type blocks (record { type = type_of left; value = a.value }) (record { type = r; value = b.value }))) (sym good.0)
+    (binary_values home.program op type (type_of left) (type_of right) blocks a.value b.value objects is.1.2 fits.1 good.1)))
+    (λ new done. inr (is, inl done))))
