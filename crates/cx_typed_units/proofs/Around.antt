@@ -94,6 +94,7 @@ module _ (opens : List ℕ) (before : CScope) (good : IsGood opens before) (inne
     things = leads.things;
     orderly = back_orderly;
     statics = leads.statics;
+    keeps = leads.keeps;
   }
 
   pub back_none : DeclaresNone before back
@@ -152,6 +153,7 @@ module _ (opens : List ℕ) where
     things = leads.things;
     orderly = λ held. orderly_labels opens labels after (leads.orderly held);
     statics = leads.statics;
+    keeps = leads.keeps;
   }
 
   pub leads_from_labels : (labels : CLabels) (before after : CScope) → Leads opens (with_labels labels before) after → Leads opens before after
@@ -171,6 +173,7 @@ module _ (opens : List ℕ) where
     things = leads.things;
     orderly = λ held. leads.orderly (orderly_labels opens labels before held);
     statics = leads.statics;
+    keeps = leads.keeps;
   }
 
   pub backs_labels : (labels : CLabels) (home : CHome) (before after : CScope) → Backs home opens before (with_labels labels after) → Backs home opens before after

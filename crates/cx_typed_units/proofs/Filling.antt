@@ -33,6 +33,7 @@ use Rattle.cx_typed.specs.Scopes.{Serves}
 use Rattle.cx_typed.specs.Unbroken.{IsUnbroken}
 use Rattle.cx_typed.specs.Walked.{IsGood, Ends}
 use Rattle.cx_typed_units.proofs.Begun.{IsBegunAs}
+use Rattle.cx_typed_units.proofs.DeclarationAccounts.{plain_accounted}
 use Rattle.cx_typed_units.proofs.Declared.{plain_declared, begun_declared}
 use Rattle.cx_typed_units.proofs.Entities.{linked_number}
 use Rattle.cx_typed_units.proofs.Fine.{meant_by, static_puts, IsFine, begun_is, unclashed, fine_is, form_is}
@@ -41,6 +42,7 @@ use Rattle.cx_typed_units.proofs.Redeclared.{redeclare_first}
 use Rattle.cx_typed_units.proofs.RestNodes.{StaysTo}
 use Rattle.cx_typed_units.proofs.RestTrees.{kept_initialiser_walk}
 use Rattle.cx_typed_units.proofs.Unfilled.{complete_object, size_said, own_object, own_found, meaning_by, IsThereHere}
+use Rattle.cx_typed_units.specs.Account.{account_of, IsAccounted}
 use Rattle.cx_typed_units.specs.Rest.{CRest}
 use Rattle.cx_typed_units.specs.Statements.{IsDeclaration}
 use Rattle.cx_typed_units.specs.Stretches.{IsOrderly, Leads, Backs, IsHeldAt, AreIn}
@@ -177,6 +179,11 @@ module _ (opens : List ℕ) (place : SpecsPlace) (outside : is_outside place ≡
         (subst (λ b. IsBegunAs opens scope name (meant_by false b (is_linked one.linkage) one scope) middle) kind.object
         (subst (λ b. IsBegunAs opens scope name (meant_by b (is_function one.type) (is_linked one.linkage) one scope) middle) kind.typedef (begun_is opens scope good orderly one fine))))
 
+    accounted_so : (pending : Option (List ℕ)) → IsAccounted opens pending (account_of scope) → IsAccounted opens pending (account_of middle)
+    accounted_so pending held =
+        plain_accounted opens pending scope orderly one fine held (λ linked. absurd (let h : false ≡ true = ap is_linked (sym kind.nothing) ∙ linked in cc))
+        (λ t f linked. absurd (let h : false ≡ true = ap is_linked (sym kind.nothing) ∙ linked in cc))
+
     own_so : IsOwn scope name static middle (own_object one scope)
     own_so = record {
       at = own_found one scope kind.typedef kind.object (ap is_linked kind.nothing);
@@ -209,24 +216,24 @@ module _ (opens : List ℕ) (place : SpecsPlace) (outside : is_outside place ≡
 
     good_by : (st : Bool) → has_storage keyword.Static specs ≡ st → IsGood opens (end_by st)
     good_by st e =
-        behind_good opens scope orderly name one.type reg st whole puts middle later begun_so (own_object one scope) (own_by st e) held.initialised.stored.passes held.stays held.initialised.stored.good whole_known
+        behind_good opens scope orderly name one.type reg st whole puts middle later begun_so (own_object one scope) (own_by st e) accounted_so held.initialised.stored.passes held.stays held.initialised.stored.good whole_known
         (λ types. completed_goes types one.type stored)
 
     leads_by : (st : Bool) → has_storage keyword.Static specs ≡ st → Leads opens scope (end_by st)
     leads_by st e =
-        behind_leads opens scope orderly name one.type reg st whole puts middle later begun_so (own_object one scope) (own_by st e) held.initialised.stored.passes held.stays held.initialised.stored.good whole_known
+        behind_leads opens scope orderly name one.type reg st whole puts middle later begun_so (own_object one scope) (own_by st e) accounted_so held.initialised.stored.passes held.stays held.initialised.stored.good whole_known
         (λ types. completed_goes types one.type stored)
 
     held_by_all : (st : Bool) (e : has_storage keyword.Static specs ≡ st) (home : CHome) → Backs home opens scope (end_by st) → IsHeldAt home scope.declared
         → ((found : CTy) → IsThere home found (stored_in st whole puts (own_object one scope))) → IsHeldAt home (end_by st).declared
     held_by_all st e home backs known there =
-        behind_held opens scope orderly name one.type reg st whole puts middle later begun_so (own_object one scope) (own_by st e) held.initialised.stored.passes held.stays held.initialised.stored.good whole_known
+        behind_held opens scope orderly name one.type reg st whole puts middle later begun_so (own_object one scope) (own_by st e) accounted_so held.initialised.stored.passes held.stays held.initialised.stored.good whole_known
         (λ types. completed_goes types one.type stored) home backs known there
 
     serves_by : (st : Bool) (e : has_storage keyword.Static specs ≡ st) (home : CHome) → Backs home opens scope (end_by st) → IsHeldAt home scope.declared
         → IsThere home one.type (stored_in st whole puts (own_object one scope)) → AreIn home.scope (literals_since middle later) → Serves home opens middle later
     serves_by st e home backs known there literals =
-        init_serves opens scope orderly name one.type reg st whole puts middle later begun_so (own_object one scope) (own_by st e) held.initialised.stored.passes held.stays held.initialised.stored.good whole_known
+        init_serves opens scope orderly name one.type reg st whole puts middle later begun_so (own_object one scope) (own_by st e) accounted_so held.initialised.stored.passes held.stays held.initialised.stored.good whole_known
         (λ types. completed_goes types one.type stored) home backs known there literals
 
     body_same : later.body ≡ scope.body
@@ -243,7 +250,7 @@ module _ (opens : List ℕ) (place : SpecsPlace) (outside : is_outside place ≡
     ends_by at true e = plain_declared opens scope (end_by true) (good_by true e) (leads_by true e) body_same (λ home backs known. held_by_all true e home backs known (λ found. tt))
     ends_by at false e =
         begun_declared opens scope (end_by false) (good_by false e) (leads_by false e) body_same at (Some puts) (stored_in false whole puts (own_object one scope)) (length scope.objects) (omega arith)
-        (final_at opens scope orderly name one.type reg false whole puts middle later begun_so (own_object one scope) (own_by false e) held.initialised.stored.passes held.stays held.initialised.stored.good whole_known
+        (final_at opens scope orderly name one.type reg false whole puts middle later begun_so (own_object one scope) (own_by false e) accounted_so held.initialised.stored.passes held.stays held.initialised.stored.good whole_known
         (λ types. completed_goes types one.type stored))
         refl (ap static_puts e) refl refl size
         (λ home backs known contains. held_by_all false e home backs known (λ found. there_own home found e contains))

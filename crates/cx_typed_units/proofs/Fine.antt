@@ -21,20 +21,20 @@ use Rattle.cx_typed_units.specs.Stretches.{IsOrderly}
 
 -- ---- what is declared, as `Declare` says it
 
-abbrev tentative_at : Bool → ℕ → Option ℕ
+abbrev pub tentative_at : Bool → ℕ → Option ℕ
 tentative_at true line = Some line
 tentative_at false line = None
 
-abbrev does_by : Bool → CDoes
+abbrev pub does_by : Bool → CDoes
 does_by true = defines
 does_by false = declares
 
-abbrev is_external : Linkage → Bool
+abbrev pub is_external : Linkage → Bool
 is_external External = true
 is_external Internal = false
 is_external Nothing = false
 
-abbrev told_type : CDeclaring → Option CThing → CTy
+abbrev pub told_type : CDeclaring → Option CThing → CTy
 told_type one None = one.type
 told_type one (Some thing) = thing.type
 
@@ -56,7 +56,7 @@ entity_by typedef is_fun linked one scope =
     (tentative_at (is_outside one.where_stands && not (one.has_init || has_storage keyword.Extern one.specs)) one.line) (thing_named one.name scope.things) scope
     else with_next_object (new_object scope one.name one.type Nothing (static_puts (has_storage keyword.Static one.specs))) scope
 
-abbrev mention_by : CDeclaring → CScope → CMention
+abbrev pub mention_by : CDeclaring → CScope → CMention
 mention_by one scope =
     mention_of scope one.name one.line (told_type one (thing_named one.name scope.things)) one.linkage
     (does_by (not (is_function one.type) && (is_outside one.where_stands && (one.has_init || not (has_storage keyword.Extern one.specs)))))

@@ -32,7 +32,9 @@ use Rattle.cx_typed_units.proofs.Joins.{agree_itself}
 use Rattle.cx_typed_units.proofs.Redeclared.{redeclare_first, IsRetyped, redeclared_front, redeclared_means, redeclared_tags}
 use Rattle.cx_typed_units.proofs.RestNodes.{StaysTo}
 use Rattle.cx_typed_units.proofs.Steps.{mapped_at, length_mapped, changed_static, changed_own, changed_numbers}
-use Rattle.cx_typed_units.proofs.Stretches.{passes_declare, leads_on, rest_leads}
+use Rattle.cx_typed_units.proofs.StoredAccounts.{stored_accounted}
+use Rattle.cx_typed_units.proofs.Stretches.{Steps, steps_on, steps_of, passes_declare, rest_leads}
+use Rattle.cx_typed_units.specs.Account.{account_of, IsAccounted}
 use Rattle.cx_typed_units.specs.Rest.{CRest}
 use Rattle.cx_typed_units.specs.Stretches.{IsOrderly, Leads, Backs, IsHeldAt, AreIn}
 
@@ -105,6 +107,14 @@ stored_linkage : (is_static : Bool) (type : CTy) (puts : CPuts) (one : CObject) 
 stored_linkage true type puts one = refl
 stored_linkage false type puts one = refl
 
+stored_unit : (is_static : Bool) (type : CTy) (puts : CPuts) (one : CObject) → (stored_in is_static type puts one).unit ≡ one.unit
+stored_unit true type puts one = refl
+stored_unit false type puts one = refl
+
+stored_text : (is_static : Bool) (type : CTy) (puts : CPuts) (one : CObject) → (stored_in is_static type puts one).is_text ≡ one.is_text
+stored_text true type puts one = refl
+stored_text false type puts one = refl
+
 stored_static : (is_static : Bool) (type : CTy) (puts : CPuts) (one : CObject) → is_some one.puts ≡ true → is_some (stored_in is_static type puts one).puts ≡ true
 stored_static true type puts one is = refl
 stored_static false type puts one is = is
@@ -141,6 +151,7 @@ pub record IsOwn (scope : CScope) (name : List ℕ) (is_static : Bool) (middle :
 
 module _ (opens : List ℕ) (scope : CScope) (orderly : IsOrderly opens scope) (name : List ℕ) (type : CTy) (is_register is_static : Bool) (whole : CTy) (puts : CPuts) (middle later : CScope)
     (begun : IsBegunAs opens scope name (an_object scope.next_object type is_register Nothing) middle) (own : CObject) (own_is : IsOwn scope name is_static middle own)
+    (accounted : (pending : Option (List ℕ)) → IsAccounted opens pending (account_of scope) → IsAccounted opens pending (account_of middle))
     (passes : Passes opens middle later) (stays : StaysTo middle later) (good : IsGood opens later) (known : IsKnownWhole opens later.types later.unit whole)
     (goes : (types : CTypes) → AreCompatible types type whole) where
   abbrev change : CObject → CObject
@@ -153,10 +164,10 @@ module _ (opens : List ℕ) (scope : CScope) (orderly : IsOrderly opens scope) (
   final = stored_in is_static whole puts own
 
   init_leads : Leads opens middle later
-  init_leads = rest_leads opens middle later (passes_declare opens middle later passes) passes.declared stays
+  init_leads = rest_leads opens middle later (passes_declare opens middle later passes) passes.declared stays passes.numbers
 
-  all_leads : Leads opens scope later
-  all_leads = leads_on opens scope middle later begun.leads init_leads
+  all_leads : Steps opens scope later
+  all_leads = steps_on opens scope middle later begun.leads (steps_of opens middle later init_leads)
 
   objects_are : later.objects ≡ middle.objects
   objects_are = ap {A = CRest} (λ one. one.objects) stays.rest_is
@@ -240,6 +251,10 @@ module _ (opens : List ℕ) (scope : CScope) (orderly : IsOrderly opens scope) (
     statics = λ index is.
         changed_static opens later scope.next_object (stored_in is_static whole puts) (stored_number is_static whole puts) (stored_linkage is_static whole puts) (stored_static is_static whole puts) later.literals
         index later.objects (all_leads.statics index is);
+    keeps = λ pending held.
+        stored_accounted opens pending (account_of later) (init_leads.keeps pending (accounted pending held)) (λ other one there. ((all_leads.orderly orderly).things other one there).linked) (length scope.objects) own
+        (ap (λ objects. slice_get objects (length scope.objects)) objects_are ∙ own_is.at) own_is.nothing scope.next_object own_is.number_is (stored_in is_static whole puts) (stored_number is_static whole puts)
+        (stored_linkage is_static whole puts) (stored_unit is_static whole puts) (stored_text is_static whole puts) whole (stored_type is_static whole puts) known.known known.object;
   }
 
   pub behind_good : IsGood opens behind
@@ -298,7 +313,7 @@ module _ (opens : List ℕ) (scope : CScope) (orderly : IsOrderly opens scope) (
         }
 
     pub init_serves : IsHeldAt home scope.declared → IsThere home type final → AreIn home.scope (literals_since middle later) → Serves home opens middle later
-    init_serves held there inside = serves_of home opens middle later middle_backs (middle_held held there) inside
+    init_serves held there inside = serves_of home opens middle later middle_backs stays.defined (middle_held held there) inside
 
     pub behind_held : IsHeldAt home scope.declared → ((found : CTy) → IsThere home found final) → IsHeldAt home behind.declared
     behind_held held there other found is = held_by other found (redeclared_means name other whole later.declared found is)

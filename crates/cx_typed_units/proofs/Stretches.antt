@@ -2,6 +2,7 @@
 use Rattle.std.proofs.Common.{◌≡◌, ℕ, ◌≤◌, ◌<◌, Bool, true, false, List, [], ◌∷◌, ◌++◌, length, Option, None, Some, slice_get, refl, sym, ap, ◌∙◌, subst, arith}
 use Rattle.std.specs.Prelude.{IsSome, IfSome}
 use Rattle.cx_core.specs.declared.program.Linkage.{Linkage}
+use Rattle.cx_core.specs.declared.program.Linkage.TheVariants.{Nothing}
 use Rattle.cx_core.specs.Compatible.{AreCompatible}
 use Rattle.cx_core.specs.Trees.{CTy, CTypes, CObject, CProgram}
 use Rattle.cx_core.specs.Typing.{CHome, CCallee, object_with, callee_with}
@@ -13,10 +14,13 @@ use Rattle.cx_typed.proofs.Scopes.{longer, grows_not, grows_on}
 use Rattle.cx_typed.proofs.Walked.{known_stays}
 use Rattle.cx_typed.specs.Growth.{Grows}
 use Rattle.cx_typed.specs.Operands.{IsKnownType}
-use Rattle.cx_typed.specs.Scopes.{Passes, CRest as TypedRest}
+use Rattle.cx_typed.specs.Scopes.{Passes, TakesNumbers, CRest as TypedRest}
+use Rattle.cx_typed_units.proofs.Accounted.{rest_accounted}
 use Rattle.cx_typed_units.proofs.RestNodes.{StaysTo}
 use Rattle.cx_typed_units.specs.Rest.{CRest}
-use Rattle.cx_typed_units.specs.Stretches.{Fills, IsSameThing, IsKept, IsThing, IsThingOf, IsKnownThing, IsOrderly, Continues, Leads, DeclaresNone, IsLinkedObject, IsLinkedFunction, IsLinkedBy, Backs}
+use Rattle.cx_typed_units.specs.Account.{account_of, IsAccounted}
+use Rattle.cx_typed_units.specs.Fills.{Fills}
+use Rattle.cx_typed_units.specs.Stretches.{IsSameThing, IsKept, IsThing, IsThingOf, IsKnownThing, IsOrderly, Continues, Leads, DeclaresNone, IsLinkedObject, IsLinkedFunction, IsLinkedBy, Backs}
 
 -- what an expression leaves as it is, as expressions say it
 abbrev typed_rest : CRest → TypedRest
@@ -42,6 +46,17 @@ abbrev pub home_in : List ℕ → CHome → CHome
 home_in objects home = record home { scope = objects ++ home.scope }
 
 -- ---- what is declared
+
+-- what a step of a declaration does to a scope: as `Leads`, but for what the unit keeps account of, which is right again behind the declaration
+pub record Steps (opens : List ℕ) (before after : CScope) : Type 0 where
+  pub declares : Continues opens before after
+  pub begins_is : after.begins ≡ before.begins
+  pub in_function_is : after.in_function ≡ before.in_function
+  pub objects_more : length before.objects ≤ length after.objects
+  pub objects : (number : ℕ) (one : CObject) → one.linkage ≡ Nothing → slice_get before.objects number ≡ Some one → slice_get after.objects number ≡ Some one
+  pub things : (name : List ℕ) (one : CThing) → thing_named name before.things ≡ Some one → IsKept opens after.types one (thing_named name after.things)
+  pub orderly : IsOrderly opens before → IsOrderly opens after
+  pub statics : (number : ℕ) → is_static_object before number ≡ true → is_static_object after number ≡ true
 
 module _ (opens : List ℕ) where
   pub declares_itself : (scope : CScope) → Continues opens scope scope
@@ -96,8 +111,8 @@ module _ (opens : List ℕ) where
 
   -- ---- stretches
 
-  pub leads_itself : (scope : CScope) → Leads opens scope scope
-  leads_itself scope = record {
+  pub steps_itself : (scope : CScope) → Steps opens scope scope
+  steps_itself scope = record {
     declares = declares_itself scope;
     begins_is = refl;
     in_function_is = refl;
@@ -108,15 +123,15 @@ module _ (opens : List ℕ) where
     statics = λ number is. is;
   }
 
-  things_on : (before middle after : CScope) → Leads opens before middle → Leads opens middle after → (name : List ℕ) (one : CThing) → thing_named name before.things ≡ Some one
+  things_on : (before middle after : CScope) → Steps opens before middle → Steps opens middle after → (name : List ℕ) (one : CThing) → thing_named name before.things ≡ Some one
       → IsKept opens after.types one (thing_named name after.things)
   things_on before middle after first second name one is =
       let here = found_kept middle.types one (thing_named name middle.things) (first.things name one is) in
       let there = found_kept after.types here.0 (thing_named name after.things) (second.things name here.0 here.1) in
       kept_is after.types one there.0 (thing_named name after.things) there.1 (same_on middle.types after.types one here.0 there.0 second.declares.grows here.2 there.2)
 
-  pub leads_on : (before middle after : CScope) → Leads opens before middle → Leads opens middle after → Leads opens before after
-  leads_on before middle after first second = record {
+  pub steps_on : (before middle after : CScope) → Steps opens before middle → Steps opens middle after → Steps opens before after
+  steps_on before middle after first second = record {
     declares = declares_on before middle after first.declares second.declares;
     begins_is = second.begins_is ∙ first.begins_is;
     in_function_is = second.in_function_is ∙ first.in_function_is;
@@ -126,6 +141,39 @@ module _ (opens : List ℕ) where
     orderly = λ held. second.orderly (first.orderly held);
     statics = λ number is. second.statics number (first.statics number is);
   }
+
+  pub steps_of : (before after : CScope) → Leads opens before after → Steps opens before after
+  steps_of before after leads = record {
+    declares = leads.declares;
+    begins_is = leads.begins_is;
+    in_function_is = leads.in_function_is;
+    objects_more = leads.objects_more;
+    objects = leads.objects;
+    things = leads.things;
+    orderly = leads.orderly;
+    statics = leads.statics;
+  }
+
+  pub leads_by : (before after : CScope) → Steps opens before after
+      → ((pending : Option (List ℕ)) → IsAccounted opens pending (account_of before) → IsAccounted opens pending (account_of after)) → Leads opens before after
+  leads_by before after steps keeps = record {
+    declares = steps.declares;
+    begins_is = steps.begins_is;
+    in_function_is = steps.in_function_is;
+    objects_more = steps.objects_more;
+    objects = steps.objects;
+    things = steps.things;
+    orderly = steps.orderly;
+    statics = steps.statics;
+    keeps = keeps;
+  }
+
+  pub leads_itself : (scope : CScope) → Leads opens scope scope
+  leads_itself scope = leads_by scope scope (steps_itself scope) (λ pending held. held)
+
+  pub leads_on : (before middle after : CScope) → Leads opens before middle → Leads opens middle after → Leads opens before after
+  leads_on before middle after first second =
+      leads_by before after (steps_on before middle after (steps_of before middle first) (steps_of middle after second)) (λ pending held. second.keeps pending (first.keeps pending held))
 
   -- ---- names with linkage in a later scope
 
@@ -159,7 +207,7 @@ module _ (opens : List ℕ) where
       ))
 
   -- behind an expression, a type or an initialiser
-  module _ (before after : CScope) (declares : Continues opens before after) (none : DeclaresNone before after) (stays : StaysTo before after) where
+  module _ (before after : CScope) (declares : Continues opens before after) (none : DeclaresNone before after) (stays : StaysTo before after) (numbers : TakesNumbers before after) where
     rest_things : (name : List ℕ) (one : CThing) → thing_named name before.things ≡ Some one → IsKept opens after.types one (thing_named name after.things)
     rest_things name one is =
         kept_is after.types one one (thing_named name after.things) (subst (λ (other : CRest). thing_named name other.things ≡ Some one) (sym stays.rest_is) is) (same_itself after.types one)
@@ -202,6 +250,7 @@ module _ (opens : List ℕ) where
       things = rest_things;
       orderly = rest_orderly;
       statics = rest_statics;
+      keeps = λ pending held. rest_accounted opens pending before after declares stays numbers held;
     }
 
   -- ---- what a program has of them

@@ -1,5 +1,5 @@
 -- The walk over declarators without initialisers in blocks (ISO C99, 6.7).
-use Rattle.std.proofs.Common.{◌≡◌, ℕ, ◌≤◌, Bool, true, false, not, ◌&&◌, ◌||◌, if◌then◌else◌, List, [], ◌∷◌, ◌++◌, length, Option, None, Some, is_some, slice_get, refl, sym, ap, ◌∙◌, subst, arith}
+use Rattle.std.proofs.Common.{◌≡◌, ℕ, nat_lt, ◌≤◌, Bool, true, false, not, ◌&&◌, ◌||◌, if◌then◌else◌, List, [], ◌∷◌, ◌++◌, length, Option, None, Some, is_some, slice_get, refl, sym, ap, ◌∙◌, subst, arith}
 use Rattle.std.specs.Prelude.{IsSome, IfSome}
 use Rattle.std.specs.List.{Contains}
 use Rattle.cr_base.specs.declared.refusal.Place.{Place as TextPlace}
@@ -13,7 +13,7 @@ use Rattle.cx_core.specs.ValidTypes.{IsComplete}
 use Rattle.cx_lex.specs.declared.token.Keyword.TheVariants as keyword
 use Rattle.cx_rules.proofs.UnitNodesAgree.{s_init_walk, s_declared_ends, s_named_walk}
 use Rattle.cx_rules.specs.declared.kinds.SpecsPlace.{SpecsPlace}
-use Rattle.cx_rules.specs.Declare.{is_linked, is_typedef, linkage_of, thing_named, CBegun, CDeclaring, declaring, begun_as, with_declaration}
+use Rattle.cx_rules.specs.Declare.{is_linked, is_outside, is_typedef, linkage_of, thing_named, CBegun, CDeclaring, declaring, begun_as, with_declaration}
 use Rattle.cx_rules.specs.Initial.{CStored}
 use Rattle.cx_rules.specs.Nodes.{CNode, declares_node}
 use Rattle.cx_rules.specs.Pieces.{at_line}
@@ -31,9 +31,13 @@ use Rattle.cx_typed.specs.Scopes.{IsHeld, IsHeldObject}
 use Rattle.cx_typed.specs.Unbroken.{IsUnbroken}
 use Rattle.cx_typed.specs.Walked.{IsGood, Ends}
 use Rattle.cx_typed_units.proofs.Begun.{IsBegunAs, function_form}
+use Rattle.cx_typed_units.proofs.DeclarationAccounts.{IsAccountable, plain_accounted}
 use Rattle.cx_typed_units.proofs.Declared.{object_held, function_held, one_more_held, only_literals, plain_declared, begun_declared}
 use Rattle.cx_typed_units.proofs.Entities.{new_object, linked_number}
 use Rattle.cx_typed_units.proofs.Fine.{meant_by, static_puts, entity_by, declared_by, declaration_is, told_by, IsFine, no_linkage, begun_is, unclashed, fine_is}
+use Rattle.cx_typed_units.proofs.FirstInternal.{first_internal}
+use Rattle.cx_typed_units.proofs.Stretches.{leads_by}
+use Rattle.cx_typed_units.specs.Account.{account_of, IsAccounted}
 use Rattle.cx_typed_units.specs.Statements.{IsDeclaration}
 use Rattle.cx_typed_units.specs.Stretches.{IsOrderly, Leads, Backs, IsHeldAt}
 
@@ -94,12 +98,24 @@ static_there home type scope one s = subst (λ b. IsThereHere home type (own_obj
 own_there : (home : CHome) (type : CTy) (scope : CScope) (one : CDeclaring) → has_storage keyword.Static one.specs ≡ false → Contains home.scope scope.next_object → IsThere home type (own_object one scope)
 own_there home type scope one s contains = subst (λ b. IsThereHere home type (own_object one scope) Nothing (static_puts b)) (sym s) contains
 
-module _ (opens : List ℕ) (scope : CScope) (good : IsGood opens scope) (orderly : IsOrderly opens scope) (inside : scope.in_function ≡ true) (one : CDeclaring) (fine : IsFine opens scope one) where
+module _ (opens : List ℕ) (scope : CScope) (good : IsGood opens scope) (orderly : IsOrderly opens scope) (inside : scope.in_function ≡ true) (one : CDeclaring) (fine : IsFine opens scope one)
+    (unfilled : one.has_init ≡ false)
+    (internal : one.linkage ≡ Internal → thing_named one.name scope.things ≡ None → (is_outside one.where_stands ≡ true) × (has_storage keyword.Extern one.specs ≡ false)) where
   abbrev after : CScope
   after = with_declaration one scope
 
   made : IsBegunAs opens scope one.name (meant_by (is_typedef one.specs) (is_function one.type) (is_linked one.linkage) one scope) after
   made = begun_is opens scope good orderly one fine
+
+  able : (pending : Option (List ℕ)) → IsAccountable pending scope one
+  able pending = record {
+    alone = λ is. absurd (let h : false ≡ true = sym unfilled ∙ is in cc);
+    outside = λ is. absurd (let h : false ≡ true = sym unfilled ∙ is in cc);
+    internal = internal;
+  }
+
+  made_leads : Leads opens scope after
+  made_leads = leads_by opens scope after made.leads (λ pending held. plain_accounted opens pending scope orderly one fine held (λ linked. unfilled) (λ t f l. able pending))
 
   made_as : (typedef is_fun linked : Bool) → is_typedef one.specs ≡ typedef → is_function one.type ≡ is_fun → is_linked one.linkage ≡ linked
       → IsBegunAs opens scope one.name (meant_by typedef is_fun linked one scope) after
@@ -149,16 +165,16 @@ module _ (opens : List ℕ) (scope : CScope) (good : IsGood opens scope) (orderl
       → has_storage keyword.Static one.specs ≡ static → (typedef ≡ false → is_fun ≡ false → linked ≡ false → IsComplete after.types one.type)
       → IsDeclaration opens scope (meaning_by true linked static typedef is_fun at false puts (if linked then linked_number scope.next_object (thing_named one.name scope.things) else scope.next_object) (literals_since scope after)) after
   unfilled_by at puts true is_fun linked static t f l s complete =
-      plain_either at false (not (linked || static)) puts (plain_declared opens scope after made.good made.leads made.body_is (λ home backs known. held_after true is_fun linked t f l home backs (λ x. absurd cc) known))
+      plain_either at false (not (linked || static)) puts (plain_declared opens scope after made.good made_leads made.body_is (λ home backs known. held_after true is_fun linked t f l home backs (λ x. absurd cc) known))
   unfilled_by at puts false true linked static t f l s complete =
-      plain_either at false (not (linked || static)) puts (plain_declared opens scope after made.good made.leads made.body_is (λ home backs known. held_after false true linked t f l home backs (λ x y. absurd cc) known))
+      plain_either at false (not (linked || static)) puts (plain_declared opens scope after made.good made_leads made.body_is (λ home backs known. held_after false true linked t f l home backs (λ x y. absurd cc) known))
   unfilled_by at puts false false true static t f l s complete =
-      plain_declared opens scope after made.good made.leads made.body_is (λ home backs known. held_after false false true t f l home backs (λ x y z. absurd cc) known)
+      plain_declared opens scope after made.good made_leads made.body_is (λ home backs known. held_after false false true t f l home backs (λ x y z. absurd cc) known)
   unfilled_by at puts false false false true t f l s complete =
-      plain_declared opens scope after made.good made.leads made.body_is
+      plain_declared opens scope after made.good made_leads made.body_is
       (λ home backs known. held_after false false false t f l home backs (λ x y z. static_there home one.type scope one s) known)
   unfilled_by at puts false false false false t f l s complete =
-      begun_declared opens scope after made.good made.leads made.body_is at None (own_object one scope) (length scope.objects) (omega arith) (own_found one scope t f l) refl
+      begun_declared opens scope after made.good made_leads made.body_is at None (own_object one scope) (length scope.objects) (omega arith) (own_found one scope t f l) refl
       (ap static_puts s) refl refl (complete refl refl refl)
       (λ home backs known contains. held_after false false false t f l home backs (λ x y z. own_there home one.type scope one s contains) known)
       (λ home backs known contains literals. tt)
@@ -181,7 +197,7 @@ unlinked_is Internal is = absurd cc
 unlinked_is Nothing is = refl
 
 module _ (opens : List ℕ) (place : SpecsPlace) (specs : CSpecs) (line : ℕ) (written : CTy) (name : List ℕ) (scope : CScope) (good : IsGood opens scope) (orderly : IsOrderly opens scope)
-    (inside : scope.in_function ≡ true) (known : IsKnownType opens scope.types scope.unit written) where
+    (inside : scope.in_function ≡ true) (known : IsKnownType opens scope.types scope.unit written) (few : nat_lt 1 (length specs.storage) ≡ false) where
   abbrev one : CDeclaring
   one = declaring scope place specs name line written false
 
@@ -207,12 +223,12 @@ module _ (opens : List ℕ) (place : SpecsPlace) (specs : CSpecs) (line : ℕ) (
       (meaning_by b (is_linked one.linkage) (has_storage keyword.Static specs) (is_typedef specs) (is_function one.type) at false puts
       (if is_linked one.linkage then linked_number scope.next_object (thing_named name scope.things) else scope.next_object) (literals_since scope behind)) behind)
       (sym (begun.leads.in_function_is ∙ inside))
-      (unfilled_by opens scope good orderly inside one fine at puts (is_typedef specs) (is_function one.type) (is_linked one.linkage) (has_storage keyword.Static specs) refl refl refl refl
+      (unfilled_by opens scope good orderly inside one fine refl (λ internal none. first_internal opens scope orderly name none place specs written few internal) at puts (is_typedef specs) (is_function one.type) (is_linked one.linkage) (has_storage keyword.Static specs) refl refl refl refl
       (λ typedef no_fun no_link. complete_object behind.types one.type no_fun ((said typedef).sized (unlinked_is one.linkage no_link)) unbroken.m3))
 
 pub unfilled_goes : (opens : List ℕ) (place : SpecsPlace) (specs : CSpecs) (line : ℕ) (written : CTy) (shape : CShape) (scope : CScope) → IsGood opens scope → IsOrderly opens scope → scope.in_function ≡ true
-    → IsKnownType opens scope.types scope.unit written → Ends (s_named_walk place specs line written shape None) scope (IsDeclaration opens scope)
-unfilled_goes opens place specs line written shape scope good orderly inside known =
+    → IsKnownType opens scope.types scope.unit written → nat_lt 1 (length specs.storage) ≡ false → Ends (s_named_walk place specs line written shape None) scope (IsDeclaration opens scope)
+unfilled_goes opens place specs line written shape scope good orderly inside known few =
     let name = name_or_none shape.name in
     let one_is = declaring scope place specs (name_or_none shape.name) line written false in
     go_here_then _ _ scope _ (go_chain _ _ _ _ scope (λ begun middle. (begun ≡ begun_as scope one_is written) × (middle ≡ with_declaration one_is scope)) _
@@ -225,4 +241,4 @@ unfilled_goes opens place specs line written shape scope good orderly inside kno
     (go_chain _ _ _ _ (with_declaration one_is scope) (λ stored later. (stored ≡ []) × (later ≡ with_declaration one_is scope)) _ (go_gives [] (with_declaration one_is scope) _ (refl, refl)) (λ stored later same.
     subst (λ found. Ends (s_declared_ends place specs line scope (begun_as scope one_is written) false stored) found (IsDeclaration opens scope)) (sym same.1)
     (go_here_then _ _ (with_declaration one_is scope) _ (go_changed _ (with_declaration one_is scope) _ _ _ _ (with_declaration one_is scope) _ (λ unbroken.
-    ends_so opens place specs line written (name_or_none shape.name) scope good orderly inside known unbroken _ no_puts))))))))
+    ends_so opens place specs line written (name_or_none shape.name) scope good orderly inside known few unbroken _ no_puts))))))))

@@ -3,7 +3,7 @@ use Rattle.std.specs.Prelude.{◌≡◌, ℕ, ◌≤◌, ◌<◌, Bool, true, fa
 use Rattle.std.specs.List.{Contains}
 use Rattle.cx_core.specs.declared.program.Linkage.{Linkage}
 use Rattle.cx_core.specs.declared.program.Linkage.TheVariants.{Internal, Nothing}
-use Rattle.cx_core.specs.Compatible.{agree, AreCompatible}
+use Rattle.cx_core.specs.Compatible.{AreCompatible}
 use Rattle.cx_core.specs.Trees.{CTy, CTypes, CPuts, CObject, CProgram, CMention}
 use Rattle.cx_core.specs.Typing.{CHome, CCallee, object_with, callee_with, IsStaticObject}
 use Rattle.cx_core.specs.ValidTypes.{IsComplete}
@@ -14,14 +14,9 @@ use Rattle.cx_rules.specs.Types.{is_function}
 use Rattle.cx_typed.specs.Growth.{Gives, Grows}
 use Rattle.cx_typed.specs.Operands.{IsKnownType}
 use Rattle.cx_typed.specs.Scopes.{IsHeld, is_thing}
-
--- ---- types of several declarations (6.2.7p3, p4)
-
--- the later type says no less: in all types that have grown from these, and whichever records count as compatible, what is compatible with
--- it is compatible with the earlier one
-abbrev pub Fills : List ℕ → CTypes → CTy → CTy → Type 0
-Fills opens types earlier later = (now : CTypes) → Grows opens types now → (counts : ℕ → ℕ → Bool) (other : CTy)
-    → agree now counts other later ≡ true → agree now counts other earlier ≡ true
+use Rattle.cx_typed_units.specs.Account.{account_of, IsAccounted}
+use Rattle.cx_typed_units.specs.Fills.{Fills}
+use Rattle.cx_typed_units.specs.Rest.{is_defining}
 
 -- ---- what stays of a scope
 
@@ -85,6 +80,7 @@ pub record Leads (opens : List ℕ) (before after : CScope) : Type 0 where
   pub things : (name : List ℕ) (one : CThing) → thing_named name before.things ≡ Some one → IsKept opens after.types one (thing_named name after.things)
   pub orderly : IsOrderly opens before → IsOrderly opens after
   pub statics : (number : ℕ) → is_static_object before number ≡ true → is_static_object after number ≡ true
+  pub keeps : (pending : Option (List ℕ)) → IsAccounted opens pending (account_of before) → IsAccounted opens pending (account_of after)
 
 -- no object and no function is declared
 abbrev pub DeclaresNone : CScope → CScope → Type 0
@@ -145,7 +141,7 @@ pub record Backs (home : CHome) (opens : List ℕ) (before after : CScope) : Typ
   pub grows : Grows opens after.types home.program.types
   pub told : List CMention
   pub told_is : home.mentions ≡ Some told
-  pub mentions : (number : ℕ) (one : CMention) → length before.mentions ≤ number → slice_get after.mentions number ≡ Some one → Contains told one
+  pub mentions : (number : ℕ) (one : CMention) → length before.mentions ≤ number → slice_get after.mentions number ≡ Some one → is_defining one.does ≡ false → Contains told one
   pub literals : (number : ℕ) (one : CMade) → length before.literals ≤ number → slice_get after.literals number ≡ Some one → IsMadeThere home.program home.unit one
   pub objects : (number : ℕ) (one : CObject) → one.linkage ≡ Nothing → length before.objects ≤ number → slice_get after.objects number ≡ Some one
       → object_with one.object home.program.objects ≡ Some one
