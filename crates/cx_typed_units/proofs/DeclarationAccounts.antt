@@ -53,7 +53,7 @@ or_none : (a : Bool) → (a || false) ≡ a
 or_none true = refl
 or_none false = refl
 
-found_goes : (P : CThing → Type 0) (found : Option CThing) (one : CThing) → found ≡ Some one → IfSome found P → P one
+pub found_goes : (P : CThing → Type 0) (found : Option CThing) (one : CThing) → found ≡ Some one → IfSome found P → P one
 found_goes P None one is held = absurd cc
 found_goes P (Some x) one is held = let same : x ≡ one = cc in subst P same held
 

@@ -15,7 +15,7 @@ use Rattle.cx_typed.proofs.Derived.{derived_known}
 use Rattle.cx_typed.proofs.Goes.{go_gives, go_here_then, go_chain, go_settled}
 use Rattle.cx_typed.proofs.Promoted.{neither}
 use Rattle.cx_typed.proofs.Specified.{specified}
-use Rattle.cx_typed.proofs.Walked.{known_stays, type_on}
+use Rattle.cx_typed.proofs.Walked.{known_stays, type_on, makes_nothing}
 use Rattle.cx_typed.specs.Declarators.{IsShape, ShapeGoes}
 use Rattle.cx_typed.specs.Operands.{IsKnownType}
 use Rattle.cx_typed.specs.Specifiers.{AreSpecs, SpecsGo}
@@ -23,7 +23,8 @@ use Rattle.cx_typed.specs.Walked.{IsGood, Ends}
 use Rattle.cx_typed_units.proofs.Blocks.{are_both, blocks_joined, all_on}
 use Rattle.cx_typed_units.proofs.Items.{typed_joined}
 use Rattle.cx_typed_units.proofs.RestTrees.{kept_specs_walk, kept_declarator_walk}
-use Rattle.cx_typed_units.proofs.Stretches.{passes_declare, leads_itself, leads_on, rest_leads, backs_first, backs_second}
+use Rattle.cx_typed_units.proofs.Rests.{rest_leads}
+use Rattle.cx_typed_units.proofs.Stretches.{passes_declare, leads_itself, leads_on, backs_first, backs_second}
 use Rattle.cx_typed_units.proofs.Unfilled.{unfilled_goes}
 use Rattle.cx_typed_units.specs.Forms.{InitGoes, DeclaratorsGo, DeclPartsGo, DeclarationsGo}
 use Rattle.cx_typed_units.specs.Rest.{CRest}
@@ -102,7 +103,8 @@ shaped opens tree scope goes good = record {
       let stays = (kept_declarator_walk tree scope).kept in
       record {
         shape_is = made;
-        leads = rest_leads opens scope (s_declarator_walk tree scope).scope (passes_declare opens scope (s_declarator_walk tree scope).scope made.passes) made.passes.declared stays made.passes.numbers;
+        leads = rest_leads opens scope (s_declarator_walk tree scope).scope (passes_declare opens scope (s_declarator_walk tree scope).scope made.passes) made.passes.declared stays made.passes.numbers
+            (makes_nothing opens scope (s_declarator_walk tree scope).scope made.makes_none);
         none = made.passes.declared;
         body_is = ap {A = CRest} (λ one. one.body) stays.rest_is;
       };
@@ -121,7 +123,8 @@ specified_by opens alone trees scope goes good = record {
       let stays = (kept_specs_walk alone no_specs_yet trees scope).kept in
       record {
         specs_are = made;
-        leads = rest_leads opens scope (s_specs_walk alone no_specs_yet trees scope).scope (passes_declare opens scope (s_specs_walk alone no_specs_yet trees scope).scope made.passes) made.passes.declared stays made.passes.numbers;
+        leads = rest_leads opens scope (s_specs_walk alone no_specs_yet trees scope).scope (passes_declare opens scope (s_specs_walk alone no_specs_yet trees scope).scope made.passes) made.passes.declared stays made.passes.numbers
+            (makes_nothing opens scope (s_specs_walk alone no_specs_yet trees scope).scope made.makes_none);
         none = made.passes.declared;
         body_is = ap {A = CRest} (λ one. one.body) stays.rest_is;
       };

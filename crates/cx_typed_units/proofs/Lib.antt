@@ -8,6 +8,7 @@ pub mod Declarations
 pub mod Declared
 pub mod Entities
 pub mod Filled
+pub mod FilledObjects
 pub mod Filling
 pub mod Fine
 pub mod FirstInternal
@@ -26,6 +27,7 @@ pub mod ObjectNumbers
 pub mod Owned
 pub mod Redeclared
 pub mod RestNodes
+pub mod Rests
 pub mod RestTrees
 pub mod SpelledStatements
 pub mod Steps

@@ -84,6 +84,7 @@ module _ (opens : List ℕ) (scope : CScope) (name : List ℕ) (meant : CMeant) 
     };
     begins_is = refl;
     in_function_is = refl;
+    functions_are = refl;
     objects_more = omega arith;
     statics = λ number is. is;
     objects = λ number one nothing is. is;
@@ -111,6 +112,7 @@ module _ (opens : List ℕ) (scope : CScope) where
     };
     begins_is = refl;
     in_function_is = refl;
+    functions_are = refl;
     objects_more = omega arith;
     statics = λ number is. is;
     objects = λ number one nothing is. is;
@@ -135,6 +137,7 @@ module _ (opens : List ℕ) (scope : CScope) where
     };
     begins_is = refl;
     in_function_is = refl;
+    functions_are = refl;
     objects_more = omega arith;
     statics = λ number is. is;
     objects = λ number one nothing is. is;
@@ -205,6 +208,7 @@ module _ (opens : List ℕ) (scope : CScope) (new : CObject) (next : new.object 
     };
     begins_is = refl;
     in_function_is = refl;
+    functions_are = refl;
     objects_more = let h : length (scope.objects ++ new ∷ []) ≡ length scope.objects + 1 = length-append scope.objects (new ∷ []) in omega (arith, h);
     objects = λ number one nothing is. kept_before scope.objects (new ∷ []) number one is;
     statics = λ number is. more_static scope.literals number scope.objects (new ∷ []) is;
@@ -315,6 +319,7 @@ module _ (opens : List ℕ) (scope : CScope) (number : ℕ) (change : CObject �
     };
     begins_is = refl;
     in_function_is = refl;
+    functions_are = refl;
     objects_more = let h : length (map change_one scope.objects) ≡ length scope.objects = length_mapped change_one scope.objects in omega (arith, h);
     statics = λ index is. changed_static scope.literals index scope.objects is;
     objects = λ index one nothing is.

@@ -8,19 +8,18 @@ use Rattle.cx_core.specs.Trees.{CTy, CTypes, CObject, CProgram}
 use Rattle.cx_core.specs.Typing.{CHome, CCallee, object_with, callee_with}
 use Rattle.cx_rules.specs.Declare.{thing_named}
 use Rattle.cx_rules.specs.Pieces.{is_static_object}
-use Rattle.cx_rules.specs.Scope.{CMeant, CDeclared, CThing, CScope, ordinary}
+use Rattle.cx_rules.specs.Scope.{CMeant, CDeclared, CThing, CScope, new_scope, ordinary}
 use Rattle.cx_typed.proofs.Numbered.{statics_stay}
 use Rattle.cx_typed.proofs.Scopes.{longer, grows_not, grows_on}
 use Rattle.cx_typed.proofs.Walked.{known_stays}
 use Rattle.cx_typed.specs.Growth.{Grows}
 use Rattle.cx_typed.specs.Operands.{IsKnownType}
-use Rattle.cx_typed.specs.Scopes.{Passes, TakesNumbers, CRest as TypedRest}
-use Rattle.cx_typed_units.proofs.Accounted.{rest_accounted}
+use Rattle.cx_typed.specs.Scopes.{Passes, CRest as TypedRest}
 use Rattle.cx_typed_units.proofs.RestNodes.{StaysTo}
 use Rattle.cx_typed_units.specs.Rest.{CRest}
 use Rattle.cx_typed_units.specs.Account.{account_of, IsAccounted}
 use Rattle.cx_typed_units.specs.Fills.{Fills}
-use Rattle.cx_typed_units.specs.Stretches.{IsSameThing, IsKept, IsThing, IsThingOf, IsKnownThing, IsOrderly, Continues, Leads, DeclaresNone, IsLinkedObject, IsLinkedFunction, IsLinkedBy, Backs}
+use Rattle.cx_typed_units.specs.Stretches.{IsSameThing, IsKept, IsThing, IsThingOf, IsKnownThing, IsOrderly, Continues, Leads, DeclaresNone, IsLinkedObject, IsLinkedFunction, IsLinkedBy, Backs, HoldsAll, AreTypedUpTo}
 
 -- what an expression leaves as it is, as expressions say it
 abbrev typed_rest : CRest → TypedRest
@@ -56,6 +55,7 @@ pub record Steps (opens : List ℕ) (before after : CScope) : Type 0 where
   pub objects : (number : ℕ) (one : CObject) → one.linkage ≡ Nothing → slice_get before.objects number ≡ Some one → slice_get after.objects number ≡ Some one
   pub things : (name : List ℕ) (one : CThing) → thing_named name before.things ≡ Some one → IsKept opens after.types one (thing_named name after.things)
   pub orderly : IsOrderly opens before → IsOrderly opens after
+  pub functions_are : after.functions ≡ before.functions
   pub statics : (number : ℕ) → is_static_object before number ≡ true → is_static_object after number ≡ true
 
 module _ (opens : List ℕ) where
@@ -116,6 +116,7 @@ module _ (opens : List ℕ) where
     declares = declares_itself scope;
     begins_is = refl;
     in_function_is = refl;
+    functions_are = refl;
     objects_more = omega arith;
     objects = λ number one nothing is. is;
     things = λ name one is. kept_is scope.types one one (thing_named name scope.things) is (same_itself scope.types one);
@@ -135,6 +136,7 @@ module _ (opens : List ℕ) where
     declares = declares_on before middle after first.declares second.declares;
     begins_is = second.begins_is ∙ first.begins_is;
     in_function_is = second.in_function_is ∙ first.in_function_is;
+    functions_are = second.functions_are ∙ first.functions_are;
     objects_more = omega (arith, first.objects_more, second.objects_more);
     objects = λ number one nothing is. second.objects number one nothing (first.objects number one nothing is);
     things = things_on before middle after first second;
@@ -147,6 +149,7 @@ module _ (opens : List ℕ) where
     declares = leads.declares;
     begins_is = leads.begins_is;
     in_function_is = leads.in_function_is;
+    functions_are = leads.functions_are;
     objects_more = leads.objects_more;
     objects = leads.objects;
     things = leads.things;
@@ -155,25 +158,28 @@ module _ (opens : List ℕ) where
   }
 
   pub leads_by : (before after : CScope) → Steps opens before after
-      → ((pending : Option (List ℕ)) → IsAccounted opens pending (account_of before) → IsAccounted opens pending (account_of after)) → Leads opens before after
-  leads_by before after steps keeps = record {
+      → ((pending : Option (List ℕ)) → IsAccounted opens pending (account_of before) → IsAccounted opens pending (account_of after)) → (AreTypedUpTo opens before → AreTypedUpTo opens after)
+      → Leads opens before after
+  leads_by before after steps keeps typed = record {
     declares = steps.declares;
     begins_is = steps.begins_is;
     in_function_is = steps.in_function_is;
+    functions_are = steps.functions_are;
     objects_more = steps.objects_more;
     objects = steps.objects;
     things = steps.things;
     orderly = steps.orderly;
     statics = steps.statics;
     keeps = keeps;
+    typed = typed;
   }
 
   pub leads_itself : (scope : CScope) → Leads opens scope scope
-  leads_itself scope = leads_by scope scope (steps_itself scope) (λ pending held. held)
+  leads_itself scope = leads_by scope scope (steps_itself scope) (λ pending held. held) (λ held. held)
 
   pub leads_on : (before middle after : CScope) → Leads opens before middle → Leads opens middle after → Leads opens before after
   leads_on before middle after first second =
-      leads_by before after (steps_on before middle after (steps_of before middle first) (steps_of middle after second)) (λ pending held. second.keeps pending (first.keeps pending held))
+      leads_by before after (steps_on before middle after (steps_of before middle first) (steps_of middle after second)) (λ pending held. second.keeps pending (first.keeps pending held)) (λ held. second.typed (first.typed held))
 
   -- ---- names with linkage in a later scope
 
@@ -207,7 +213,7 @@ module _ (opens : List ℕ) where
       ))
 
   -- behind an expression, a type or an initialiser
-  module _ (before after : CScope) (declares : Continues opens before after) (none : DeclaresNone before after) (stays : StaysTo before after) (numbers : TakesNumbers before after) where
+  module _ (before after : CScope) (declares : Continues opens before after) (none : DeclaresNone before after) (stays : StaysTo before after) where
     rest_things : (name : List ℕ) (one : CThing) → thing_named name before.things ≡ Some one → IsKept opens after.types one (thing_named name after.things)
     rest_things name one is =
         kept_is after.types one one (thing_named name after.things) (subst (λ (other : CRest). thing_named name other.things ≡ Some one) (sym stays.rest_is) is) (same_itself after.types one)
@@ -240,17 +246,17 @@ module _ (opens : List ℕ) where
     rest_statics : (number : ℕ) → is_static_object before number ≡ true → is_static_object after number ≡ true
     rest_statics = statics_stay before after declares.literals (ap {A = CRest} {B = TypedRest} typed_rest stays.rest_is)
 
-    pub rest_leads : Leads opens before after
-    rest_leads = record {
+    pub rest_steps : Steps opens before after
+    rest_steps = record {
       declares = declares;
       begins_is = ap {A = CRest} (λ one. one.begins) stays.rest_is;
       in_function_is = ap {A = CRest} (λ one. one.in_function) stays.rest_is;
+      functions_are = ap {A = CRest} (λ one. one.functions) stays.rest_is;
       objects_more = subst (λ (one : CRest). length before.objects ≤ length one.objects) (sym stays.rest_is) (omega arith);
       objects = λ number one nothing is. subst (λ (other : CRest). slice_get other.objects number ≡ Some one) (sym stays.rest_is) is;
       things = rest_things;
       orderly = rest_orderly;
       statics = rest_statics;
-      keeps = λ pending held. rest_accounted opens pending before after declares stays numbers held;
     }
 
   -- ---- what a program has of them
@@ -284,8 +290,8 @@ module _ (opens : List ℕ) where
     linked_back : IsLinkedBy other.is_function program opens name other → IsLinkedBy one.is_function program opens name one
     linked_back held = subst (λ is_function. IsLinkedBy is_function program opens name one) same.function_is (linked_by other.is_function held)
 
-  pub backs_first : (home : CHome) (before middle after : CScope) → Backs home opens before after → Leads opens middle after → Backs home opens before middle
-  backs_first home before middle after backs second = record {
+  pub backs_earlier : (home : CHome) (before middle after : CScope) → Backs home opens before after → Steps opens middle after → Backs home opens before middle
+  backs_earlier home before middle after backs second = record {
     unit_is = backs.unit_is;
     grows = grows_on opens middle.types after.types home.program.types second.declares.grows backs.grows;
     told = backs.told;
@@ -298,6 +304,9 @@ module _ (opens : List ℕ) where
         linked_back after.types home.program backs.grows name one there.0 there.2 (backs.things name there.0 there.1);
     statics = λ number is. backs.statics number (second.statics number is);
   }
+
+  pub backs_first : (home : CHome) (before middle after : CScope) → Backs home opens before after → Leads opens middle after → Backs home opens before middle
+  backs_first home before middle after backs second = backs_earlier home before middle after backs (steps_of middle after second)
 
   pub backs_second : (home : CHome) (before middle after : CScope) → Backs home opens before after → Leads opens before middle → Backs home opens middle after
   backs_second home before middle after backs first =
@@ -328,3 +337,38 @@ module _ (opens : List ℕ) where
     things = backs.things;
     statics = backs.statics;
   }
+
+  -- ---- a program that has all of a unit up to a place
+
+  pub backs_from : (home : CHome) (before after : CScope) → HoldsAll home opens after → Steps opens before after → Backs home opens before after
+  backs_from home before after all steps = record {
+    unit_is = all.backs.unit_is ∙ steps.declares.unit_is;
+    grows = all.backs.grows;
+    told = all.backs.told;
+    told_is = all.backs.told_is;
+    mentions = λ number one from is. all.backs.mentions number one (omega arith) is;
+    literals = λ number one from is. all.backs.literals number one (omega arith) is;
+    objects = λ number one nothing from is. all.backs.objects number one nothing (omega arith) is;
+    things = all.backs.things;
+    statics = all.backs.statics;
+  }
+
+  -- has all up to each place before it
+  pub holds_earlier : (home : CHome) (before after : CScope) → HoldsAll home opens after → Steps opens before after → HoldsAll home opens before
+  holds_earlier home before after all steps =
+      let backs = backs_earlier home (new_scope after.unit) before after all.backs steps in
+      record {
+        backs = record {
+          unit_is = backs.unit_is ∙ steps.declares.unit_is;
+          grows = backs.grows;
+          told = backs.told;
+          told_is = backs.told_is;
+          mentions = backs.mentions;
+          literals = backs.literals;
+          objects = backs.objects;
+          things = backs.things;
+          statics = backs.statics;
+        };
+        objects_inside = λ index one is nothing. all.objects_inside index one (steps.objects index one nothing is) nothing;
+        literals_inside = λ index one is. all.literals_inside index one (steps.declares.literals index one is);
+      }

@@ -37,6 +37,7 @@ module _ (opens : List ℕ) (scope : CScope) (new : CThing) (known : IsKnownThin
     };
     begins_is = refl;
     in_function_is = refl;
+    functions_are = refl;
     objects_more = omega arith;
     statics = λ number is. is;
     objects = λ number one nothing is. is;
@@ -105,6 +106,7 @@ module _ (opens : List ℕ) (scope : CScope) (name : List ℕ) (old new : CThing
     };
     begins_is = refl;
     in_function_is = refl;
+    functions_are = refl;
     objects_more = omega arith;
     statics = λ number is. is;
     objects = λ number one nothing is. is;

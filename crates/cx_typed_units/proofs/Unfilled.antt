@@ -18,12 +18,13 @@ use Rattle.cx_rules.specs.Initial.{CStored}
 use Rattle.cx_rules.specs.Nodes.{CNode, declares_node}
 use Rattle.cx_rules.specs.Pieces.{at_line}
 use Rattle.cx_rules.specs.Rules.{lacks_size, is_unlinked}
-use Rattle.cx_rules.specs.Scope.{CMeant, an_object, a_function, a_type_name, CScope, ordinary}
+use Rattle.cx_rules.specs.Scope.{CMeant, an_object, a_function, a_type_name, CThing, CScope, ordinary}
 use Rattle.cx_rules.specs.Shapes.{CSpecs, CShape, has_storage}
 use Rattle.cx_rules.specs.Types.{is_function, is_void, is_incomplete, is_too_large, has_size, too_large}
 use Rattle.cx_rules.specs.UnitWalk.{CMeant as CMeaning, nothing_meant, name_or_none, literals_since, declared_meant, clashes_behind}
 use Rattle.cx_rules.specs.Readings.{seen_chain}
 use Rattle.cx_typed.proofs.Derived.{small_whole, fits_by, sized_by}
+use Rattle.cx_typed.proofs.Growing.{complete_stays}
 use Rattle.cx_typed.proofs.Goes.{go_gives, go_becomes, go_here_then, go_chain, go_changed}
 use Rattle.cx_typed.proofs.Scopes.{pushed_at}
 use Rattle.cx_typed.specs.Operands.{IsKnownType}
@@ -31,15 +32,16 @@ use Rattle.cx_typed.specs.Scopes.{IsHeld, IsHeldObject}
 use Rattle.cx_typed.specs.Unbroken.{IsUnbroken}
 use Rattle.cx_typed.specs.Walked.{IsGood, Ends}
 use Rattle.cx_typed_units.proofs.Begun.{IsBegunAs, function_form}
-use Rattle.cx_typed_units.proofs.DeclarationAccounts.{IsAccountable, plain_accounted}
+use Rattle.cx_typed_units.proofs.DeclarationAccounts.{IsAccountable, found_goes, plain_accounted}
 use Rattle.cx_typed_units.proofs.Declared.{object_held, function_held, one_more_held, only_literals, plain_declared, begun_declared}
-use Rattle.cx_typed_units.proofs.Entities.{new_object, linked_number}
+use Rattle.cx_typed_units.proofs.Entities.{new_object, linked_number, agree_function}
+use Rattle.cx_typed_units.proofs.FilledObjects.{declared_filled}
 use Rattle.cx_typed_units.proofs.Fine.{meant_by, static_puts, entity_by, declared_by, declaration_is, told_by, IsFine, no_linkage, begun_is, unclashed, fine_is}
 use Rattle.cx_typed_units.proofs.FirstInternal.{first_internal}
-use Rattle.cx_typed_units.proofs.Stretches.{leads_by}
+use Rattle.cx_typed_units.proofs.Stretches.{leads_by, backs_from, holds_earlier}
 use Rattle.cx_typed_units.specs.Account.{account_of, IsAccounted}
 use Rattle.cx_typed_units.specs.Statements.{IsDeclaration}
-use Rattle.cx_typed_units.specs.Stretches.{IsOrderly, Leads, Backs, IsHeldAt}
+use Rattle.cx_typed_units.specs.Stretches.{IsOrderly, Leads, Backs, IsHeldAt, HoldsAll, AreTypedUpTo}
 
 -- ---- sizes (6.7p7)
 
@@ -73,6 +75,14 @@ own_objects : (one : CDeclaring) (scope : CScope) (told : Bool) → (declared_by
 own_objects one scope true = refl
 own_objects one scope false = refl
 
+pub own_all : (one : CDeclaring) (scope : CScope) → is_typedef one.specs ≡ false → is_function one.type ≡ false → is_linked one.linkage ≡ false
+    → (with_declaration one scope).objects ≡ scope.objects ++ own_object one scope ∷ []
+own_all one scope t f l =
+    ap (λ (after : CScope). after.objects) (declaration_is one scope)
+    ∙ (ap (λ typedef. (declared_by typedef (is_function one.type) (is_linked one.linkage) (told_by one) one scope).objects) t
+    ∙ (ap (λ is_fun. (declared_by false is_fun (is_linked one.linkage) (told_by one) one scope).objects) f
+    ∙ (ap (λ linked. (declared_by false false linked (told_by one) one scope).objects) l ∙ own_objects one scope (told_by one))))
+
 pub own_found : (one : CDeclaring) (scope : CScope) → is_typedef one.specs ≡ false → is_function one.type ≡ false → is_linked one.linkage ≡ false
     → slice_get (with_declaration one scope).objects (length scope.objects) ≡ Some (own_object one scope)
 own_found one scope t f l =
@@ -100,22 +110,13 @@ own_there home type scope one s contains = subst (λ b. IsThereHere home type (o
 
 module _ (opens : List ℕ) (scope : CScope) (good : IsGood opens scope) (orderly : IsOrderly opens scope) (inside : scope.in_function ≡ true) (one : CDeclaring) (fine : IsFine opens scope one)
     (unfilled : one.has_init ≡ false)
+    (sized : is_typedef one.specs ≡ false → is_function one.type ≡ false → is_linked one.linkage ≡ false → IsComplete (with_declaration one scope).types one.type)
     (internal : one.linkage ≡ Internal → thing_named one.name scope.things ≡ None → (is_outside one.where_stands ≡ true) × (has_storage keyword.Extern one.specs ≡ false)) where
   abbrev after : CScope
   after = with_declaration one scope
 
   made : IsBegunAs opens scope one.name (meant_by (is_typedef one.specs) (is_function one.type) (is_linked one.linkage) one scope) after
   made = begun_is opens scope good orderly one fine
-
-  able : (pending : Option (List ℕ)) → IsAccountable pending scope one
-  able pending = record {
-    alone = λ is. absurd (let h : false ≡ true = sym unfilled ∙ is in cc);
-    outside = λ is. absurd (let h : false ≡ true = sym unfilled ∙ is in cc);
-    internal = internal;
-  }
-
-  made_leads : Leads opens scope after
-  made_leads = leads_by opens scope after made.leads (λ pending held. plain_accounted opens pending scope orderly one fine held (λ linked. unfilled) (λ t f l. able pending))
 
   made_as : (typedef is_fun linked : Bool) → is_typedef one.specs ≡ typedef → is_function one.type ≡ is_fun → is_linked one.linkage ≡ linked
       → IsBegunAs opens scope one.name (meant_by typedef is_fun linked one scope) after
@@ -154,6 +155,43 @@ module _ (opens : List ℕ) (scope : CScope) (good : IsGood opens scope) (orderl
       (object_held home opens scope after backs one.name (linked_number scope.next_object (thing_named one.name scope.things)) one.type one.linkage (as_made.linked l) l (has_storage keyword.Register one.specs))
   held_after false false false t f l home backs there known =
       one_more_held home one.name _ scope.declared after.declared (made_as false false false t f l).declared_is known (own_held t f l home backs (there refl refl refl))
+
+  there_by : is_typedef one.specs ≡ false → is_function one.type ≡ false → is_linked one.linkage ≡ false → (static : Bool) → has_storage keyword.Static one.specs ≡ static → (home : CHome) → HoldsAll home opens after
+      → IsThere home one.type (own_object one scope)
+  there_by t f l true s home all = static_there home one.type scope one s
+  there_by t f l false s home all = own_there home one.type scope one s (all.objects_inside (length scope.objects) (own_object one scope) (own_found one scope t f l) refl)
+
+  able : (pending : Option (List ℕ)) → IsAccountable pending scope one
+  able pending = record {
+    alone = λ is. absurd (let h : false ≡ true = sym unfilled ∙ is in cc);
+    outside = λ is. absurd (let h : false ≡ true = sym unfilled ∙ is in cc);
+    internal = internal;
+  }
+
+  -- a declaration of an object stands beside those of one
+  old_objects : is_typedef one.specs ≡ false → is_function one.type ≡ false → is_linked one.linkage ≡ true → (old : CThing) → thing_named one.name scope.things ≡ Some old → old.is_function ≡ false
+  old_objects t f l old there =
+      sym (orderly.things one.name old there).function_is
+      ∙ (sym (agree_function scope.types one.type old.type (found_goes _ (thing_named one.name scope.things) old there (fine.goes l)).agrees) ∙ f)
+
+  made_typed : AreTypedUpTo opens scope → AreTypedUpTo opens after
+  made_typed held home all =
+      let was = held home (holds_earlier opens home scope after all made.leads) in
+      let backs = backs_from opens home scope after all made.leads in
+      record {
+        held = held_after (is_typedef one.specs) (is_function one.type) (is_linked one.linkage) refl refl refl home backs (λ t f l. there_by t f l (has_storage keyword.Static one.specs) refl home all) was.held;
+        literals = λ index x is. was.literals index x (subst (λ literals. slice_get literals index ≡ Some x) made.literals_are is);
+        objects = λ index x is.
+            declared_filled home opens scope orderly one (λ t f l. record {
+              complete = complete_stays opens after.types home.program.types all.backs.grows one.type (sized t f l);
+              typed = (tt, tt);
+              constant = tt;
+            }) was.objects old_objects index x is;
+        functions = λ index x is. was.functions index x (subst (λ functions. slice_get functions index ≡ Some x) made.leads.functions_are is);
+      }
+
+  made_leads : Leads opens scope after
+  made_leads = leads_by opens scope after made.leads (λ pending held. plain_accounted opens pending scope orderly one fine held (λ linked. unfilled) (λ t f l. able pending)) made_typed
 
   -- without an object whose life begins
   plain_either : (at : TextPlace) (has_init begins : Bool) (puts : CPuts) → IsDeclaration opens scope (only_literals scope after) after
@@ -223,7 +261,8 @@ module _ (opens : List ℕ) (place : SpecsPlace) (specs : CSpecs) (line : ℕ) (
       (meaning_by b (is_linked one.linkage) (has_storage keyword.Static specs) (is_typedef specs) (is_function one.type) at false puts
       (if is_linked one.linkage then linked_number scope.next_object (thing_named name scope.things) else scope.next_object) (literals_since scope behind)) behind)
       (sym (begun.leads.in_function_is ∙ inside))
-      (unfilled_by opens scope good orderly inside one fine refl (λ internal none. first_internal opens scope orderly name none place specs written few internal) at puts (is_typedef specs) (is_function one.type) (is_linked one.linkage) (has_storage keyword.Static specs) refl refl refl refl
+      (unfilled_by opens scope good orderly inside one fine refl
+      (λ typedef no_fun no_link. complete_object behind.types one.type no_fun ((said typedef).sized (unlinked_is one.linkage no_link)) unbroken.m3) (λ internal none. first_internal opens scope orderly name none place specs written few internal) at puts (is_typedef specs) (is_function one.type) (is_linked one.linkage) (has_storage keyword.Static specs) refl refl refl refl
       (λ typedef no_fun no_link. complete_object behind.types one.type no_fun ((said typedef).sized (unlinked_is one.linkage no_link)) unbroken.m3))
 
 pub unfilled_goes : (opens : List ℕ) (place : SpecsPlace) (specs : CSpecs) (line : ℕ) (written : CTy) (shape : CShape) (scope : CScope) → IsGood opens scope → IsOrderly opens scope → scope.in_function ≡ true

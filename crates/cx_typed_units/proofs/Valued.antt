@@ -17,7 +17,8 @@ use Rattle.cx_typed.specs.Operands.{IsOperandType}
 use Rattle.cx_typed.specs.Scopes.{Serves, Passes}
 use Rattle.cx_typed.specs.Walked.{IsGood, Ends, IsExpr, ExprGoes}
 use Rattle.cx_typed_units.proofs.RestTrees.{kept_expr_walk}
-use Rattle.cx_typed_units.proofs.Stretches.{passes_declare, rest_leads}
+use Rattle.cx_typed_units.proofs.Rests.{rest_leads}
+use Rattle.cx_typed_units.proofs.Stretches.{passes_declare}
 use Rattle.cx_typed_units.specs.Rest.{CRest, DefinesNone}
 use Rattle.cx_typed_units.specs.Stretches.{Leads, DeclaresNone}
 
@@ -35,7 +36,7 @@ valued opens tree scope goes good = record {
       let stays = (kept_expr_walk tree scope).kept in
       record {
         is_expr = made;
-        leads = rest_leads opens scope (seen_expr tree scope).scope (passes_declare opens scope (seen_expr tree scope).scope made.passes) made.passes.declared stays made.passes.numbers;
+        leads = rest_leads opens scope (seen_expr tree scope).scope (passes_declare opens scope (seen_expr tree scope).scope made.passes) made.passes.declared stays made.passes.numbers made.made;
         none = made.passes.declared;
         body_is = ap {A = CRest} (λ one. one.body) stays.rest_is;
         defined = stays.defined;
