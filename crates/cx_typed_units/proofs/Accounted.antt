@@ -26,6 +26,18 @@ told_later few many more name linkage Says held = record {
   says = held.says;
 }
 
+-- those of one name stay
+pub told_named : (few many : List CMention) (name : List ℕ) → ((number : ℕ) (one : CMention) → slice_get few number ≡ Some one → one.name ≡ name → slice_get many number ≡ Some one)
+    → (linkage : Linkage) (Says : CMention → Type 0) → IsToldAs few name linkage Says → IsToldAs many name linkage Says
+told_named few many name kept linkage Says held = record {
+  index = held.index;
+  one = held.one;
+  at = kept held.index held.one held.at held.name_is;
+  name_is = held.name_is;
+  linkage_is = held.linkage_is;
+  says = held.says;
+}
+
 -- ---- the numbers of literals
 
 -- each literal has a number of its own, that no object has

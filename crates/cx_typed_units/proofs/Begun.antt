@@ -15,9 +15,10 @@ use Rattle.cx_typed.specs.Sound.{AreSound}
 use Rattle.cx_typed.specs.Operands.{IsKnownType}
 use Rattle.cx_typed.specs.Walked.{IsGood}
 use Rattle.cx_typed_units.proofs.Entities.{new_object, linked_object, linked_function, linked_number, GoesWith, IsDeclaredAs, object_declared, function_declared, composite_function}
-use Rattle.cx_typed_units.proofs.Joins.{earlier_goes, fills_agree, joined_type, composite_known}
+use Rattle.cx_typed_units.proofs.Joins.{earlier_goes, fills_itself, fills_first, fills_agree, joined_type, composite_known}
 use Rattle.cx_typed_units.proofs.Steps.{IsLinkedName, good_declared, declared_leads, mention_leads, with_next_object, next_leads}
 use Rattle.cx_typed_units.proofs.Stretches.{Steps, steps_itself, steps_on}
+use Rattle.cx_typed_units.specs.Fills.{Fills}
 use Rattle.cx_typed_units.specs.Stretches.{IsThing, IsThingOf, IsOrderly}
 
 -- ---- the type beside the visible declaration (6.2.7p4)
@@ -26,6 +27,7 @@ pub record IsJoined (opens : List ℕ) (scope : CScope) (name : List ℕ) (writt
   pub known : IsKnownType opens scope.types scope.unit type
   pub goes : (one : CThing) → thing_named name scope.things ≡ Some one → compatible scope.types written one.type ≡ true → compatible scope.types type one.type ≡ true
   pub form : is_function type ≡ is_function written
+  pub fills : Fills opens scope.types written type
 
 thing_there : (P : CThing → Type 0) (found : Option CThing) → IsSome found × IfSome found P → (one : CThing) × (found ≡ Some one) × P one
 thing_there P None held = absurd (let h : false ≡ true = held.0 in cc)
@@ -34,7 +36,7 @@ thing_there P (Some one) held = (one, refl, held.1)
 module _ (opens : List ℕ) (scope : CScope) (good : IsGood opens scope) (orderly : IsOrderly opens scope) (name : List ℕ) (written : CTy) (known : IsKnownType opens scope.types scope.unit written)
     (goes : (one : CThing) → thing_named name scope.things ≡ Some one → compatible scope.types written one.type ≡ true) where
   as_written : IsJoined opens scope name written written
-  as_written = record { known = known; goes = λ one is same. same; form = refl }
+  as_written = record { known = known; goes = λ one is same. same; form = refl; fills = fills_itself opens scope.types scope.unit written }
 
   -- beside what is visible
   beside : (number : ℕ) (type : CTy) (linkage : Linkage) (is_fun : Bool) → IsKnownType opens scope.types scope.unit type → IsThingOf opens scope name number type linkage is_fun
@@ -50,6 +52,7 @@ module _ (opens : List ℕ) (scope : CScope) (good : IsGood opens scope) (orderl
             joined_type scope.types scope.unit written type one.type known.type_in visible.type_in both_go written_goes
             (subst (λ (x : CThing). compatible scope.types type x.type ≡ true) one_is (fills_agree opens scope.types scope.unit type there.0.type there.2.fills));
         form = composite_function written type;
+        fills = fills_first opens scope.types scope.unit written type known visible both_go;
       }
     where
       some_same : (one other : CThing) → Some one ≡ Some other → one ≡ other

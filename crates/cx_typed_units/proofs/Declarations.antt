@@ -84,19 +84,19 @@ module _ (opens : List ℕ) where
         held.typed body declares (backs_second opens body.home before middle after backs leads) (all_on body.home before middle none known) inside among;
   }
 
-  type_later : (before after : CScope) (type : CTy) → Leads opens before after → IsKnownType opens before.types before.unit type → IsKnownType opens after.types after.unit type
+  pub type_later : (before after : CScope) (type : CTy) → Leads opens before after → IsKnownType opens before.types before.unit type → IsKnownType opens after.types after.unit type
   type_later before after type leads known =
       subst (λ unit. IsKnownType opens after.types unit type) (sym leads.declares.unit_is) (known_stays opens before.types after.types leads.declares.grows before.unit type known)
 
 -- ---- specifiers and declarators
 
-record IsShaped (opens : List ℕ) (before : CScope) (shape : CShape) (after : CScope) : Type 0 where
-  shape_is : IsShape opens before shape after
-  leads : Leads opens before after
-  none : DeclaresNone before after
-  body_is : after.body ≡ before.body
+pub record IsShaped (opens : List ℕ) (before : CScope) (shape : CShape) (after : CScope) : Type 0 where
+  pub shape_is : IsShape opens before shape after
+  pub leads : Leads opens before after
+  pub none : DeclaresNone before after
+  pub body_is : after.body ≡ before.body
 
-shaped : (opens : List ℕ) (tree : DeclaratorTree) (scope : CScope) → ShapeGoes tree → IsGood opens scope → Ends (s_declarator_walk tree) scope (IsShaped opens scope)
+pub shaped : (opens : List ℕ) (tree : DeclaratorTree) (scope : CScope) → ShapeGoes tree → IsGood opens scope → Ends (s_declarator_walk tree) scope (IsShaped opens scope)
 shaped opens tree scope goes good = record {
   ends = λ fine.
       let made = (goes opens scope good).ends fine in
@@ -110,13 +110,13 @@ shaped opens tree scope goes good = record {
       };
 }
 
-record AreSpecified (opens : List ℕ) (before : CScope) (specs : CSpecs) (after : CScope) : Type 0 where
-  specs_are : AreSpecs opens before specs after
-  leads : Leads opens before after
-  none : DeclaresNone before after
-  body_is : after.body ≡ before.body
+pub record AreSpecified (opens : List ℕ) (before : CScope) (specs : CSpecs) (after : CScope) : Type 0 where
+  pub specs_are : AreSpecs opens before specs after
+  pub leads : Leads opens before after
+  pub none : DeclaresNone before after
+  pub body_is : after.body ≡ before.body
 
-specified_by : (opens : List ℕ) (alone : Bool) (trees : SpecTrees) (scope : CScope) → SpecsGo trees → IsGood opens scope → Ends (s_specs_walk alone no_specs_yet trees) scope (AreSpecified opens scope)
+pub specified_by : (opens : List ℕ) (alone : Bool) (trees : SpecTrees) (scope : CScope) → SpecsGo trees → IsGood opens scope → Ends (s_specs_walk alone no_specs_yet trees) scope (AreSpecified opens scope)
 specified_by opens alone trees scope goes good = record {
   ends = λ fine.
       let made = (goes opens alone no_specs_yet scope good tt).ends fine in

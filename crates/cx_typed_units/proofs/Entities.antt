@@ -147,7 +147,12 @@ module _ (opens : List ℕ) (scope : CScope) (orderly : IsOrderly opens scope) (
       linkage_is = refl;
       function_is = refl;
       fills = fills_second opens scope.types scope.unit type old.type known old_known.known goes.agrees;
+      defined = λ is. or_defined has_content is;
     }
+      where
+        or_defined : (content : Bool) → old.is_defined ≡ true → (content || old.is_defined) ≡ true
+        or_defined true is = refl
+        or_defined false is = is
 
     again_form : is_function again.type ≡ again.is_function
     again_form = composite_function type old.type ∙ (agree_function scope.types type old.type goes.agrees ∙ old_known.function_is)

@@ -17,6 +17,8 @@ use Rattle.cx_typed.specs.Walked.{IsGood}
 use Rattle.cx_typed_units.proofs.Begun.{IsJoined, joined_is, object_form, IsBegunAs, IsEntity, named_as, typedef_entity, own_entity, object_entity, function_entity}
 use Rattle.cx_typed_units.proofs.Entities.{new_object, linked_object, linked_function, linked_number, GoesWith}
 use Rattle.cx_typed_units.proofs.Steps.{with_next_object}
+use Rattle.cx_typed_units.proofs.Joins.{fills_itself}
+use Rattle.cx_typed_units.specs.Fills.{Fills}
 use Rattle.cx_typed_units.specs.Stretches.{IsOrderly}
 
 -- ---- what is declared, as `Declare` says it
@@ -113,7 +115,7 @@ module _ (opens : List ℕ) (scope : CScope) (good : IsGood opens scope) (orderl
 
 -- ---- what the rules say
 
-either_false : (a b : Bool) → (a || b) ≡ false → (a ≡ false) × (b ≡ false)
+pub either_false : (a b : Bool) → (a || b) ≡ false → (a ≡ false) × (b ≡ false)
 either_false true b is = absurd cc
 either_false false b is = (refl, is)
 
@@ -132,7 +134,7 @@ linkage_same Nothing Internal is = absurd cc
 pub record IsUnclashed (scope : CScope) (name : List ℕ) (written : CTy) (linkage : Linkage) : Type 0 where
   pub same : is_linked linkage ≡ true → (one : CThing) → thing_named name scope.things ≡ Some one → GoesWith scope.types written linkage one
 
-thing_goes : (types : CTypes) (written : CTy) (linkage : Linkage) (has_content : Bool) (found : Option CThing) → clashes_thing types written linkage has_content found ≡ false → (one : CThing) → found ≡ Some one
+pub thing_goes : (types : CTypes) (written : CTy) (linkage : Linkage) (has_content : Bool) (found : Option CThing) → clashes_thing types written linkage has_content found ≡ false → (one : CThing) → found ≡ Some one
     → GoesWith types written linkage one
 thing_goes types written linkage has_content None fine one is = absurd cc
 thing_goes types written linkage has_content (Some thing) fine one is =
@@ -209,10 +211,14 @@ module _ (opens : List ℕ) (scope : CScope) (good : IsGood opens scope) (orderl
 
   joined_by : (linked : Bool) → is_linked linkage ≡ linked → IsUnclashed scope name written linkage → IsJoined opens scope name written (type_by linked)
   joined_by true is apart = joined_is opens scope good orderly name written known (λ one found. (apart.same is one found).agrees)
-  joined_by false is apart = record { known = known; goes = λ one found same. same; form = refl }
+  joined_by false is apart = record { known = known; goes = λ one found same. same; form = refl; fills = fills_itself opens scope.types scope.unit written }
 
   pub form_is : IsUnclashed scope name written linkage → is_function (declaring scope place specs name line written has_init).type ≡ is_function written
   form_is apart = (joined_by (is_linked linkage) refl apart).form
+
+  -- the declared type says no less than what is written
+  pub says_no_less : IsUnclashed scope name written linkage → Fills opens scope.types written (declaring scope place specs name line written has_init).type
+  says_no_less apart = (joined_by (is_linked linkage) refl apart).fills
 
   pub fine_is : IsUnclashed scope name written linkage
       → (is_typedef specs ≡ false → is_void (declaring scope place specs name line written has_init).type ≡ false) → IsFine opens scope (declaring scope place specs name line written has_init)

@@ -80,12 +80,12 @@ module _ (opens : List ℕ) (pending : Option (List ℕ)) (few : CAccount) (held
     pub new_function_accounted : IsAccounted opens later many
     new_function_accounted =
         thing_accounted opens pending later few few.next_object (few.next_function + 1) told few.objects (few.things ++ new ∷ []) held name new (one_more_declared few.things held.listed new none) (record {
-          told = λ number one is. kept_before few.mentions (mention ∷ []) number one is;
+          told = λ number one is other. kept_before few.mentions (mention ∷ []) number one is;
           more_functions = omega arith;
           numbered = numbered_of opens pending few held;
           stays = λ index one at apart. at;
           known = λ index one at. inl at;
-          looser = looser_by has_body name pending alone;
+          looser = λ other apart is. looser_by has_body name pending alone other is;
           awaited = open_by has_body;
           own_object = λ is. absurd cc;
           own_function = λ is. own has_body refl;
@@ -141,12 +141,12 @@ module _ (opens : List ℕ) (pending : Option (List ℕ)) (few : CAccount) (held
     function_again_accounted type_is =
         thing_accounted opens pending later few few.next_object few.next_function told few.objects (set_thing name again few.things) held name again
         (set_declared few.things held.listed name old again there old_name refl refl (λ is. or_true has_body old.is_defined is)) (record {
-          told = λ number one is. kept_before few.mentions (mention ∷ []) number one is;
+          told = λ number one is other. kept_before few.mentions (mention ∷ []) number one is;
           more_functions = omega arith;
           numbered = numbered_of opens pending few held;
           stays = λ index one at apart. at;
           known = λ index one at. inl at;
-          looser = looser_by has_body name pending alone;
+          looser = λ other apart is. looser_by has_body name pending alone other is;
           awaited = open_again has_body refl;
           own_object = λ is. absurd (let h : true ≡ false = sym function ∙ is in cc);
           own_function = λ is. own_again has_body refl type_is;

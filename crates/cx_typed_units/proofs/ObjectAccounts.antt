@@ -225,12 +225,12 @@ module _ (opens : List ℕ) (pending : Option (List ℕ)) (few : CAccount) (held
     pub new_object_accounted : IsAccounted opens later many
     new_object_accounted =
         thing_accounted opens pending later few (few.next_object + 1) few.next_function told (few.objects ++ new ∷ []) (few.things ++ thing ∷ []) held name thing (one_more_declared few.things held.listed thing none) (record {
-          told = now.more;
+          told = λ number one is other. now.more number one is;
           more_functions = omega arith;
           numbered = one_more_numbered few.objects few.literals few.next_object (numbered_of opens pending few held) new next;
           stays = λ index one at apart. kept_before few.objects (new ∷ []) index one at;
           known = λ index one at. known_by index one (got_last few.objects new index one at);
-          looser = looser_by has_content name pending alone;
+          looser = λ other apart is. looser_by has_content name pending alone other is;
           awaited = open_by has_content;
           own_object = λ is. own;
           own_function = λ is. absurd cc;
@@ -348,14 +348,14 @@ module _ (opens : List ℕ) (pending : Option (List ℕ)) (few : CAccount) (held
     pub object_again_accounted : IsAccounted opens later many_again
     object_again_accounted =
         thing_accounted opens pending later few few.next_object few.next_function told (map change_one few.objects) (set_thing name again few.things) held name again declared_so (record {
-          told = now.more;
+          told = λ number one is other. now.more number one is;
           more_functions = omega arith;
           numbered = changed_numbered few.objects few.literals few.next_object (numbered_of opens pending few held) change_one (λ one. number_kept one (one.object == old.number));
           stays = λ index one at apart. stays_by index one (one.object == old.number) refl at apart;
           known = λ index one at.
               let before = got_mapped change_one few.objects index one at in
               known_again index before.0 one (before.0.object == old.number) before.1 before.2;
-          looser = looser_by has_content name pending alone;
+          looser = λ other apart is. looser_by has_content name pending alone other is;
           awaited = open_again has_content;
           own_object = λ is. own_again;
           own_function = λ is. absurd (let h : true ≡ false = sym is ∙ object in cc);

@@ -99,7 +99,7 @@ module _ (opens : List ℕ) where
   found_kept types one (Some other) held = (other, refl, held.1)
 
   pub same_itself : (types : CTypes) (one : CThing) → IsSameThing opens types one one
-  same_itself types one = record { number_is = refl; linkage_is = refl; function_is = refl; fills = λ now grows counts other held. held }
+  same_itself types one = record { number_is = refl; linkage_is = refl; function_is = refl; fills = λ now grows counts other held. held; defined = λ is. is }
 
   same_on : (middle after : CTypes) (one two three : CThing) → Grows opens middle after → IsSameThing opens middle one two → IsSameThing opens after two three → IsSameThing opens after one three
   same_on middle after one two three growth first second = record {
@@ -107,6 +107,7 @@ module _ (opens : List ℕ) where
     linkage_is = second.linkage_is ∙ first.linkage_is;
     function_is = second.function_is ∙ first.function_is;
     fills = λ now grows counts other held. first.fills now (grows_on opens middle after now growth grows) counts other (second.fills now grows counts other held);
+    defined = λ is. second.defined (first.defined is);
   }
 
   -- ---- stretches

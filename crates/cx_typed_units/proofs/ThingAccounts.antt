@@ -5,7 +5,7 @@ use Rattle.cx_core.specs.Trees.{CTypes, CObject, CFun, CMention}
 use Rattle.cx_rules.specs.Declare.{is_linked, thing_named}
 use Rattle.cx_rules.specs.Scope.{CMade, CThing}
 use Rattle.cx_typed.specs.Growth.{Gives}
-use Rattle.cx_typed_units.proofs.Accounted.{told_later}
+use Rattle.cx_typed_units.proofs.Accounted.{told_named}
 use Rattle.cx_typed_units.proofs.ObjectNumbers.{AreNumbered}
 use Rattle.cx_typed_units.specs.Account.{CAccount, IsToldAs, IsObjectNamed, IsKnownObject, IsObjectThing, IsDefinedBy, IsFunctionThing, IsKnownFun, IsAccounted}
 
@@ -50,15 +50,16 @@ module _ (opens : List ℕ) (pending later : Option (List ℕ)) (few : CAccount)
   many = declared_account few next_object next_function mentions objects things
 
   pub record AreChanged : Type 0 where
-    pub told : (number : ℕ) → Gives (slice_get few.mentions number) (slice_get mentions number)
+    -- a mention of another name stays, and so do those of a function
+    pub told : (number : ℕ) (one : CMention) → slice_get few.mentions number ≡ Some one → (one.name ≡ name → new.is_function ≡ true) → slice_get mentions number ≡ Some one
     pub more_functions : few.next_function ≤ next_function
     pub numbered : AreNumbered objects few.literals next_object
     -- an object of another name stays
     pub stays : (index : ℕ) (one : CObject) → slice_get few.objects index ≡ Some one → (one.name ≡ Some name → ⊥) → slice_get objects index ≡ Some one
     -- and what is there was there, or is known
     pub known : (index : ℕ) (one : CObject) → slice_get objects index ≡ Some one → (slice_get few.objects index ≡ Some one) ⊎ IsKnownObject opens many one
-    -- what was pending is so still, and has no definition
-    pub looser : (other : List ℕ) → pending ≡ Some other → later ≡ Some other
+    -- what was pending under another name is so still, and what is pending has no definition
+    pub looser : (other : List ℕ) → (other ≡ name → ⊥) → pending ≡ Some other → later ≡ Some other
     pub awaited : (other : List ℕ) → later ≡ Some other → (index : ℕ) (one : CFun) → slice_get few.functions index ≡ Some one → one.name ≡ other → ⊥
     -- the name itself
     pub own_object : new.is_function ≡ false → IsObjectThing opens later many name new
@@ -66,6 +67,19 @@ module _ (opens : List ℕ) (pending later : Option (List ℕ)) (few : CAccount)
     pub apart : new.is_function ≡ true → (other : List ℕ) (was : CThing) → thing_named other few.things ≡ Some was → was.is_function ≡ true → was.number ≡ new.number → other ≡ name
 
   module _ (changed : AreChanged) where
+    other_told : (other : List ℕ) → (other ≡ name → ⊥) → (number : ℕ) (one : CMention) → slice_get few.mentions number ≡ Some one → one.name ≡ other → slice_get mentions number ≡ Some one
+    other_told other apart number one at named = changed.told number one at (λ same. absurd (apart (sym named ∙ same)))
+
+    fun_told : (fun : CFun) → IsKnownFun few fun → (number : ℕ) (one : CMention) → slice_get few.mentions number ≡ Some one → one.name ≡ fun.name → slice_get mentions number ≡ Some one
+    fun_told fun was number one at named = changed.told number one at (λ same. function_by (sym named ∙ same) (declared.were fun.name onward.one onward.there))
+      where
+        onward : IsOnward fun.name things was.thing
+        onward = declared.kept fun.name was.thing was.there
+
+        function_by : fun.name ≡ name → ((thing_named fun.name few.things ≡ Some onward.one) × (fun.name ≡ name → ⊥)) ⊎ ((fun.name ≡ name) × (onward.one ≡ new)) → new.is_function ≡ true
+        function_by same (inl at) = absurd (at.1 same)
+        function_by same (inr at) = ap (λ (x : CThing). x.is_function) (sym at.1) ∙ (onward.function_is ∙ was.function_is)
+
     known_by : (index : ℕ) (one : CObject) → (slice_get few.objects index ≡ Some one) ⊎ IsKnownObject opens many one → IsKnownObject opens many one
     known_by index one (inl at) =
         let was = held.objects index one at in
@@ -88,10 +102,10 @@ module _ (opens : List ℕ) (pending later : Option (List ℕ)) (few : CAccount)
           type_is = was.type_is;
           fills = was.fills;
           defined = was.defined;
-          filled = λ apart is. was.filled (λ waits. apart (changed.looser other waits)) is;
+          filled = λ apart is. was.filled (λ waits. apart (changed.looser other at.1 waits)) is;
           internal = was.internal;
-          type_told = λ external. told_later few.mentions mentions changed.told other _ _ (was.type_told external);
-          does_told = λ external. told_later few.mentions mentions changed.told other _ _ (was.does_told external);
+          type_told = λ external. told_named few.mentions mentions other (other_told other at.1) _ _ (was.type_told external);
+          does_told = λ external. told_named few.mentions mentions other (other_told other at.1) _ _ (was.does_told external);
         }
     object_by other one object (inr at) =
         subst (λ n. IsObjectThing opens later many n one) (sym at.0)
@@ -108,15 +122,15 @@ module _ (opens : List ℕ) (pending later : Option (List ℕ)) (few : CAccount)
       fills = was.fills;
     }
 
-    function_by : (other : List ℕ) (one : CThing) → one.is_function ≡ true → ((thing_named other few.things ≡ Some one) × (other ≡ name → ⊥)) ⊎ ((other ≡ name) × (one ≡ new)) → IsFunctionThing opens later many other one
-    function_by other one function (inl at) =
+    functions_by : (other : List ℕ) (one : CThing) → one.is_function ≡ true → ((thing_named other few.things ≡ Some one) × (other ≡ name → ⊥)) ⊎ ((other ≡ name) × (one ≡ new)) → IsFunctionThing opens later many other one
+    functions_by other one function (inl at) =
         let was = held.function_things other one at.0 function in
         record {
           below = (let h : one.number < few.next_function = was.below in let more = changed.more_functions in omega (arith, h, more));
-          undefined = λ none. told_later few.mentions mentions changed.told other one.linkage _ (was.undefined none);
-          defined = λ apart is. defined_by other one (was.defined (λ waits. apart (changed.looser other waits)) is);
+          undefined = λ none. told_named few.mentions mentions other (other_told other at.1) one.linkage _ (was.undefined none);
+          defined = λ apart is. defined_by other one (was.defined (λ waits. apart (changed.looser other at.1 waits)) is);
         }
-    function_by other one function (inr at) =
+    functions_by other one function (inr at) =
         subst (λ n. IsFunctionThing opens later many n one) (sym at.0)
         (subst (λ thing. IsFunctionThing opens later many name thing) (sym at.1) (changed.own_function (ap (λ (x : CThing). x.is_function) (sym at.1) ∙ function)))
 
@@ -141,7 +155,7 @@ module _ (opens : List ℕ) (pending later : Option (List ℕ)) (few : CAccount)
           function_is = onward.function_is ∙ was.function_is;
           defined = onward.defined was.defined;
           number_is = onward.number_is ∙ was.number_is;
-          told = λ external. told_later few.mentions mentions changed.told one.name _ _ (was.told external);
+          told = λ external. told_named few.mentions mentions one.name (fun_told one was) _ _ (was.told external);
         }
 
     pub thing_accounted : IsAccounted opens later many
@@ -154,7 +168,7 @@ module _ (opens : List ℕ) (pending later : Option (List ℕ)) (few : CAccount)
       objects = λ index one at. known_by index one (changed.known index one at);
       listed = declared.listed;
       object_things = λ other one there object. object_by other one object (declared.were other one there);
-      function_things = λ other one there function. function_by other one function (declared.were other one there);
+      function_things = λ other one there function. functions_by other one function (declared.were other one there);
       functions_differ = λ first second one two at there f g same. differ_by first second one two f g same (declared.were first one at) (declared.were second two there);
       functions = λ index one at. fun_by one (held.functions index one at);
       bodies_differ = held.bodies_differ;

@@ -108,17 +108,14 @@ static_there home type scope one s = subst (λ b. IsThereHere home type (own_obj
 own_there : (home : CHome) (type : CTy) (scope : CScope) (one : CDeclaring) → has_storage keyword.Static one.specs ≡ false → Contains home.scope scope.next_object → IsThere home type (own_object one scope)
 own_there home type scope one s contains = subst (λ b. IsThereHere home type (own_object one scope) Nothing (static_puts b)) (sym s) contains
 
-module _ (opens : List ℕ) (scope : CScope) (good : IsGood opens scope) (orderly : IsOrderly opens scope) (inside : scope.in_function ≡ true) (one : CDeclaring) (fine : IsFine opens scope one)
-    (unfilled : one.has_init ≡ false)
-    (sized : is_typedef one.specs ≡ false → is_function one.type ≡ false → is_linked one.linkage ≡ false → IsComplete (with_declaration one scope).types one.type)
-    (internal : one.linkage ≡ Internal → thing_named one.name scope.things ≡ None → (is_outside one.where_stands ≡ true) × (has_storage keyword.Extern one.specs ≡ false)) where
+module _ (opens : List ℕ) (scope : CScope) (good : IsGood opens scope) (orderly : IsOrderly opens scope) (one : CDeclaring) (fine : IsFine opens scope one) where
   abbrev after : CScope
   after = with_declaration one scope
 
-  made : IsBegunAs opens scope one.name (meant_by (is_typedef one.specs) (is_function one.type) (is_linked one.linkage) one scope) after
+  pub made : IsBegunAs opens scope one.name (meant_by (is_typedef one.specs) (is_function one.type) (is_linked one.linkage) one scope) after
   made = begun_is opens scope good orderly one fine
 
-  made_as : (typedef is_fun linked : Bool) → is_typedef one.specs ≡ typedef → is_function one.type ≡ is_fun → is_linked one.linkage ≡ linked
+  pub made_as : (typedef is_fun linked : Bool) → is_typedef one.specs ≡ typedef → is_function one.type ≡ is_fun → is_linked one.linkage ≡ linked
       → IsBegunAs opens scope one.name (meant_by typedef is_fun linked one scope) after
   made_as typedef is_fun linked t f l =
       subst (λ b. IsBegunAs opens scope one.name (meant_by b is_fun linked one scope) after) t
@@ -141,7 +138,7 @@ module _ (opens : List ℕ) (scope : CScope) (good : IsGood opens scope) (orderl
         }),
       )
 
-  held_after : (typedef is_fun linked : Bool) → is_typedef one.specs ≡ typedef → is_function one.type ≡ is_fun → is_linked one.linkage ≡ linked → (home : CHome) → Backs home opens scope after
+  pub held_after : (typedef is_fun linked : Bool) → is_typedef one.specs ≡ typedef → is_function one.type ≡ is_fun → is_linked one.linkage ≡ linked → (home : CHome) → Backs home opens scope after
       → (typedef ≡ false → is_fun ≡ false → linked ≡ false → IsThere home one.type (own_object one scope)) → IsHeldAt home scope.declared → IsHeldAt home after.declared
   held_after true is_fun linked t f l home backs there known =
       one_more_held home one.name (a_type_name one.type) scope.declared after.declared (made_as true is_fun linked t f l).declared_is known tt
@@ -161,61 +158,64 @@ module _ (opens : List ℕ) (scope : CScope) (good : IsGood opens scope) (orderl
   there_by t f l true s home all = static_there home one.type scope one s
   there_by t f l false s home all = own_there home one.type scope one s (all.objects_inside (length scope.objects) (own_object one scope) (own_found one scope t f l) refl)
 
-  able : (pending : Option (List ℕ)) → IsAccountable pending scope one
-  able pending = record {
-    alone = λ is. absurd (let h : false ≡ true = sym unfilled ∙ is in cc);
-    outside = λ is. absurd (let h : false ≡ true = sym unfilled ∙ is in cc);
-    internal = internal;
-  }
-
   -- a declaration of an object stands beside those of one
-  old_objects : is_typedef one.specs ≡ false → is_function one.type ≡ false → is_linked one.linkage ≡ true → (old : CThing) → thing_named one.name scope.things ≡ Some old → old.is_function ≡ false
+  pub old_objects : is_typedef one.specs ≡ false → is_function one.type ≡ false → is_linked one.linkage ≡ true → (old : CThing) → thing_named one.name scope.things ≡ Some old → old.is_function ≡ false
   old_objects t f l old there =
       sym (orderly.things one.name old there).function_is
       ∙ (sym (agree_function scope.types one.type old.type (found_goes _ (thing_named one.name scope.things) old there (fine.goes l)).agrees) ∙ f)
 
-  made_typed : AreTypedUpTo opens scope → AreTypedUpTo opens after
-  made_typed held home all =
-      let was = held home (holds_earlier opens home scope after all made.leads) in
-      let backs = backs_from opens home scope after all made.leads in
-      record {
-        held = held_after (is_typedef one.specs) (is_function one.type) (is_linked one.linkage) refl refl refl home backs (λ t f l. there_by t f l (has_storage keyword.Static one.specs) refl home all) was.held;
-        literals = λ index x is. was.literals index x (subst (λ literals. slice_get literals index ≡ Some x) made.literals_are is);
-        objects = λ index x is.
-            declared_filled home opens scope orderly one (λ t f l. record {
-              complete = complete_stays opens after.types home.program.types all.backs.grows one.type (sized t f l);
-              typed = (tt, tt);
-              constant = tt;
-            }) was.objects old_objects index x is;
-        functions = λ index x is. was.functions index x (subst (λ functions. slice_get functions index ≡ Some x) made.leads.functions_are is);
-      }
+  module _ (unfilled : one.has_init ≡ false)
+      (sized : is_typedef one.specs ≡ false → is_function one.type ≡ false → is_linked one.linkage ≡ false → IsComplete (with_declaration one scope).types one.type)
+      (internal : one.linkage ≡ Internal → thing_named one.name scope.things ≡ None → (is_outside one.where_stands ≡ true) × (has_storage keyword.Extern one.specs ≡ false)) where
+    able : (pending : Option (List ℕ)) → IsAccountable pending scope one
+    able pending = record {
+      alone = λ is. absurd (let h : false ≡ true = sym unfilled ∙ is in cc);
+      outside = λ is. absurd (let h : false ≡ true = sym unfilled ∙ is in cc);
+      internal = internal;
+    }
 
-  made_leads : Leads opens scope after
-  made_leads = leads_by opens scope after made.leads (λ pending held. plain_accounted opens pending scope orderly one fine held (λ linked. unfilled) (λ t f l. able pending)) made_typed
+    pub made_typed : AreTypedUpTo opens scope → AreTypedUpTo opens after
+    made_typed held home all =
+        let was = held home (holds_earlier opens home scope after all made.leads) in
+        let backs = backs_from opens home scope after all made.leads in
+        record {
+          held = held_after (is_typedef one.specs) (is_function one.type) (is_linked one.linkage) refl refl refl home backs (λ t f l. there_by t f l (has_storage keyword.Static one.specs) refl home all) was.held;
+          literals = λ index x is. was.literals index x (subst (λ literals. slice_get literals index ≡ Some x) made.literals_are is);
+          objects = λ index x is.
+              declared_filled home opens scope orderly one (λ t f l. record {
+                complete = complete_stays opens after.types home.program.types all.backs.grows one.type (sized t f l);
+                typed = (tt, tt);
+                constant = tt;
+              }) was.objects old_objects index x is;
+          functions = λ index x is. was.functions index x (subst (λ functions. slice_get functions index ≡ Some x) made.leads.functions_are is);
+        }
 
-  -- without an object whose life begins
-  plain_either : (at : TextPlace) (has_init begins : Bool) (puts : CPuts) → IsDeclaration opens scope (only_literals scope after) after
-      → IsDeclaration opens scope (with_literals (literals_since scope after) (if begins then begin_at at has_init puts None else nothing_meant)) after
-  plain_either at has_init true puts held = held
-  plain_either at has_init false puts held = held
+    pub made_leads : Leads opens scope after
+    made_leads = leads_by opens scope after made.leads (λ pending held. plain_accounted opens pending scope orderly one fine held (λ linked. unfilled) (λ t f l. able pending)) made_typed
 
-  unfilled_by : (at : TextPlace) (puts : CPuts) (typedef is_fun linked static : Bool) → is_typedef one.specs ≡ typedef → is_function one.type ≡ is_fun → is_linked one.linkage ≡ linked
-      → has_storage keyword.Static one.specs ≡ static → (typedef ≡ false → is_fun ≡ false → linked ≡ false → IsComplete after.types one.type)
-      → IsDeclaration opens scope (meaning_by true linked static typedef is_fun at false puts (if linked then linked_number scope.next_object (thing_named one.name scope.things) else scope.next_object) (literals_since scope after)) after
-  unfilled_by at puts true is_fun linked static t f l s complete =
-      plain_either at false (not (linked || static)) puts (plain_declared opens scope after made.good made_leads made.body_is (λ home backs known. held_after true is_fun linked t f l home backs (λ x. absurd cc) known))
-  unfilled_by at puts false true linked static t f l s complete =
-      plain_either at false (not (linked || static)) puts (plain_declared opens scope after made.good made_leads made.body_is (λ home backs known. held_after false true linked t f l home backs (λ x y. absurd cc) known))
-  unfilled_by at puts false false true static t f l s complete =
-      plain_declared opens scope after made.good made_leads made.body_is (λ home backs known. held_after false false true t f l home backs (λ x y z. absurd cc) known)
-  unfilled_by at puts false false false true t f l s complete =
-      plain_declared opens scope after made.good made_leads made.body_is
-      (λ home backs known. held_after false false false t f l home backs (λ x y z. static_there home one.type scope one s) known)
-  unfilled_by at puts false false false false t f l s complete =
-      begun_declared opens scope after made.good made_leads made.body_is at None (own_object one scope) (length scope.objects) (omega arith) (own_found one scope t f l) refl
-      (ap static_puts s) refl refl (complete refl refl refl)
-      (λ home backs known contains. held_after false false false t f l home backs (λ x y z. own_there home one.type scope one s contains) known)
-      (λ home backs known contains literals. tt)
+    -- without an object whose life begins
+    plain_either : (at : TextPlace) (has_init begins : Bool) (puts : CPuts) → IsDeclaration opens scope (only_literals scope after) after
+        → IsDeclaration opens scope (with_literals (literals_since scope after) (if begins then begin_at at has_init puts None else nothing_meant)) after
+    plain_either at has_init true puts held = held
+    plain_either at has_init false puts held = held
+
+    unfilled_by : (at : TextPlace) (puts : CPuts) (typedef is_fun linked static : Bool) → is_typedef one.specs ≡ typedef → is_function one.type ≡ is_fun → is_linked one.linkage ≡ linked
+        → has_storage keyword.Static one.specs ≡ static → (typedef ≡ false → is_fun ≡ false → linked ≡ false → IsComplete after.types one.type)
+        → IsDeclaration opens scope (meaning_by true linked static typedef is_fun at false puts (if linked then linked_number scope.next_object (thing_named one.name scope.things) else scope.next_object) (literals_since scope after)) after
+    unfilled_by at puts true is_fun linked static t f l s complete =
+        plain_either at false (not (linked || static)) puts (plain_declared opens scope after made.good made_leads made.body_is (λ home backs known. held_after true is_fun linked t f l home backs (λ x. absurd cc) known))
+    unfilled_by at puts false true linked static t f l s complete =
+        plain_either at false (not (linked || static)) puts (plain_declared opens scope after made.good made_leads made.body_is (λ home backs known. held_after false true linked t f l home backs (λ x y. absurd cc) known))
+    unfilled_by at puts false false true static t f l s complete =
+        plain_declared opens scope after made.good made_leads made.body_is (λ home backs known. held_after false false true t f l home backs (λ x y z. absurd cc) known)
+    unfilled_by at puts false false false true t f l s complete =
+        plain_declared opens scope after made.good made_leads made.body_is
+        (λ home backs known. held_after false false false t f l home backs (λ x y z. static_there home one.type scope one s) known)
+    unfilled_by at puts false false false false t f l s complete =
+        begun_declared opens scope after made.good made_leads made.body_is at None (own_object one scope) (length scope.objects) (omega arith) (own_found one scope t f l) refl
+        (ap static_puts s) refl refl (complete refl refl refl)
+        (λ home backs known contains. held_after false false false t f l home backs (λ x y z. own_there home one.type scope one s contains) known)
+        (λ home backs known contains literals. tt)
 
 -- ---- the walk
 
@@ -229,7 +229,7 @@ size_said false true unlinked incomplete fine t = absurd cc
 size_said false false true incomplete fine t = record { some = refl; sized = λ is. fine }
 size_said false false false incomplete fine t = record { some = refl; sized = λ is. absurd cc }
 
-unlinked_is : (linkage : Linkage) → is_linked linkage ≡ false → is_unlinked linkage ≡ true
+pub unlinked_is : (linkage : Linkage) → is_linked linkage ≡ false → is_unlinked linkage ≡ true
 unlinked_is External is = absurd cc
 unlinked_is Internal is = absurd cc
 unlinked_is Nothing is = refl
@@ -261,7 +261,7 @@ module _ (opens : List ℕ) (place : SpecsPlace) (specs : CSpecs) (line : ℕ) (
       (meaning_by b (is_linked one.linkage) (has_storage keyword.Static specs) (is_typedef specs) (is_function one.type) at false puts
       (if is_linked one.linkage then linked_number scope.next_object (thing_named name scope.things) else scope.next_object) (literals_since scope behind)) behind)
       (sym (begun.leads.in_function_is ∙ inside))
-      (unfilled_by opens scope good orderly inside one fine refl
+      (unfilled_by opens scope good orderly one fine refl
       (λ typedef no_fun no_link. complete_object behind.types one.type no_fun ((said typedef).sized (unlinked_is one.linkage no_link)) unbroken.m3) (λ internal none. first_internal opens scope orderly name none place specs written few internal) at puts (is_typedef specs) (is_function one.type) (is_linked one.linkage) (has_storage keyword.Static specs) refl refl refl refl
       (λ typedef no_fun no_link. complete_object behind.types one.type no_fun ((said typedef).sized (unlinked_is one.linkage no_link)) unbroken.m3))
 

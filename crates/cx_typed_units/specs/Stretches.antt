@@ -27,6 +27,7 @@ pub record IsSameThing (opens : List ℕ) (types : CTypes) (one other : CThing) 
   pub linkage_is : other.linkage ≡ one.linkage
   pub function_is : other.is_function ≡ one.is_function
   pub fills : Fills opens types one.type other.type
+  pub defined : one.is_defined ≡ true → other.is_defined ≡ true
 
 abbrev pub IsKept : List ℕ → CTypes → CThing → Option CThing → Type 0
 IsKept opens types one found = IsSome found × IfSome found (IsSameThing opens types one)
