@@ -129,9 +129,14 @@ for objects in 20 2000; do
   done
 done
 
-rows="$top/crates/rows/out/rows"
-(cd "$top/crates/rows" && rt run -- >"$work/build.log" 2>&1 </dev/null)
-[ -x "$rows" ] || { echo "the program of the rows wasn't built"; exit 1; }
+# rows_of NAME: the rows behind are asked of this program.
+rows_of() {
+  rows="$top/crates/$1/out/$1"
+  (cd "$top/crates/$1" && rt run -- >"$work/build.log" 2>&1 </dev/null)
+  [ -x "$rows" ] || { echo "the program $1 wasn't built"; exit 1; }
+}
+
+rows_of text_rows
 
 # c_unit SIZE: a unit of this many bytes of ordinary C, whose end is blanks.
 c_unit() {
@@ -232,6 +237,7 @@ paced() {
   }'
 }
 
+rows_of store_rows
 for store in list region; do
   paced "$store" mixed 1000 250000 4
   for live in 100 1000 10000; do
@@ -250,6 +256,7 @@ crate_row() {
   }'
 }
 
+rows_of crate_rows
 crate_row 0 >"$work/no_statements.row"
 for size in 65536 262144 1048576; do
   crate_row "$size" >"$work/statements.row"
@@ -370,6 +377,7 @@ full() {
 }
 
 [ -x /usr/bin/time ] || { echo "skipped: the memory of a full region (/usr/bin/time isn't there)"; exit 0; }
+rows_of store_rows
 blocks='alloc 16777216 1 | alloc 16777216 1 | alloc 16777216 1 | alloc 16777216 1'
 full '1 MiB' 'region 1048576 65552 | alloc 1048576 1'
 full '64 MiB' "region 67108864 4194320 | $blocks"

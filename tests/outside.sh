@@ -31,8 +31,12 @@ built() {
   fi
 }
 
-built rows || exit 1
-rows=$program
+built text_rows || exit 1
+text_rows=$program
+built store_rows || exit 1
+store_rows=$program
+built crate_rows || exit 1
+crate_rows=$program
 built check_rows || exit 1
 check_rows=$program
 built c2rs || exit 1
@@ -191,7 +195,7 @@ every_form() {
     skip 'the crate with every form (rustc isn'"'"'t there)'
     return
   fi
-  row=$(grep -A 1 '^# A crate in which each form of the subset stands' "$top/crates/rows/stdin" | tail -1)
+  row=$(grep -A 1 '^# A crate in which each form of the subset stands' "$top/crates/crate_rows/stdin" | tail -1)
   mkdir -p "$work/every/src"
   while read -r name text; do
     printf '%s' "$text" | sed 's/\$n/\n/g; s/\$7c/|/g; s/\$24/$/g' >"$work/every/$name"
@@ -213,7 +217,7 @@ every_form() {
 nested_blocks() {
   local head='pub unsafe extern "C" fn main_0() -> i32 {$n' last='return 1i32;$n}$npub unsafe extern "C" fn run_static_initializers() {$n}$n'
   printf 'module %s%s%s%s\n' "$head" "$(yes 'loop {$n' | head -1000 | tr -d '\n')" "$(yes '}$n' | head -1000 | tr -d '\n')" "$last" >"$work/nested"
-  if [ "$( (ulimit -s 8192; "$rows" <"$work/nested") | grep -o 'loop {\$n' | wc -l)" -eq 1000 ]; then
+  if [ "$( (ulimit -s 8192; "$crate_rows" <"$work/nested") | grep -o 'loop {\$n' | wc -l)" -eq 1000 ]; then
     ok 'blocks that nest 1,000 deep are read and printed'
   else
     bad 'blocks that nest 1,000 deep are read and printed'
@@ -222,7 +226,7 @@ nested_blocks() {
 
 # Runs of crates within 8 MiB of stack: calls and blocks 1,000 deep, and calls without end, which are want of memory and no crash.
 deep_runs() {
-  if (ulimit -s 8192; "$rows" <"$top/tests/deep_runs.rows") 2>&1 | cmp -s - "$top/tests/deep_runs.answers"; then
+  if (ulimit -s 8192; "$crate_rows" <"$top/tests/deep_runs.rows") 2>&1 | cmp -s - "$top/tests/deep_runs.answers"; then
     ok 'calls and blocks run 1,000 deep, and calls without end are want of memory'
   else
     bad 'calls and blocks run 1,000 deep, and calls without end are want of memory'
@@ -269,7 +273,7 @@ compared() {
 
 # Units near C99: those have a syntax tree in which gcc finds no syntax error, but for kinds of difference that are known.
 syntax_mutants() {
-  compared 'units near C99' syntax_mutants.py "$rows" gcc
+  compared 'units near C99' syntax_mutants.py "$text_rows" gcc
 }
 
 # Random expressions: those break a constraint in which gcc finds an error, the profile's own rules apart.
@@ -289,7 +293,7 @@ unit_mutants() {
 
 # Random control flow graphs: their shapes fit them, with a dispatch exactly where one is irreducible.
 relooper_graphs() {
-  compared 'shapes of random graphs' relooper_graphs.py "$rows"
+  compared 'shapes of random graphs' relooper_graphs.py "$text_rows"
 }
 
 # Random records of C: a model of the ABI and gcc lay them out alike. The model's answers are rows of the gate.
@@ -318,7 +322,7 @@ crate_runs() {
 region_turns() {
   local said
   tools_for 'random calls of a store in a region' python3 || return
-  if ! said=$(python3 "$top/tests/region_turns.py" --rows "$rows" 2>&1); then
+  if ! said=$(python3 "$top/tests/region_turns.py" --rows "$store_rows" 2>&1); then
     bad "random calls of a store in a region: $said"
   else
     ok "random calls of a store in a region: $said"

@@ -183,7 +183,6 @@ sum_defined = record {
       refl,
       record {
         object = record { no_linkage = refl; not_static = refl; here = refl; complete = to_s_complete };
-        named = refl;
         type_is = refl;
       },
       tt,

@@ -1,3 +1,4 @@
+mod Apart
 mod Begun
 mod Carried
 mod Filled

@@ -24,12 +24,12 @@ impl<'a> Work<'a> {
     pub fn begin(alloc: Global, e: &'a CoreExpr) -> Result<Child<Work<'a>>, Memory>
         ensures { IfOk result (λ made. view_work made ≡ begun (view_expr e.now)) }
     {
-        begin(alloc, e)
+        Child::new(alloc, begin(alloc, e)?)
     }
 }
 
 #[cycle(begin)]
-pub(crate) fn begin<'a>(alloc: Global, e: &'a CoreExpr) -> Result<Child<Work<'a>>, Memory>
+fn begin<'a>(alloc: Global, e: &'a CoreExpr) -> Result<Work<'a>, Memory>
     ensures { IfOk result (λ made. view_work made ≡ begun (view_expr e.now)) }
 {
     match &e.form {
@@ -55,12 +55,7 @@ pub(crate) fn begin<'a>(alloc: Global, e: &'a CoreExpr) -> Result<Child<Work<'a>
         | Form::Or(first, _)
         | Form::Cond(first, _, _)
         | Form::Comma(first, _) => { chooses(alloc, e, first.get(), begin(alloc, first.get())) }
-        Form::Call(_, args) => needs_args(
-            alloc,
-            e,
-            args.as_slice(),
-            begin_all(alloc, args.as_slice()),
-        ),
+        Form::Call(_, args) => needs_args(e, args.as_slice(), begin_all(alloc, args.as_slice())),
         Form::CallBy(callee, args) => needs_call(
             alloc,
             e,
@@ -80,13 +75,13 @@ fn begin_all<'a>(alloc: Global, exprs: &'a [CoreExpr]) -> Result<Children<Work<'
 {
     let mut made = Children::new(alloc);
     for one in exprs {
-        made.push(begin(alloc, one)?.into_inner())?;
+        made.push(begin(alloc, one)?)?;
     }
     Ok(made)
 }
 
 // A constant, or the name of an object or a function.
-fn leaf<'a>(alloc: Global, e: &'a CoreExpr) -> Result<Child<Work<'a>>, Memory>
+fn leaf<'a>(alloc: Global, e: &'a CoreExpr) -> Result<Work<'a>, Memory>
     ensures { IfOk result (λ made. view_work made ≡ begun (view_expr e.now)) }
 {
     match &e.form {
@@ -101,16 +96,16 @@ fn leaf<'a>(alloc: Global, e: &'a CoreExpr) -> Result<Child<Work<'a>>, Memory>
 // A part that was begun, as one more operand.
 fn push_part<'a>(
     operands: &mut Children<Work<'a>>,
-    part: Result<Child<Work<'a>>, Memory>,
+    part: Result<Work<'a>, Memory>,
 ) -> Result<(), Memory>
     ensures { OnOk result (IsPushed operands.old operands.new part.entry) }
 {
-    operands.push(part?.into_inner())
+    operands.push(part?)
 }
 
 // An operand that is one without a step.
 #[tactic(auto, using(crate::proofs::Opened::type_of_view))]
-fn at_once<'a>(alloc: Global, e: &'a CoreExpr, value: Finished) -> Result<Child<Work<'a>>, Memory>
+fn at_once<'a>(alloc: Global, e: &'a CoreExpr, value: Finished) -> Result<Work<'a>, Memory>
     ensures { IfOk result (λ made. view_work made ≡ finished (at_once (type_of (view_expr e.now)) (view_finished value))) }
 {
     let operand = Operand {
@@ -118,37 +113,37 @@ fn at_once<'a>(alloc: Global, e: &'a CoreExpr, value: Finished) -> Result<Child<
         value,
         marks: Marks::new(alloc),
     };
-    Child::new(alloc, Work::Finished(operand))
+    Ok(Work::Finished(operand))
 }
 
-fn needs_none<'a>(alloc: Global, e: &'a CoreExpr) -> Result<Child<Work<'a>>, Memory>
+fn needs_none<'a>(alloc: Global, e: &'a CoreExpr) -> Result<Work<'a>, Memory>
     ensures { IfOk result (λ made. view_work made ≡ needs (view_expr e.now) no_works) }
 {
-    Child::new(alloc, Work::Needs(e, Children::new(alloc)))
+    Ok(Work::Needs(e, Children::new(alloc)))
 }
 
 fn needs_one<'a>(
     alloc: Global,
     e: &'a CoreExpr,
     _part: &'a CoreExpr,
-    first: Result<Child<Work<'a>>, Memory>,
-) -> Result<Child<Work<'a>>, Memory>
+    first: Result<Work<'a>, Memory>,
+) -> Result<Work<'a>, Memory>
     requires { IfOk first (λ made. view_work made ≡ begun (view_expr _part.now)) }
     ensures { IfOk result (λ made. view_work made ≡ needs (view_expr e.now) (more_works (begun (view_expr _part.now)) no_works)) }
 {
     let mut operands = Children::new(alloc);
     push_part(&mut operands, first)?;
-    Child::new(alloc, Work::Needs(e, operands))
+    Ok(Work::Needs(e, operands))
 }
 
 fn needs_two<'a>(
     alloc: Global,
     e: &'a CoreExpr,
     _left: &'a CoreExpr,
-    first: Result<Child<Work<'a>>, Memory>,
+    first: Result<Work<'a>, Memory>,
     _right: &'a CoreExpr,
-    second: Result<Child<Work<'a>>, Memory>,
-) -> Result<Child<Work<'a>>, Memory>
+    second: Result<Work<'a>, Memory>,
+) -> Result<Work<'a>, Memory>
     requires first { IfOk first (λ made. view_work made ≡ begun (view_expr _left.now)) }
     requires second { IfOk second (λ made. view_work made ≡ begun (view_expr _right.now)) }
     ensures { IfOk result (λ made. view_work made ≡
@@ -157,41 +152,40 @@ fn needs_two<'a>(
     let mut operands = Children::new(alloc);
     push_part(&mut operands, first)?;
     push_part(&mut operands, second)?;
-    Child::new(alloc, Work::Needs(e, operands))
+    Ok(Work::Needs(e, operands))
 }
 
 fn chooses<'a>(
     alloc: Global,
     e: &'a CoreExpr,
     _part: &'a CoreExpr,
-    first: Result<Child<Work<'a>>, Memory>,
-) -> Result<Child<Work<'a>>, Memory>
+    first: Result<Work<'a>, Memory>,
+) -> Result<Work<'a>, Memory>
     requires { IfOk first (λ made. view_work made ≡ begun (view_expr _part.now)) }
     ensures { IfOk result (λ made. view_work made ≡ chooses (view_expr e.now) (begun (view_expr _part.now))) }
 {
-    Child::new(alloc, Work::Chooses(e, first?))
+    Ok(Work::Chooses(e, Child::new(alloc, first?)?))
 }
 
 fn needs_args<'a>(
-    alloc: Global,
     e: &'a CoreExpr,
     _args: &'a [CoreExpr],
     others: Result<Children<Work<'a>>, Memory>,
-) -> Result<Child<Work<'a>>, Memory>
+) -> Result<Work<'a>, Memory>
     requires { IfOk others (λ made. view_works made ≡ all_begun (exprs_of (map view_expr _args.now))) }
     ensures { IfOk result (λ made. view_work made ≡ needs (view_expr e.now) (all_begun (exprs_of (map view_expr _args.now)))) }
 {
-    Child::new(alloc, Work::Needs(e, others?))
+    Ok(Work::Needs(e, others?))
 }
 
 fn needs_call<'a>(
     alloc: Global,
     e: &'a CoreExpr,
     _callee: &'a CoreExpr,
-    first: Result<Child<Work<'a>>, Memory>,
+    first: Result<Work<'a>, Memory>,
     _args: &'a [CoreExpr],
     others: Result<Children<Work<'a>>, Memory>,
-) -> Result<Child<Work<'a>>, Memory>
+) -> Result<Work<'a>, Memory>
     requires first { IfOk first (λ made. view_work made ≡ begun (view_expr _callee.now)) }
     requires others { IfOk others (λ made. view_works made ≡ all_begun (exprs_of (map view_expr _args.now))) }
     ensures { IfOk result (λ made. view_work made ≡
@@ -200,5 +194,5 @@ fn needs_call<'a>(
     let mut operands = Children::new(alloc);
     push_part(&mut operands, first)?;
     operands.append(others?)?;
-    Child::new(alloc, Work::Needs(e, operands))
+    Ok(Work::Needs(e, operands))
 }

@@ -1,6 +1,6 @@
 //! What the operands of an expression have read and written (ISO C99, 6.5p2).
 
-ghost use Rattle.std.specs.Prelude.{◌≡◌, OnOk};
+ghost use Rattle.std.specs.Prelude.{◌≡◌, ◌++◌, OnOk};
 ghost use Rattle.std.specs.List.{list_any};
 ghost use Rattle.cx_mean.specs.Marks.{any_overlap, at_sequence_point, both, conflict, no_marks, overlap, with_read, with_write};
 
@@ -72,6 +72,9 @@ fn meets_one(range: Range, others: &[Range]) -> bool
 pub fn any_overlap(ones: &[Range], others: &[Range]) -> bool
     ensures { result ≡ any_overlap ones.now others.now }
 {
+    if others.is_empty() {
+        return false;
+    }
     for one in ones {
         if meets_one(*one, others) {
             return true;
@@ -91,6 +94,17 @@ pub fn conflict(one: &Marks, other: &Marks) -> bool
         return true;
     }
     any_overlap(one.reads.as_slice(), other.writes.as_slice())
+}
+
+// Adds ranges behind others. Where there are none in front, they stay where they are.
+fn add_behind(ranges: &mut Items<Range>, more: Items<Range>) -> Result<(), Memory>
+    ensures { OnOk result (ranges.new ≡ ranges.old ++ more) }
+{
+    if ranges.is_empty() {
+        *ranges = more;
+        return Ok(());
+    }
+    ranges.append(more)
 }
 
 impl Marks {
@@ -114,9 +128,9 @@ impl Marks {
             writes,
             still,
         } = other;
-        self.reads.append(reads)?;
-        self.writes.append(writes)?;
-        self.still.append(still)
+        add_behind(&mut self.reads, reads)?;
+        add_behind(&mut self.writes, writes)?;
+        add_behind(&mut self.still, still)
     }
 
     /// Adds what is read. Refused only for want of memory.

@@ -1,9 +1,4 @@
 pub mod Called
-pub mod Formed
-pub mod Opened
-pub mod OpenedExprs
-pub mod Operated
-pub mod Quickly
 pub mod Outcomes
 pub mod Started
 pub mod Turned

@@ -1,7 +1,7 @@
 //! Calls (the Rust Reference, "Call expressions" and "Functions").
 
 ghost use Rattle.std.specs.Prelude.{◌≡◌, ◌++◌, map, option_map, Some};
-ghost use Rattle.rs_exec.specs.Forms.{call_run};
+ghost use Rattle.rs_forms.specs.Forms.{call_run};
 ghost use Rattle.rs_scene.specs.Scenes.{IsScene, frame_view};
 ghost use Rattle.rs_machine.specs.Does.{Does, end_of};
 ghost use Rattle.rs_machine.specs.States.{state};
@@ -19,11 +19,11 @@ ghost use Rattle.rs_tree.specs.Views.{expr_view, function_view};
 ghost use Rattle.rs_value.specs.Views.{typed_view};
 
 use crate::exprs::expr;
-use crate::forms::CallForm;
 use crate::stmts::stmts;
 use cr_base::Items;
 use ext_calls::Host;
 use mem_bytes::Store;
+use rs_forms::CallForm;
 use rs_layout::{HeldCallee, callee_at};
 use rs_machine::{Halt, Machine, outer_call};
 use rs_mean::Cause;

@@ -1,7 +1,7 @@
 //! Expressions (the Rust Reference, "Expressions").
 
 ghost use Rattle.std.specs.Prelude.{map};
-ghost use Rattle.rs_exec.specs.Forms.{call_run, pair_run, plain_run, side_run, used_as};
+ghost use Rattle.rs_forms.specs.Forms.{call_run, pair_run, plain_run, side_run, used_as};
 ghost use Rattle.rs_machine.specs.Does.{Does, end_of};
 ghost use Rattle.rs_machine.specs.States.{state};
 ghost use Rattle.rs_mean.specs.Run.{run_expr, run_place, tests, the_value};
@@ -12,11 +12,12 @@ ghost use Rattle.rs_value.specs.Operators.{unary_of};
 ghost use Rattle.rs_value.specs.Views.{typed_view};
 
 use crate::calls::call;
-use crate::forms::{CallForm, Form, Pair, PlaceUse, Side, form_of};
-use crate::operations::{pair_value, plain_value, unary_value, used_value};
 use crate::places::place;
 use ext_calls::Host;
 use mem_bytes::Store;
+use rs_forms::{
+    CallForm, Form, Pair, PlaceUse, Side, form_of, pair_value, plain_value, unary_value, used_value,
+};
 use rs_machine::{Halt, Machine};
 use rs_scene::{Scene, the_value, truth_value};
 use rs_tree::{RExpr, RPlace};

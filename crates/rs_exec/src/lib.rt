@@ -4,12 +4,9 @@
 mod begins;
 mod calls;
 mod exprs;
-mod forms;
-mod operations;
 mod outcome;
 mod places;
 mod program;
-mod quick;
 mod run;
 mod stmts;
 

@@ -1,7 +1,7 @@
 //! Statements (the Rust Reference, "Statements" and "Loops").
 
 ghost use Rattle.std.specs.Prelude.{◌≡◌, map, Some, if◌then◌else◌};
-ghost use Rattle.rs_exec.specs.Forms.{call_run, nested_run};
+ghost use Rattle.rs_forms.specs.Forms.{call_run, nested_run};
 ghost use Rattle.rs_scene.specs.Scenes.{IsScene, frame_view};
 ghost use Rattle.rs_machine.specs.Does.{Does, Stays, end_of};
 ghost use Rattle.rs_machine.specs.States.{state};
@@ -18,12 +18,11 @@ ghost use Rattle.rs_value.specs.Views.{spot_view, typed_view};
 
 use crate::calls::call;
 use crate::exprs::expr;
-use crate::forms::{CallForm, Nested, StmtForm, stmt_form};
 use crate::places::place;
-use crate::quick::{quick_spot, quick_test, quick_value};
 use cr_base::{Items, Name};
 use ext_calls::Host;
 use mem_bytes::Store;
+use rs_forms::{CallForm, Left, Nested, StmtForm, quick_spot, quick_stmt, quick_value, stmt_form};
 use rs_machine::{Halt, Machine, copy_bytes, store_at};
 use rs_scene::{Flow, Scene, Turn, after_block, after_turn, chosen, is_normal};
 use rs_tree::{Arm, RExpr, RPlace, RStmt};
@@ -37,8 +36,35 @@ fn leaves<'t>(flow: Flow<'t>) -> Result<Flow<'t>, Halt<'t>>
 }
 
 /// What a statement does.
+#[inline(always)]
 #[cycle(knot)]
 fn stmt<'t, S: Store, H: Host>(
+    machine: &mut Machine,
+    store: &mut S,
+    host: &mut H,
+    scene: Scene<'t, '_>,
+    room: u32,
+    tree: &'t RStmt,
+) -> Result<Flow<'t>, Halt<'t>>
+    requires { IsScene scene }
+    ensures { Does (run_stmt (frame_view scene.entry) (stmt_view tree.now)) (end_of flow_view result)
+        (state machine.old (S.memory store.old) (S.limit store.old) (H.state host.old)) (state machine.new (S.memory store.new) (S.limit store.new) (H.state host.new)) }
+{
+    if room == 0 {
+        return Err(Halt::Memory);
+    }
+    match quick_stmt(store, scene, tree) {
+        Left::Nothing => Ok(Flow::Normal),
+        Left::Inner(list) => stmts(machine, store, host, scene, room - 1, list),
+        Left::Halted(halt) => Err(halt),
+        Left::Everything => whole_stmt(machine, store, host, scene, room, tree),
+    }
+}
+
+/// What a statement does of which nothing was done at once. It has the room of the statement.
+#[inline(never)]
+#[cycle(knot)]
+fn whole_stmt<'t, S: Store, H: Host>(
     machine: &mut Machine,
     store: &mut S,
     host: &mut H,
@@ -330,10 +356,6 @@ fn branch<'t, S: Store, H: Host>(
 {
     if room == 0 {
         return Err(Halt::Memory);
-    }
-    if let Some(test) = quick_test(store, scene, condition) {
-        let list = side_of(test, if_true, if_false);
-        return stmts(machine, store, host, scene, room - 1, list);
     }
     let value = match expr(machine, store, host, scene, room - 1, condition) {
         Ok(value) => value,

@@ -1,6 +1,7 @@
-use Rattle.rs_exec.proofs.Formed.{by_call, by_form, by_nested, by_side, by_stmt_form}
+use Rattle.rs_forms.proofs.Formed.{by_call, by_form, by_nested, by_side, by_stmt_form}
 use Rattle.rs_exec.proofs.Called.{arg_stops, args_begin, args_go, body_runs, callee_out, callee_refused, callee_runs, found_runs, frame_runs, frame_stops, locals_end, no_args, no_callee, no_target, no_unit_taken, target_gives, target_refused, target_runs, target_stops, unit_taken}
-use Rattle.rs_exec.proofs.Quickly.{side_runs, test_gives}
+use Rattle.rs_forms.proofs.Quickly.{side_runs}
+use Rattle.rs_forms.proofs.Remaining.{all_left}
 use Rattle.rs_exec.proofs.Turned.{arms_run, block_does, gives_same, listed, stmt_goes, stmt_leaves, stmt_stops, stmts_end, turns_end, turns_go, turns_out, turns_stop}
 use Rattle.rs_machine.proofs.Pieces.{stops_first, then_does}
 use Rattle.rs_machine.proofs.Rules.{false_does, found_fails, found_gives, pure_does, pure_is, true_does}
@@ -89,9 +90,6 @@ stmts::block-returns-in-Err g t c = stops_first _ (listed (frame_view c.args.sce
 pub stmts::block-returns : goal.stmts::block-returns
 stmts::block-returns g t c = then_does _ (listed (frame_view c.args.scene) c.args.body.now c.as_slice.result.now c.as_slice.ensures c.in-Ok.ensures) (gives_same (block_does c.args.label.now (flow_view c.in-Ok.flow) _) c.after_block.ensures)
 
-pub stmts::branch-returns-in-Some : goal.stmts::branch-returns-in-Some
-stmts::branch-returns-in-Some g t c = then_does _ (c.in-Some.ensures _ _ _) (then_does _ (test_gives c.in-Some.test _) (side_runs (frame_view c.args.scene) c.in-Some.test c.args.if_true.now c.args.if_false.now c.side_of-list.result.now c.side_of-list.ensures c.stmts.ensures))
-
 pub stmts::branch-returns-in-Err : goal.stmts::branch-returns-in-Err
 stmts::branch-returns-in-Err g t c = stops_first _ c.in-Err.ensures
 
@@ -99,7 +97,7 @@ pub stmts::branch-returns-in-Err-test_of : goal.stmts::branch-returns-in-Err-tes
 stmts::branch-returns-in-Err-test_of g t c = then_does _ c.in-Ok.ensures (stops_first _ (found_fails _ _ _ c.in-Err-test_of.ensures))
 
 pub stmts::branch-returns : goal.stmts::branch-returns
-stmts::branch-returns g t c = then_does _ c.in-Ok.ensures (then_does _ (found_gives _ _ _ c.in-Ok-test_of.ensures) (side_runs (frame_view c.args.scene) c.in-Ok-test_of.test c.args.if_true.now c.args.if_false.now c.side_of-list-2.result.now c.side_of-list-2.ensures c.stmts-2.ensures))
+stmts::branch-returns g t c = then_does _ c.in-Ok.ensures (then_does _ (found_gives _ _ _ c.in-Ok-test_of.ensures) (side_runs (frame_view c.args.scene) c.in-Ok-test_of.test c.args.if_true.now c.args.if_false.now c.side_of-list.result.now c.side_of-list.ensures c.stmts.ensures))
 
 pub stmts::matched-returns-in-Err : goal.stmts::matched-returns-in-Err
 stmts::matched-returns-in-Err g t c = stops_first _ c.in-Err.ensures
@@ -257,26 +255,38 @@ calls::call-returns-in-Named g t c = by_call (frame_view c.args.scene) c.args.fo
 pub calls::call-returns-in-Pointed : goal.calls::call-returns-in-Pointed
 calls::call-returns-in-Pointed g t c = by_call (frame_view c.args.scene) c.args.form _ c.in-Pointed.is c.called_by.ensures
 
-pub stmts::stmt-returns-in-Leaves : goal.stmts::stmt-returns-in-Leaves
-stmts::stmt-returns-in-Leaves g t c = by_stmt_form (frame_view c.args.scene) c.args.tree.now c.stmt_form.result _ c.stmt_form.ensures c.in-Leaves.is (c.leaves.ensures _)
+pub stmts::stmt-returns-in-Nothing : goal.stmts::stmt-returns-in-Nothing
+stmts::stmt-returns-in-Nothing g t c = c.in-Nothing.ensures _ _
 
-pub stmts::stmt-returns-in-Assign : goal.stmts::stmt-returns-in-Assign
-stmts::stmt-returns-in-Assign g t c = by_stmt_form (frame_view c.args.scene) c.args.tree.now c.stmt_form.result _ c.stmt_form.ensures c.in-Assign.is c.assign.ensures
+pub stmts::stmt-returns-in-Inner : goal.stmts::stmt-returns-in-Inner
+stmts::stmt-returns-in-Inner g t c = c.in-Inner.ensures _ _ _ _ c.stmts.ensures
 
-pub stmts::stmt-returns-in-Call : goal.stmts::stmt-returns-in-Call
-stmts::stmt-returns-in-Call g t c = by_stmt_form (frame_view c.args.scene) c.args.tree.now c.stmt_form.result _ c.stmt_form.ensures c.in-Call.is c.dropped_call.ensures
+pub stmts::stmt-returns-in-Halted : goal.stmts::stmt-returns-in-Halted
+stmts::stmt-returns-in-Halted g t c = c.in-Halted.ensures _ _
 
-pub stmts::stmt-returns-in-Value : goal.stmts::stmt-returns-in-Value
-stmts::stmt-returns-in-Value g t c = by_stmt_form (frame_view c.args.scene) c.args.tree.now c.stmt_form.result _ c.stmt_form.ensures c.in-Value.is c.dropped_value.ensures
+pub stmts::stmt-returns-in-Everything : goal.stmts::stmt-returns-in-Everything
+stmts::stmt-returns-in-Everything g t c = all_left _ _ _ _ _ _ _ c.in-Everything.ensures c.whole_stmt.ensures
 
-pub stmts::stmt-returns-in-Copy : goal.stmts::stmt-returns-in-Copy
-stmts::stmt-returns-in-Copy g t c = by_stmt_form (frame_view c.args.scene) c.args.tree.now c.stmt_form.result _ c.stmt_form.ensures c.in-Copy.is c.copied.ensures
+pub stmts::whole_stmt-returns-in-Leaves : goal.stmts::whole_stmt-returns-in-Leaves
+stmts::whole_stmt-returns-in-Leaves g t c = by_stmt_form (frame_view c.args.scene) c.args.tree.now c.stmt_form.result _ c.stmt_form.ensures c.in-Leaves.is (c.leaves.ensures _)
 
-pub stmts::stmt-returns-in-Return : goal.stmts::stmt-returns-in-Return
-stmts::stmt-returns-in-Return g t c = by_stmt_form (frame_view c.args.scene) c.args.tree.now c.stmt_form.result _ c.stmt_form.ensures c.in-Return.is c.returned.ensures
+pub stmts::whole_stmt-returns-in-Assign : goal.stmts::whole_stmt-returns-in-Assign
+stmts::whole_stmt-returns-in-Assign g t c = by_stmt_form (frame_view c.args.scene) c.args.tree.now c.stmt_form.result _ c.stmt_form.ensures c.in-Assign.is c.assign.ensures
 
-pub stmts::stmt-returns-in-Within : goal.stmts::stmt-returns-in-Within
-stmts::stmt-returns-in-Within g t c = by_stmt_form (frame_view c.args.scene) c.args.tree.now c.stmt_form.result _ c.stmt_form.ensures c.in-Within.is c.nested.ensures
+pub stmts::whole_stmt-returns-in-Call : goal.stmts::whole_stmt-returns-in-Call
+stmts::whole_stmt-returns-in-Call g t c = by_stmt_form (frame_view c.args.scene) c.args.tree.now c.stmt_form.result _ c.stmt_form.ensures c.in-Call.is c.dropped_call.ensures
+
+pub stmts::whole_stmt-returns-in-Value : goal.stmts::whole_stmt-returns-in-Value
+stmts::whole_stmt-returns-in-Value g t c = by_stmt_form (frame_view c.args.scene) c.args.tree.now c.stmt_form.result _ c.stmt_form.ensures c.in-Value.is c.dropped_value.ensures
+
+pub stmts::whole_stmt-returns-in-Copy : goal.stmts::whole_stmt-returns-in-Copy
+stmts::whole_stmt-returns-in-Copy g t c = by_stmt_form (frame_view c.args.scene) c.args.tree.now c.stmt_form.result _ c.stmt_form.ensures c.in-Copy.is c.copied.ensures
+
+pub stmts::whole_stmt-returns-in-Return : goal.stmts::whole_stmt-returns-in-Return
+stmts::whole_stmt-returns-in-Return g t c = by_stmt_form (frame_view c.args.scene) c.args.tree.now c.stmt_form.result _ c.stmt_form.ensures c.in-Return.is c.returned.ensures
+
+pub stmts::whole_stmt-returns-in-Within : goal.stmts::whole_stmt-returns-in-Within
+stmts::whole_stmt-returns-in-Within g t c = by_stmt_form (frame_view c.args.scene) c.args.tree.now c.stmt_form.result _ c.stmt_form.ensures c.in-Within.is c.nested.ensures
 
 pub stmts::nested-returns-in-If : goal.stmts::nested-returns-in-If
 stmts::nested-returns-in-If g t c = by_nested (frame_view c.args.scene) c.args.form _ c.in-If.is c.branch-machine.ensures

@@ -1,0 +1,62 @@
+//! Names of a written crate. `name keeps SCOPE NAME`, where SCOPE is `module`, `function` or `fields`: whether
+//! this name of C is its own Rust name there. `name stem FILE`: the stem of a file's name. `name plain STEM`:
+//! whether a module is named by this stem alone. `name temporaries COUNT NAME ..`: the numbers and
+//! the names of so many temporaries beside these names.
+
+use cr_base::{Items, Name};
+use row_words::{Answer, Asked};
+use rs_items::{NameScope, Temporaries, is_plain, keeps_name, stem_of};
+use std::alloc::Global;
+
+const SCOPES: [(&str, NameScope); 3] = [
+    ("module", NameScope::Module),
+    ("function", NameScope::Function),
+    ("fields", NameScope::Fields),
+];
+
+pub(crate) fn answer(alloc: Global, asked: &mut Asked, out: &mut Answer) {
+    match asked.word() {
+        "keeps" => keeps(asked, out),
+        "stem" => out.quoted(stem_of(asked.rest()).as_bytes()),
+        "plain" => out.value(is_plain(asked.rest())),
+        "temporaries" => temporaries(alloc, asked, out),
+        _ => asked.refuse(),
+    }
+}
+
+fn keeps(asked: &mut Asked, out: &mut Answer) {
+    if let Some(scope) = asked.named(&SCOPES) {
+        out.value(keeps_name(scope, asked.rest().as_bytes()));
+    }
+}
+
+fn temporaries(alloc: Global, asked: &mut Asked, out: &mut Answer) {
+    let count: u32 = asked.number();
+    let mut temporaries = Temporaries::new(alloc, names(alloc, asked));
+    for _place in 0..count {
+        if let Some(number) = asked.had(temporaries.fresh()) {
+            out.value(number);
+            out.text(" ");
+        }
+    }
+    write_names(temporaries.names(), out);
+}
+
+fn write_names(names: &[Name], out: &mut Answer) {
+    out.text("named");
+    for name in names {
+        out.text(" ");
+        out.bytes(name.bytes());
+    }
+}
+
+// The words that are left.
+fn names(alloc: Global, asked: &mut Asked) -> Items<Name> {
+    let mut names = Items::new(alloc);
+    for word in asked.rest().split_ascii_whitespace() {
+        asked.begin(word);
+        let name = Name::of(asked.bytes(alloc));
+        asked.had(names.push(name));
+    }
+    names
+}
