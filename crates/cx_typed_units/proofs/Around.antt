@@ -10,9 +10,9 @@ use Rattle.cx_typed.proofs.Walked.{known_stays}
 use Rattle.cx_typed.specs.Names.{IsKnownMeant, IsKnownTag}
 use Rattle.cx_typed.specs.Operands.{IsKnownType}
 use Rattle.cx_typed.specs.Walked.{IsGood}
-use Rattle.cx_typed_units.proofs.Stretches.{thing_on}
+use Rattle.cx_typed_units.proofs.Stretches.{Steps, thing_on, leads_by, holds_earlier}
 use Rattle.cx_typed_units.specs.Statements.{IsPlace, StandsIn}
-use Rattle.cx_typed_units.specs.Stretches.{IsKnownThing, IsOrderly, Leads, DeclaresNone, Backs}
+use Rattle.cx_typed_units.specs.Stretches.{IsKnownThing, IsOrderly, Leads, DeclaresNone, Backs, HoldsAll, AreTypedThere, AreTypedUpTo}
 
 behind_front : (front behind : List CDeclared) → drop (length (front ++ behind) - length behind) (front ++ behind) ≡ behind
 behind_front front behind = dropped front behind (length (front ++ behind) - length behind) (count front behind)
@@ -52,6 +52,46 @@ orderly_labels opens labels scope held = record {
   numbers = held.numbers;
 }
 
+-- ---- what is typed
+
+typed_entered : (opens : List ℕ) (scope : CScope) → AreTypedUpTo opens scope → AreTypedUpTo opens (entered scope)
+typed_entered opens scope held home all =
+    let was = held home (record {
+      backs = record {
+        unit_is = all.backs.unit_is;
+        grows = all.backs.grows;
+        told = all.backs.told;
+        told_is = all.backs.told_is;
+        mentions = all.backs.mentions;
+        literals = all.backs.literals;
+        objects = all.backs.objects;
+        things = all.backs.things;
+        statics = all.backs.statics;
+      };
+      objects_inside = all.objects_inside;
+      literals_inside = all.literals_inside;
+    }) in
+    record { held = was.held; literals = was.literals; objects = was.objects; functions = was.functions }
+
+typed_labels : (opens : List ℕ) (labels : CLabels) (scope : CScope) → AreTypedUpTo opens scope → AreTypedUpTo opens (record scope { body = labels })
+typed_labels opens labels scope held home all =
+    let was = held home (record {
+      backs = record {
+        unit_is = all.backs.unit_is;
+        grows = all.backs.grows;
+        told = all.backs.told;
+        told_is = all.backs.told_is;
+        mentions = all.backs.mentions;
+        literals = all.backs.literals;
+        objects = all.backs.objects;
+        things = all.backs.things;
+        statics = all.backs.statics;
+      };
+      objects_inside = all.objects_inside;
+      literals_inside = all.literals_inside;
+    }) in
+    record { held = was.held; literals = was.literals; objects = was.objects; functions = was.functions }
+
 -- ---- a scope inside of another
 
 module _ (opens : List ℕ) (before : CScope) (good : IsGood opens before) (inner : CScope) (leads : Leads opens (entered before) inner) (inner_good : IsGood opens inner) where
@@ -77,8 +117,8 @@ module _ (opens : List ℕ) (before : CScope) (good : IsGood opens before) (inne
         numbers = inside.numbers;
       }
 
-  pub back_leads : Leads opens before back
-  back_leads = record {
+  back_steps : Steps opens before back
+  back_steps = record {
     declares = record {
       unit_is = leads.declares.unit_is;
       grows = leads.declares.grows;
@@ -89,12 +129,44 @@ module _ (opens : List ℕ) (before : CScope) (good : IsGood opens before) (inne
     };
     begins_is = refl;
     in_function_is = leads.in_function_is;
+    functions_are = leads.functions_are;
     objects_more = leads.objects_more;
     objects = leads.objects;
     things = leads.things;
     orderly = back_orderly;
     statics = leads.statics;
   }
+
+  holds_inner : (home : CHome) → HoldsAll home opens back → HoldsAll home opens inner
+  holds_inner home all = record {
+    backs = record {
+      unit_is = all.backs.unit_is;
+      grows = all.backs.grows;
+      told = all.backs.told;
+      told_is = all.backs.told_is;
+      mentions = all.backs.mentions;
+      literals = all.backs.literals;
+      objects = all.backs.objects;
+      things = all.backs.things;
+      statics = all.backs.statics;
+    };
+    objects_inside = all.objects_inside;
+    literals_inside = all.literals_inside;
+  }
+
+  back_typed : AreTypedUpTo opens before → AreTypedUpTo opens back
+  back_typed held home all =
+      let was = held home (holds_earlier opens home before back all back_steps) in
+      let inside = leads.typed (typed_entered opens before held) home (holds_inner home all) in
+      record {
+        held = λ name meant is. was.held name meant (ap (ordinary name) (sym back_declared) ∙ is);
+        literals = inside.literals;
+        objects = inside.objects;
+        functions = inside.functions;
+      }
+
+  pub back_leads : Leads opens before back
+  back_leads = leads_by opens before back back_steps leads.keeps back_typed
 
   pub back_none : DeclaresNone before back
   back_none name meant thing is = ap (ordinary name) (sym back_declared) ∙ is
@@ -147,11 +219,14 @@ module _ (opens : List ℕ) where
     };
     begins_is = leads.begins_is;
     in_function_is = leads.in_function_is;
+    functions_are = leads.functions_are;
     objects_more = leads.objects_more;
     objects = leads.objects;
     things = leads.things;
     orderly = λ held. orderly_labels opens labels after (leads.orderly held);
     statics = leads.statics;
+    keeps = leads.keeps;
+    typed = λ held. typed_labels opens labels after (leads.typed held);
   }
 
   pub leads_from_labels : (labels : CLabels) (before after : CScope) → Leads opens (with_labels labels before) after → Leads opens before after
@@ -166,11 +241,14 @@ module _ (opens : List ℕ) where
     };
     begins_is = leads.begins_is;
     in_function_is = leads.in_function_is;
+    functions_are = leads.functions_are;
     objects_more = leads.objects_more;
     objects = leads.objects;
     things = leads.things;
     orderly = λ held. leads.orderly (orderly_labels opens labels before held);
     statics = leads.statics;
+    keeps = leads.keeps;
+    typed = λ held. leads.typed (typed_labels opens labels before held);
   }
 
   pub backs_labels : (labels : CLabels) (home : CHome) (before after : CScope) → Backs home opens before (with_labels labels after) → Backs home opens before after

@@ -15,10 +15,11 @@ use Rattle.cx_typed.specs.Sound.{AreSound}
 use Rattle.cx_typed.specs.Operands.{IsKnownType}
 use Rattle.cx_typed.specs.Walked.{IsGood}
 use Rattle.cx_typed_units.proofs.Entities.{new_object, linked_object, linked_function, linked_number, GoesWith, IsDeclaredAs, object_declared, function_declared, composite_function}
-use Rattle.cx_typed_units.proofs.Joins.{earlier_goes, fills_agree, joined_type, composite_known}
+use Rattle.cx_typed_units.proofs.Joins.{earlier_goes, fills_itself, fills_first, fills_agree, joined_type, composite_known}
 use Rattle.cx_typed_units.proofs.Steps.{IsLinkedName, good_declared, declared_leads, mention_leads, with_next_object, next_leads}
-use Rattle.cx_typed_units.proofs.Stretches.{leads_itself, leads_on}
-use Rattle.cx_typed_units.specs.Stretches.{IsThing, IsThingOf, IsOrderly, Leads}
+use Rattle.cx_typed_units.proofs.Stretches.{Steps, steps_itself, steps_on}
+use Rattle.cx_typed_units.specs.Fills.{Fills}
+use Rattle.cx_typed_units.specs.Stretches.{IsThing, IsThingOf, IsOrderly}
 
 -- ---- the type beside the visible declaration (6.2.7p4)
 
@@ -26,6 +27,7 @@ pub record IsJoined (opens : List ℕ) (scope : CScope) (name : List ℕ) (writt
   pub known : IsKnownType opens scope.types scope.unit type
   pub goes : (one : CThing) → thing_named name scope.things ≡ Some one → compatible scope.types written one.type ≡ true → compatible scope.types type one.type ≡ true
   pub form : is_function type ≡ is_function written
+  pub fills : Fills opens scope.types written type
 
 thing_there : (P : CThing → Type 0) (found : Option CThing) → IsSome found × IfSome found P → (one : CThing) × (found ≡ Some one) × P one
 thing_there P None held = absurd (let h : false ≡ true = held.0 in cc)
@@ -34,7 +36,7 @@ thing_there P (Some one) held = (one, refl, held.1)
 module _ (opens : List ℕ) (scope : CScope) (good : IsGood opens scope) (orderly : IsOrderly opens scope) (name : List ℕ) (written : CTy) (known : IsKnownType opens scope.types scope.unit written)
     (goes : (one : CThing) → thing_named name scope.things ≡ Some one → compatible scope.types written one.type ≡ true) where
   as_written : IsJoined opens scope name written written
-  as_written = record { known = known; goes = λ one is same. same; form = refl }
+  as_written = record { known = known; goes = λ one is same. same; form = refl; fills = fills_itself opens scope.types scope.unit written }
 
   -- beside what is visible
   beside : (number : ℕ) (type : CTy) (linkage : Linkage) (is_fun : Bool) → IsKnownType opens scope.types scope.unit type → IsThingOf opens scope name number type linkage is_fun
@@ -50,6 +52,7 @@ module _ (opens : List ℕ) (scope : CScope) (good : IsGood opens scope) (orderl
             joined_type scope.types scope.unit written type one.type known.type_in visible.type_in both_go written_goes
             (subst (λ (x : CThing). compatible scope.types type x.type ≡ true) one_is (fills_agree opens scope.types scope.unit type there.0.type there.2.fills));
         form = composite_function written type;
+        fills = fills_first opens scope.types scope.unit written type known visible both_go;
       }
     where
       some_same : (one other : CThing) → Some one ≡ Some other → one ≡ other
@@ -92,7 +95,7 @@ function_form (ty (record_type number) is_const) is = absurd cc
 
 pub record IsBegunAs (opens : List ℕ) (before : CScope) (name : List ℕ) (meant : CMeant) (after : CScope) : Type 0 where
   pub good : IsGood opens after
-  pub leads : Leads opens before after
+  pub leads : Steps opens before after
   pub body_is : after.body ≡ before.body
   pub declared_is : after.declared ≡ record { name = name; meant = meant } ∷ before.declared
   pub linked : IsLinkedName opens after name meant
@@ -115,7 +118,7 @@ linked_same opens few many name (a_tag is_record is_open number) things_are type
 
 -- the entity that is declared, before its name is in scope
 pub record IsEntity (opens : List ℕ) (before : CScope) (name : List ℕ) (meant : CMeant) (middle : CScope) : Type 0 where
-  pub leads : Leads opens before middle
+  pub leads : Steps opens before middle
   pub types_are : middle.types ≡ before.types
   pub unit_is : middle.unit ≡ before.unit
   pub declared_are : middle.declared ≡ before.declared
@@ -147,7 +150,7 @@ module _ (opens : List ℕ) (before : CScope) (good : IsGood opens before) (name
   pub named_as : (told : Bool) (mention : CMention) → IsBegunAs opens before name meant (with_declared name meant (if told then with_mention mention middle else middle))
   named_as true mention = record {
     good = good_declared opens (with_mention mention middle) name meant plain (good_told mention) middle_known;
-    leads = leads_on opens before (with_mention mention middle) _ (leads_on opens before middle (with_mention mention middle) entity.leads (mention_leads opens middle mention))
+    leads = steps_on opens before (with_mention mention middle) _ (steps_on opens before middle (with_mention mention middle) entity.leads (mention_leads opens middle mention))
         (declared_leads opens (with_mention mention middle) name meant (linked_same opens middle (with_mention mention middle) name meant refl refl entity.linked));
     body_is = entity.body_is;
     declared_is = ap (λ declared. record { name = name; meant = meant } ∷ declared) entity.declared_are;
@@ -157,7 +160,7 @@ module _ (opens : List ℕ) (before : CScope) (good : IsGood opens before) (name
   }
   named_as false mention = record {
     good = good_declared opens middle name meant plain middle_good middle_known;
-    leads = leads_on opens before middle _ entity.leads (declared_leads opens middle name meant entity.linked);
+    leads = steps_on opens before middle _ entity.leads (declared_leads opens middle name meant entity.linked);
     body_is = entity.body_is;
     declared_is = ap (λ declared. record { name = name; meant = meant } ∷ declared) entity.declared_are;
     linked = linked_same opens middle (with_declared name meant middle) name meant refl refl entity.linked;
@@ -170,7 +173,7 @@ module _ (opens : List ℕ) (before : CScope) (good : IsGood opens before) (name
 module _ (opens : List ℕ) (scope : CScope) (name : List ℕ) (type : CTy) (known : IsKnownType opens scope.types scope.unit type) where
   pub typedef_entity : IsEntity opens scope name (a_type_name type) scope
   typedef_entity = record {
-    leads = leads_itself opens scope;
+    leads = steps_itself opens scope;
     types_are = refl;
     unit_is = refl;
     declared_are = refl;

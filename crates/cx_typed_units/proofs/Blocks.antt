@@ -9,8 +9,10 @@ use Rattle.cx_core.specs.Trees.{CTy, CPuts, CObject, CMention, uses}
 use Rattle.cx_core.specs.Typing.{CHome, object_with, callee_with, IsLiteral, IsLiteralOf, IsNamed, IsObjectOf, IsThere, IsMentioned}
 use Rattle.cx_rules.specs.Scope.{CMeant, an_object, a_function, a_type_name, an_enumerator, a_tag, CDeclared, CMade, CScope, ordinary}
 use Rattle.cx_rules.specs.UnitWalk.{literals_since}
+use Rattle.cx_typed.proofs.Numbered.{not_there}
 use Rattle.cx_typed.specs.Scopes.{IsHeld, IsHeldBy, IsHeldObject, IsHeldFunction, IsMade, Serves}
 use Rattle.cx_typed_units.proofs.Stretches.{if_some, home_in}
+use Rattle.cx_typed_units.specs.Rest.{is_defining, DefinesNone}
 use Rattle.cx_typed_units.specs.Stretches.{DeclaresNone, IsInBlock, IsMadeObject, IsFixedObject, IsMadeBy, IsMadeThere, Backs, IsHeldAt, AreIn}
 
 -- ---- lists
@@ -143,20 +145,24 @@ module _ (home : CHome) where
   )
 
   -- a program that backs a stretch of an expression serves it, where a block holds the objects of its literals
-  pub serves_of : (opens : List ℕ) (before after : CScope) → Backs home opens before after → IsHeldAt home before.declared → AreIn home.scope (literals_since before after)
-      → Serves home opens before after
-  serves_of opens before after backs held inside = record {
+  pub serves_of : (opens : List ℕ) (before after : CScope) → Backs home opens before after → DefinesNone before.mentions after.mentions → IsHeldAt home before.declared
+      → AreIn home.scope (literals_since before after) → Serves home opens before after
+  serves_of opens before after backs none held inside = record {
     unit_is = backs.unit_is;
     grows = backs.grows;
     told = backs.told;
     told_is = backs.told_is;
     declared = held;
-    mentions = backs.mentions;
+    mentions = λ number one from is. told_by number one from is (is_defining one.does) refl;
     literals = λ number one from is.
         let there = backs.literals number one from is in
         made_by one one.fixed there.0 there.1 (λ fixed. in_since home.scope (length before.literals) after.literals number one from is fixed inside);
     statics = backs.statics;
   }
+    where
+      told_by : (number : ℕ) (one : CMention) → length before.mentions ≤ number → slice_get after.mentions number ≡ Some one → (defining : Bool) → is_defining one.does ≡ defining → Contains backs.told one
+      told_by number one from is true e = absurd (not_there before.mentions number one from (none number one is e))
+      told_by number one from is false e = backs.mentions number one from is e
 
 -- ---- what is held stays so in a block inside
 

@@ -1,5 +1,5 @@
 -- The walk over declarations in blocks (ISO C99, 6.7).
-use Rattle.std.proofs.Common.{◌≡◌, ℕ, Bool, true, false, List, [], ◌∷◌, ◌++◌, Option, None, Some, refl, sym, ap, ◌∙◌, subst}
+use Rattle.std.proofs.Common.{◌≡◌, ℕ, nat_lt, length, Bool, true, false, List, [], ◌∷◌, ◌++◌, Option, None, Some, refl, sym, ap, ◌∙◌, subst}
 use Rattle.std.specs.Prelude.{IfSome}
 use Rattle.cx_core.specs.Statements.{CBody, AreTypedStmts}
 use Rattle.cx_core.specs.Trees.{CTy, CStmt}
@@ -13,8 +13,9 @@ use Rattle.cx_rules.specs.UnitWalk.{CMeant, nothing_meant, meant_behind, stmts_o
 use Rattle.cx_tree.specs.Trees.{DeclaratorTree, InitialiserTree, InitDeclaratorTree, DeclTree, SpecTrees}
 use Rattle.cx_typed.proofs.Derived.{derived_known}
 use Rattle.cx_typed.proofs.Goes.{go_gives, go_here_then, go_chain, go_settled}
+use Rattle.cx_typed.proofs.Promoted.{neither}
 use Rattle.cx_typed.proofs.Specified.{specified}
-use Rattle.cx_typed.proofs.Walked.{known_stays, type_on}
+use Rattle.cx_typed.proofs.Walked.{known_stays, type_on, makes_nothing}
 use Rattle.cx_typed.specs.Declarators.{IsShape, ShapeGoes}
 use Rattle.cx_typed.specs.Operands.{IsKnownType}
 use Rattle.cx_typed.specs.Specifiers.{AreSpecs, SpecsGo}
@@ -22,7 +23,8 @@ use Rattle.cx_typed.specs.Walked.{IsGood, Ends}
 use Rattle.cx_typed_units.proofs.Blocks.{are_both, blocks_joined, all_on}
 use Rattle.cx_typed_units.proofs.Items.{typed_joined}
 use Rattle.cx_typed_units.proofs.RestTrees.{kept_specs_walk, kept_declarator_walk}
-use Rattle.cx_typed_units.proofs.Stretches.{passes_declare, leads_itself, leads_on, rest_leads, backs_first, backs_second}
+use Rattle.cx_typed_units.proofs.Rests.{rest_leads}
+use Rattle.cx_typed_units.proofs.Stretches.{passes_declare, leads_itself, leads_on, backs_first, backs_second}
 use Rattle.cx_typed_units.proofs.Unfilled.{unfilled_goes}
 use Rattle.cx_typed_units.specs.Forms.{InitGoes, DeclaratorsGo, DeclPartsGo, DeclarationsGo}
 use Rattle.cx_typed_units.specs.Rest.{CRest}
@@ -82,45 +84,47 @@ module _ (opens : List ℕ) where
         held.typed body declares (backs_second opens body.home before middle after backs leads) (all_on body.home before middle none known) inside among;
   }
 
-  type_later : (before after : CScope) (type : CTy) → Leads opens before after → IsKnownType opens before.types before.unit type → IsKnownType opens after.types after.unit type
+  pub type_later : (before after : CScope) (type : CTy) → Leads opens before after → IsKnownType opens before.types before.unit type → IsKnownType opens after.types after.unit type
   type_later before after type leads known =
       subst (λ unit. IsKnownType opens after.types unit type) (sym leads.declares.unit_is) (known_stays opens before.types after.types leads.declares.grows before.unit type known)
 
 -- ---- specifiers and declarators
 
-record IsShaped (opens : List ℕ) (before : CScope) (shape : CShape) (after : CScope) : Type 0 where
-  shape_is : IsShape opens before shape after
-  leads : Leads opens before after
-  none : DeclaresNone before after
-  body_is : after.body ≡ before.body
+pub record IsShaped (opens : List ℕ) (before : CScope) (shape : CShape) (after : CScope) : Type 0 where
+  pub shape_is : IsShape opens before shape after
+  pub leads : Leads opens before after
+  pub none : DeclaresNone before after
+  pub body_is : after.body ≡ before.body
 
-shaped : (opens : List ℕ) (tree : DeclaratorTree) (scope : CScope) → ShapeGoes tree → IsGood opens scope → Ends (s_declarator_walk tree) scope (IsShaped opens scope)
+pub shaped : (opens : List ℕ) (tree : DeclaratorTree) (scope : CScope) → ShapeGoes tree → IsGood opens scope → Ends (s_declarator_walk tree) scope (IsShaped opens scope)
 shaped opens tree scope goes good = record {
   ends = λ fine.
       let made = (goes opens scope good).ends fine in
       let stays = (kept_declarator_walk tree scope).kept in
       record {
         shape_is = made;
-        leads = rest_leads opens scope (s_declarator_walk tree scope).scope (passes_declare opens scope (s_declarator_walk tree scope).scope made.passes) made.passes.declared stays;
+        leads = rest_leads opens scope (s_declarator_walk tree scope).scope (passes_declare opens scope (s_declarator_walk tree scope).scope made.passes) made.passes.declared stays made.passes.numbers
+            (makes_nothing opens scope (s_declarator_walk tree scope).scope made.makes_none);
         none = made.passes.declared;
         body_is = ap {A = CRest} (λ one. one.body) stays.rest_is;
       };
 }
 
-record AreSpecified (opens : List ℕ) (before : CScope) (specs : CSpecs) (after : CScope) : Type 0 where
-  specs_are : AreSpecs opens before specs after
-  leads : Leads opens before after
-  none : DeclaresNone before after
-  body_is : after.body ≡ before.body
+pub record AreSpecified (opens : List ℕ) (before : CScope) (specs : CSpecs) (after : CScope) : Type 0 where
+  pub specs_are : AreSpecs opens before specs after
+  pub leads : Leads opens before after
+  pub none : DeclaresNone before after
+  pub body_is : after.body ≡ before.body
 
-specified_by : (opens : List ℕ) (alone : Bool) (trees : SpecTrees) (scope : CScope) → SpecsGo trees → IsGood opens scope → Ends (s_specs_walk alone no_specs_yet trees) scope (AreSpecified opens scope)
+pub specified_by : (opens : List ℕ) (alone : Bool) (trees : SpecTrees) (scope : CScope) → SpecsGo trees → IsGood opens scope → Ends (s_specs_walk alone no_specs_yet trees) scope (AreSpecified opens scope)
 specified_by opens alone trees scope goes good = record {
   ends = λ fine.
       let made = (goes opens alone no_specs_yet scope good tt).ends fine in
       let stays = (kept_specs_walk alone no_specs_yet trees scope).kept in
       record {
         specs_are = made;
-        leads = rest_leads opens scope (s_specs_walk alone no_specs_yet trees scope).scope (passes_declare opens scope (s_specs_walk alone no_specs_yet trees scope).scope made.passes) made.passes.declared stays;
+        leads = rest_leads opens scope (s_specs_walk alone no_specs_yet trees scope).scope (passes_declare opens scope (s_specs_walk alone no_specs_yet trees scope).scope made.passes) made.passes.declared stays made.passes.numbers
+            (makes_nothing opens scope (s_specs_walk alone no_specs_yet trees scope).scope made.makes_none);
         none = made.passes.declared;
         body_is = ap {A = CRest} (λ one. one.body) stays.rest_is;
       };
@@ -128,7 +132,7 @@ specified_by opens alone trees scope goes good = record {
 
 -- ---- the walk
 
-module _ (opens : List ℕ) (place : SpecsPlace) (specs : CSpecs) (missing : ℕ) where
+module _ (opens : List ℕ) (place : SpecsPlace) (specs : CSpecs) (few : nat_lt 1 (length specs.storage) ≡ false) (missing : ℕ) where
   declarator_goes : (d : InitDeclaratorTree) (scope : CScope) → ShapeGoes d.declarator → IfSome d.init (InitGoes place) → IsGood opens scope → IsOrderly opens scope → scope.in_function ≡ true
       → IsKnownType opens scope.types scope.unit (base_type specs) → Ends (s_init_declarator_walk place specs missing d) scope (IsDeclaration opens scope)
   declarator_goes d scope first init good orderly inside known =
@@ -146,7 +150,7 @@ module _ (opens : List ℕ) (place : SpecsPlace) (specs : CSpecs) (missing : ℕ
     where
       named_goes : (init : Option InitialiserTree) → IfSome init (InitGoes place) → (line : ℕ) (type : CTy) (shape : CShape) (middle : CScope) → IsGood opens middle → IsOrderly opens middle
           → middle.in_function ≡ true → IsKnownType opens middle.types middle.unit type → Ends (s_named_walk place specs line type shape init) middle (IsDeclaration opens middle)
-      named_goes None goes line type shape middle good orderly inside known = unfilled_goes opens place specs line type shape middle good orderly inside known
+      named_goes None goes line type shape middle good orderly inside known = unfilled_goes opens place specs line type shape middle good orderly inside known few
       named_goes (Some init) goes line type shape middle good orderly inside known = goes opens specs line type shape middle good orderly inside known
 
   declarators_go : (ds : List InitDeclaratorTree) (scope : CScope) → DeclaratorsGo place ds → IsGood opens scope → IsOrderly opens scope → scope.in_function ≡ true
@@ -167,10 +171,10 @@ module _ (opens : List ℕ) (place : SpecsPlace) (specs : CSpecs) (missing : ℕ
 pub declarations_go : DeclarationsGo
 declarations_go place decl goes opens scope good orderly inside =
     go_chain _ _ _ _ scope (AreSpecified opens scope) _ (specified_by opens (declares_tag decl) decl.specs scope goes.0 good) (λ all middle held.
-    go_chain _ _ _ _ middle (λ done later. later ≡ middle) _ (go_here_then _ _ middle _ (go_settled _ middle _ _ _ middle _ (λ unbroken. refl))) (λ done later at.
-    subst (λ found. Ends (s_list_walk place all (specs_line decl.specs) decl.list) found (IsDeclaration opens scope)) (sym at)
+    go_chain _ _ _ _ middle (λ done later. (later ≡ middle) × (nat_lt 1 (length all.storage) ≡ false)) _ (go_here_then _ _ middle _ (go_settled _ middle _ _ _ middle _ (λ unbroken. (refl, (neither unbroken.k4).0)))) (λ done later at.
+    subst (λ found. Ends (s_list_walk place all (specs_line decl.specs) decl.list) found (IsDeclaration opens scope)) (sym at.0)
     (record {
       ends = λ fine. behind_declared opens scope middle _ _ held.leads held.none held.body_is
-          ((list_goes opens place all (specs_line decl.specs) decl.list middle goes.1 held.specs_are.good (held.leads.orderly orderly) (held.leads.in_function_is ∙ inside)
+          ((list_goes opens place all at.1 (specs_line decl.specs) decl.list middle goes.1 held.specs_are.good (held.leads.orderly orderly) (held.leads.in_function_is ∙ inside)
           (specified opens middle.types middle.unit all held.specs_are.known)).ends fine);
     })))

@@ -23,7 +23,8 @@ use Rattle.cx_typed.specs.Walked.{IsGood}
 use Rattle.cx_typed_units.proofs.Blocks.{blocks_joined, literal_blocks, all_inside}
 use Rattle.cx_typed_units.proofs.Stretches.{if_some, home_in, backs_in}
 use Rattle.cx_typed_units.specs.Statements.{AreBegun, IsDeclaration}
-use Rattle.cx_typed_units.specs.Stretches.{Fills, IsThing, IsThingOf, IsLinkedObject, IsLinkedFunction, IsLinkedBy, Leads, Backs, IsHeldAt, AreIn}
+use Rattle.cx_typed_units.specs.Fills.{Fills}
+use Rattle.cx_typed_units.specs.Stretches.{IsThing, IsThingOf, IsLinkedObject, IsLinkedFunction, IsLinkedBy, Leads, Backs, IsHeldAt, AreIn}
 
 -- ---- what is linked is held
 

@@ -14,9 +14,9 @@ use Rattle.cx_typed.specs.Operands.{IsKnownType}
 use Rattle.cx_typed_units.proofs.Joins.{fills_itself, fills_first, fills_second, composite_known}
 use Rattle.cx_typed_units.proofs.Named.{found_last, found_set, same_thing, has_name}
 use Rattle.cx_typed_units.proofs.Steps.{number_leads, with_next_object, next_leads, got_behind, changed_leads}
-use Rattle.cx_typed_units.proofs.Stretches.{leads_on}
+use Rattle.cx_typed_units.proofs.Stretches.{Steps, steps_on}
 use Rattle.cx_typed_units.proofs.ThingSteps.{with_new_thing, new_thing_leads, with_set_thing, set_thing_leads}
-use Rattle.cx_typed_units.specs.Stretches.{IsSameThing, IsThing, IsThingOf, IsKnownThing, IsOrderly, Leads}
+use Rattle.cx_typed_units.specs.Stretches.{IsSameThing, IsThing, IsThingOf, IsKnownThing, IsOrderly}
 
 -- ---- function types
 
@@ -111,7 +111,7 @@ pub record GoesWith (types : CTypes) (type : CTy) (linkage : Linkage) (one : CTh
 
 -- what a declaration of a name with linkage makes of a scope
 pub record IsDeclaredAs (opens : List ℕ) (before : CScope) (name : List ℕ) (number : ℕ) (type : CTy) (linkage : Linkage) (is_function : Bool) (after : CScope) : Type 0 where
-  pub leads : Leads opens before after
+  pub leads : Steps opens before after
   pub thing : IsThingOf opens after name number type linkage is_function
   pub types_are : after.types ≡ before.types
   pub unit_is : after.unit ≡ before.unit
@@ -147,12 +147,17 @@ module _ (opens : List ℕ) (scope : CScope) (orderly : IsOrderly opens scope) (
       linkage_is = refl;
       function_is = refl;
       fills = fills_second opens scope.types scope.unit type old.type known old_known.known goes.agrees;
+      defined = λ is. or_defined has_content is;
     }
+      where
+        or_defined : (content : Bool) → old.is_defined ≡ true → (content || old.is_defined) ≡ true
+        or_defined true is = refl
+        or_defined false is = is
 
     again_form : is_function again.type ≡ again.is_function
     again_form = composite_function type old.type ∙ (agree_function scope.types type old.type goes.agrees ∙ old_known.function_is)
 
-    again_leads : Leads opens scope (with_set_thing name again scope)
+    again_leads : Steps opens scope (with_set_thing name again scope)
     again_leads =
         set_thing_leads opens scope name old again there (has_name name scope.things old there) again_same (composite_known opens scope.types scope.unit type old.type known old_known.known goes.agrees)
         again_form
@@ -183,7 +188,7 @@ module _ (opens : List ℕ) (scope : CScope) (orderly : IsOrderly opens scope) (
       let thing = new_thing name linkage false scope.next_object type has_content tentative in
       let first = next_leads opens scope new refl in
       record {
-        leads = leads_on opens scope (with_next_object new scope) _ first (new_thing_leads opens (with_next_object new scope) thing (record {
+        leads = steps_on opens scope (with_next_object new scope) _ first (new_thing_leads opens (with_next_object new scope) thing (record {
           known = known;
           linked = linked;
           function_is = no_function;
@@ -206,7 +211,7 @@ module _ (opens : List ℕ) (scope : CScope) (orderly : IsOrderly opens scope) (
       let old_object : old.is_function ≡ false = sym (old_known old there goes has_content tentative).function_is ∙ (sym (agree_function scope.types type old.type goes.agrees) ∙ no_function) in
       let set = with_set_thing name (declared_again type has_content tentative old) scope in
       record {
-        leads = leads_on opens scope set _ (again_leads old there goes has_content tentative)
+        leads = steps_on opens scope set _ (again_leads old there goes has_content tentative)
             (changed_leads opens set old.number (retyped (composite type old.type)) (λ one. refl) (λ one. refl) (λ one is. is)
             (λ index object at same. (old_known old there goes has_content tentative).own old_object index object at same));
         thing = again_thing old there goes has_content tentative false old_object;
@@ -224,7 +229,7 @@ module _ (opens : List ℕ) (scope : CScope) (orderly : IsOrderly opens scope) (
   function_declared is_fun has_body None there goes =
       let thing = new_thing name linkage true scope.next_function type has_body None in
       record {
-        leads = leads_on opens scope (with_function_number scope) _ (number_leads opens scope) (new_thing_leads opens (with_function_number scope) thing (record {
+        leads = steps_on opens scope (with_function_number scope) _ (number_leads opens scope) (new_thing_leads opens (with_function_number scope) thing (record {
           known = known;
           linked = linked;
           function_is = is_fun;

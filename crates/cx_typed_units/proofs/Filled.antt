@@ -12,7 +12,7 @@ use Rattle.cx_rules.specs.Types.{composite, composite_form, composite_params, co
 use Rattle.cx_typed.proofs.Same.{both, basic_is, bool_is, number_is}
 use Rattle.cx_typed.proofs.Stays.{agree_stays}
 use Rattle.cx_typed.specs.Growth.{Grows, IsSettled, IsSettledForm, AreSettledParams, AreSettled}
-use Rattle.cx_typed_units.specs.Stretches.{Fills}
+use Rattle.cx_typed_units.specs.Fills.{Fills}
 
 and_both : (a b : Bool) → a ≡ true → b ≡ true → (a && b) ≡ true
 and_both true b first second = second

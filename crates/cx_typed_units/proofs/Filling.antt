@@ -6,6 +6,7 @@ use Rattle.cr_base.specs.declared.refusal.Place.{Place as TextPlace}
 use Rattle.cx_core.specs.declared.program.Linkage.{Linkage}
 use Rattle.cx_core.specs.declared.program.Linkage.TheVariants.{External, Internal, Nothing}
 use Rattle.cx_core.specs.Trees.{CTy, CPuts, CObject}
+use Rattle.cx_core.specs.Linked.{home_of, IsStatic}
 use Rattle.cx_core.specs.Typing.{CHome, IsThere}
 use Rattle.cx_core.specs.ValidTypes.{IsComplete}
 use Rattle.cx_lex.specs.declared.token.Keyword.TheVariants as keyword
@@ -24,6 +25,7 @@ use Rattle.cx_rules.specs.Units.{seen_initialiser}
 use Rattle.cx_rules.specs.UnitWalk.{CMeant as CMeaning, name_or_none, literals_since, declared_meant, clashes_behind}
 use Rattle.cx_tree.specs.Trees.{InitialiserTree}
 use Rattle.cx_typed.proofs.Filled.{completed_known, values_fill}
+use Rattle.cx_typed.proofs.Growing.{complete_stays}
 use Rattle.cx_typed.proofs.Goes.{go_gives, go_becomes, go_here_then, go_chain, go_changed}
 use Rattle.cx_typed.proofs.Promoted.{neither, is_not}
 use Rattle.cx_typed.proofs.Same.{both}
@@ -33,6 +35,7 @@ use Rattle.cx_typed.specs.Scopes.{Serves}
 use Rattle.cx_typed.specs.Unbroken.{IsUnbroken}
 use Rattle.cx_typed.specs.Walked.{IsGood, Ends}
 use Rattle.cx_typed_units.proofs.Begun.{IsBegunAs}
+use Rattle.cx_typed_units.proofs.DeclarationAccounts.{plain_accounted}
 use Rattle.cx_typed_units.proofs.Declared.{plain_declared, begun_declared}
 use Rattle.cx_typed_units.proofs.Entities.{linked_number}
 use Rattle.cx_typed_units.proofs.Fine.{meant_by, static_puts, IsFine, begun_is, unclashed, fine_is, form_is}
@@ -40,7 +43,8 @@ use Rattle.cx_typed_units.proofs.Owned.{stored_in, own_begun, own_content, compl
 use Rattle.cx_typed_units.proofs.Redeclared.{redeclare_first}
 use Rattle.cx_typed_units.proofs.RestNodes.{StaysTo}
 use Rattle.cx_typed_units.proofs.RestTrees.{kept_initialiser_walk}
-use Rattle.cx_typed_units.proofs.Unfilled.{complete_object, size_said, own_object, own_found, meaning_by, IsThereHere}
+use Rattle.cx_typed_units.proofs.Unfilled.{complete_object, size_said, own_object, own_all, own_found, meaning_by, IsThereHere}
+use Rattle.cx_typed_units.specs.Account.{account_of, IsAccounted}
 use Rattle.cx_typed_units.specs.Rest.{CRest}
 use Rattle.cx_typed_units.specs.Statements.{IsDeclaration}
 use Rattle.cx_typed_units.specs.Stretches.{IsOrderly, Leads, Backs, IsHeldAt, AreIn}
@@ -177,6 +181,11 @@ module _ (opens : List ℕ) (place : SpecsPlace) (outside : is_outside place ≡
         (subst (λ b. IsBegunAs opens scope name (meant_by false b (is_linked one.linkage) one scope) middle) kind.object
         (subst (λ b. IsBegunAs opens scope name (meant_by b (is_function one.type) (is_linked one.linkage) one scope) middle) kind.typedef (begun_is opens scope good orderly one fine))))
 
+    accounted_so : (pending : Option (List ℕ)) → IsAccounted opens pending (account_of scope) → IsAccounted opens pending (account_of middle)
+    accounted_so pending held =
+        plain_accounted opens pending scope orderly one fine held (λ linked. absurd (let h : false ≡ true = ap is_linked (sym kind.nothing) ∙ linked in cc))
+        (λ t f linked. absurd (let h : false ≡ true = ap is_linked (sym kind.nothing) ∙ linked in cc))
+
     own_so : IsOwn scope name static middle (own_object one scope)
     own_so = record {
       at = own_found one scope kind.typedef kind.object (ap is_linked kind.nothing);
@@ -185,6 +194,7 @@ module _ (opens : List ℕ) (place : SpecsPlace) (outside : is_outside place ≡
       here = refl;
       named = refl;
       puts_are = refl;
+      all = own_all one scope kind.typedef kind.object (ap is_linked kind.nothing);
     }
 
     whole_known : IsKnownWhole opens later.types later.unit whole
@@ -199,7 +209,17 @@ module _ (opens : List ℕ) (place : SpecsPlace) (outside : is_outside place ≡
     end = with_object_at scope.next_object (stored_in static whole puts) (record later { declared = redeclare_first name whole later.declared })
 
     own_by : (st : Bool) → has_storage keyword.Static specs ≡ st → IsOwn scope name st middle (own_object one scope)
-    own_by st e = record { at = own_so.at; number_is = refl; nothing = refl; here = refl; named = refl; puts_are = ap static_puts e }
+    own_by st e = record { at = own_so.at; number_is = refl; nothing = refl; here = refl; named = refl; puts_are = ap static_puts e; all = own_so.all }
+
+    static_so : (st : Bool) → has_storage keyword.Static specs ≡ st → (home : CHome) → Serves home opens middle later → st ≡ true → IsStatic (home_of home.program home.mentions home.unit) whole puts
+    static_so st e home serves is =
+        let fill = values_fill opens (record { is_static = is_linked one.linkage || has_storage keyword.Static specs; type = one.type }) stored middle later held.initialised.stored in
+        let static_is : (is_linked one.linkage || has_storage keyword.Static specs) ≡ true = ap (λ b. b || has_storage keyword.Static specs) (ap is_linked kind.nothing) ∙ (e ∙ is) in
+        record {
+          complete = complete_stays opens later.types home.program.types serves.grows whole size;
+          typed = fill.outside home serves static_is;
+          constant = fill.constant home serves static_is;
+        }
 
     abbrev end_by : Bool → CScope
     end_by st = with_object_at scope.next_object (stored_in st whole puts) (record later { declared = redeclare_first name whole later.declared })
@@ -209,24 +229,24 @@ module _ (opens : List ℕ) (place : SpecsPlace) (outside : is_outside place ≡
 
     good_by : (st : Bool) → has_storage keyword.Static specs ≡ st → IsGood opens (end_by st)
     good_by st e =
-        behind_good opens scope orderly name one.type reg st whole puts middle later begun_so (own_object one scope) (own_by st e) held.initialised.stored.passes held.stays held.initialised.stored.good whole_known
+        behind_good opens scope orderly name one.type reg st whole puts middle later begun_so (own_object one scope) (own_by st e) accounted_so held.initialised.stored.passes held.stays held.initialised.stored.made (static_so st e) held.initialised.stored.good whole_known
         (λ types. completed_goes types one.type stored)
 
     leads_by : (st : Bool) → has_storage keyword.Static specs ≡ st → Leads opens scope (end_by st)
     leads_by st e =
-        behind_leads opens scope orderly name one.type reg st whole puts middle later begun_so (own_object one scope) (own_by st e) held.initialised.stored.passes held.stays held.initialised.stored.good whole_known
+        behind_leads opens scope orderly name one.type reg st whole puts middle later begun_so (own_object one scope) (own_by st e) accounted_so held.initialised.stored.passes held.stays held.initialised.stored.made (static_so st e) held.initialised.stored.good whole_known
         (λ types. completed_goes types one.type stored)
 
     held_by_all : (st : Bool) (e : has_storage keyword.Static specs ≡ st) (home : CHome) → Backs home opens scope (end_by st) → IsHeldAt home scope.declared
         → ((found : CTy) → IsThere home found (stored_in st whole puts (own_object one scope))) → IsHeldAt home (end_by st).declared
     held_by_all st e home backs known there =
-        behind_held opens scope orderly name one.type reg st whole puts middle later begun_so (own_object one scope) (own_by st e) held.initialised.stored.passes held.stays held.initialised.stored.good whole_known
+        behind_held opens scope orderly name one.type reg st whole puts middle later begun_so (own_object one scope) (own_by st e) accounted_so held.initialised.stored.passes held.stays held.initialised.stored.made (static_so st e) held.initialised.stored.good whole_known
         (λ types. completed_goes types one.type stored) home backs known there
 
     serves_by : (st : Bool) (e : has_storage keyword.Static specs ≡ st) (home : CHome) → Backs home opens scope (end_by st) → IsHeldAt home scope.declared
         → IsThere home one.type (stored_in st whole puts (own_object one scope)) → AreIn home.scope (literals_since middle later) → Serves home opens middle later
     serves_by st e home backs known there literals =
-        init_serves opens scope orderly name one.type reg st whole puts middle later begun_so (own_object one scope) (own_by st e) held.initialised.stored.passes held.stays held.initialised.stored.good whole_known
+        init_serves opens scope orderly name one.type reg st whole puts middle later begun_so (own_object one scope) (own_by st e) accounted_so held.initialised.stored.passes held.stays held.initialised.stored.made (static_so st e) held.initialised.stored.good whole_known
         (λ types. completed_goes types one.type stored) home backs known there literals
 
     body_same : later.body ≡ scope.body
@@ -243,7 +263,7 @@ module _ (opens : List ℕ) (place : SpecsPlace) (outside : is_outside place ≡
     ends_by at true e = plain_declared opens scope (end_by true) (good_by true e) (leads_by true e) body_same (λ home backs known. held_by_all true e home backs known (λ found. tt))
     ends_by at false e =
         begun_declared opens scope (end_by false) (good_by false e) (leads_by false e) body_same at (Some puts) (stored_in false whole puts (own_object one scope)) (length scope.objects) (omega arith)
-        (final_at opens scope orderly name one.type reg false whole puts middle later begun_so (own_object one scope) (own_by false e) held.initialised.stored.passes held.stays held.initialised.stored.good whole_known
+        (final_at opens scope orderly name one.type reg false whole puts middle later begun_so (own_object one scope) (own_by false e) accounted_so held.initialised.stored.passes held.stays held.initialised.stored.made (static_so false e) held.initialised.stored.good whole_known
         (λ types. completed_goes types one.type stored))
         refl (ap static_puts e) refl refl size
         (λ home backs known contains. held_by_all false e home backs known (λ found. there_own home found e contains))

@@ -17,24 +17,26 @@ use Rattle.cx_typed.specs.Walked.{IsGood}
 use Rattle.cx_typed_units.proofs.Begun.{IsJoined, joined_is, object_form, IsBegunAs, IsEntity, named_as, typedef_entity, own_entity, object_entity, function_entity}
 use Rattle.cx_typed_units.proofs.Entities.{new_object, linked_object, linked_function, linked_number, GoesWith}
 use Rattle.cx_typed_units.proofs.Steps.{with_next_object}
+use Rattle.cx_typed_units.proofs.Joins.{fills_itself}
+use Rattle.cx_typed_units.specs.Fills.{Fills}
 use Rattle.cx_typed_units.specs.Stretches.{IsOrderly}
 
 -- ---- what is declared, as `Declare` says it
 
-abbrev tentative_at : Bool → ℕ → Option ℕ
+abbrev pub tentative_at : Bool → ℕ → Option ℕ
 tentative_at true line = Some line
 tentative_at false line = None
 
-abbrev does_by : Bool → CDoes
+abbrev pub does_by : Bool → CDoes
 does_by true = defines
 does_by false = declares
 
-abbrev is_external : Linkage → Bool
+abbrev pub is_external : Linkage → Bool
 is_external External = true
 is_external Internal = false
 is_external Nothing = false
 
-abbrev told_type : CDeclaring → Option CThing → CTy
+abbrev pub told_type : CDeclaring → Option CThing → CTy
 told_type one None = one.type
 told_type one (Some thing) = thing.type
 
@@ -56,7 +58,7 @@ entity_by typedef is_fun linked one scope =
     (tentative_at (is_outside one.where_stands && not (one.has_init || has_storage keyword.Extern one.specs)) one.line) (thing_named one.name scope.things) scope
     else with_next_object (new_object scope one.name one.type Nothing (static_puts (has_storage keyword.Static one.specs))) scope
 
-abbrev mention_by : CDeclaring → CScope → CMention
+abbrev pub mention_by : CDeclaring → CScope → CMention
 mention_by one scope =
     mention_of scope one.name one.line (told_type one (thing_named one.name scope.things)) one.linkage
     (does_by (not (is_function one.type) && (is_outside one.where_stands && (one.has_init || not (has_storage keyword.Extern one.specs)))))
@@ -113,7 +115,7 @@ module _ (opens : List ℕ) (scope : CScope) (good : IsGood opens scope) (orderl
 
 -- ---- what the rules say
 
-either_false : (a b : Bool) → (a || b) ≡ false → (a ≡ false) × (b ≡ false)
+pub either_false : (a b : Bool) → (a || b) ≡ false → (a ≡ false) × (b ≡ false)
 either_false true b is = absurd cc
 either_false false b is = (refl, is)
 
@@ -132,7 +134,7 @@ linkage_same Nothing Internal is = absurd cc
 pub record IsUnclashed (scope : CScope) (name : List ℕ) (written : CTy) (linkage : Linkage) : Type 0 where
   pub same : is_linked linkage ≡ true → (one : CThing) → thing_named name scope.things ≡ Some one → GoesWith scope.types written linkage one
 
-thing_goes : (types : CTypes) (written : CTy) (linkage : Linkage) (has_content : Bool) (found : Option CThing) → clashes_thing types written linkage has_content found ≡ false → (one : CThing) → found ≡ Some one
+pub thing_goes : (types : CTypes) (written : CTy) (linkage : Linkage) (has_content : Bool) (found : Option CThing) → clashes_thing types written linkage has_content found ≡ false → (one : CThing) → found ≡ Some one
     → GoesWith types written linkage one
 thing_goes types written linkage has_content None fine one is = absurd cc
 thing_goes types written linkage has_content (Some thing) fine one is =
@@ -209,10 +211,14 @@ module _ (opens : List ℕ) (scope : CScope) (good : IsGood opens scope) (orderl
 
   joined_by : (linked : Bool) → is_linked linkage ≡ linked → IsUnclashed scope name written linkage → IsJoined opens scope name written (type_by linked)
   joined_by true is apart = joined_is opens scope good orderly name written known (λ one found. (apart.same is one found).agrees)
-  joined_by false is apart = record { known = known; goes = λ one found same. same; form = refl }
+  joined_by false is apart = record { known = known; goes = λ one found same. same; form = refl; fills = fills_itself opens scope.types scope.unit written }
 
   pub form_is : IsUnclashed scope name written linkage → is_function (declaring scope place specs name line written has_init).type ≡ is_function written
   form_is apart = (joined_by (is_linked linkage) refl apart).form
+
+  -- the declared type says no less than what is written
+  pub says_no_less : IsUnclashed scope name written linkage → Fills opens scope.types written (declaring scope place specs name line written has_init).type
+  says_no_less apart = (joined_by (is_linked linkage) refl apart).fills
 
   pub fine_is : IsUnclashed scope name written linkage
       → (is_typedef specs ≡ false → is_void (declaring scope place specs name line written has_init).type ≡ false) → IsFine opens scope (declaring scope place specs name line written has_init)

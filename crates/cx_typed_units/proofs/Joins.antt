@@ -13,7 +13,7 @@ use Rattle.cx_typed.proofs.Scopes.{grows_not}
 use Rattle.cx_typed.specs.Growth.{Grows}
 use Rattle.cx_typed.specs.Operands.{IsKnownType}
 use Rattle.cx_typed_units.proofs.Filled.{basic_itself, first_type, second_type}
-use Rattle.cx_typed_units.specs.Stretches.{Fills}
+use Rattle.cx_typed_units.specs.Fills.{Fills}
 
 and_both : (a b : Bool) → a ≡ true → b ≡ true → (a && b) ≡ true
 and_both true b first second = second

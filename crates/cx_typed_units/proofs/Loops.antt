@@ -31,6 +31,7 @@ use Rattle.cx_typed_units.proofs.Simple.{expression_is}
 use Rattle.cx_typed_units.proofs.Stretches.{leads_itself, leads_on, backs_first, backs_second}
 use Rattle.cx_typed_units.proofs.Valued.{IsValued, valued, IsDropped, dropped_goes}
 use Rattle.cx_typed_units.proofs.Whole.{go_scope, go_whole, scoped_goes, IsWhole, whole_is}
+use Rattle.cx_typed_units.specs.Rest.{DefinesNone}
 use Rattle.cx_typed_units.specs.Statements.{StandsIn, IsPlace, IsStated, StmtGoes, AreItems, IsDeclaration, AreBegun, IsScoped, OptionGoes, FirstGoes}
 use Rattle.cx_typed_units.specs.Stretches.{Leads, DeclaresNone, Backs, IsHeldAt, AreIn}
 
@@ -42,6 +43,7 @@ record IsOptionTest (opens : List ℕ) (before : CScope) (test : Option COperand
   none : DeclaresNone before after
   body_is : after.body ≡ before.body
   passes : Passes opens before after
+  defined : DefinesNone before.mentions after.mentions
   -- what is asked behind the statement
   later : (last : CScope) → Leads opens after last → DeclaresNone after last → (home : CHome) → Serves home opens before after → Grows opens last.types home.program.types
       → IfSome test (λ value. IsUnbroken last last.types (controls_node value)) → IfSome (option_value test) (IsCondition home)
@@ -53,6 +55,7 @@ option_tests opens no_expr scope goes good = go_gives None scope _ (record {
   none = λ name meant thing is. is;
   body_is = refl;
   passes = stays_itself opens scope;
+  defined = λ index one is held. is;
   later = λ last leads none home serves grows unbroken. tt;
 })
 option_tests opens (some_expr tree) scope goes good =
@@ -63,6 +66,7 @@ option_tests opens (some_expr tree) scope goes good =
       none = held.none;
       body_is = held.body_is;
       passes = held.is_expr.passes;
+      defined = held.defined;
       later = λ last leads none home serves grows unbroken. condition_is opens tree scope after value held last leads none home serves grows unbroken;
     }))
 
@@ -72,6 +76,7 @@ record IsOptionDropped (opens : List ℕ) (before : CScope) (found : Option CExp
   none : DeclaresNone before after
   body_is : after.body ≡ before.body
   passes : Passes opens before after
+  defined : DefinesNone before.mentions after.mentions
   typed : (home : CHome) → Serves home opens before after → IfSome found (IsVoidExpr home)
 
 option_drops : (opens : List ℕ) (tree : OptionExprTree) (scope : CScope) → OptionGoes tree → IsGood opens scope → Ends (s_dropped_option tree) scope (IsOptionDropped opens scope)
@@ -81,6 +86,7 @@ option_drops opens no_expr scope goes good = go_gives None scope _ (record {
   none = λ name meant thing is. is;
   body_is = refl;
   passes = stays_itself opens scope;
+  defined = λ index one is held. is;
   typed = λ home serves. tt;
 })
 option_drops opens (some_expr tree) scope goes good =
@@ -91,6 +97,7 @@ option_drops opens (some_expr tree) scope goes good =
       none = held.none;
       body_is = held.body_is;
       passes = held.passes;
+      defined = held.defined;
       typed = held.typed;
     }))
 
@@ -204,6 +211,9 @@ module _ (opens : List ℕ) (where_is : CWhere) (tree : StmtTree) (inner : StmtT
   clauses_none : DeclaresNone held.behind after
   clauses_none = none_on held.behind held.middle after held.tests.none held.nexts.none
 
+  clauses_define : DefinesNone held.behind.mentions after.mentions
+  clauses_define index one is defining = held.tests.defined index one (held.nexts.defined index one is defining) defining
+
   rest_leads_on : Leads opens held.behind last
   rest_leads_on = leads_on opens held.behind after last clauses_lead body_of.leads
 
@@ -222,7 +232,7 @@ module _ (opens : List ℕ) (where_is : CWhere) (tree : StmtTree) (inner : StmtT
   for_form body stands backs known inside =
       let both = are_both body.home.scope held.first.objects literals inside in
       let early = held.firsts.items.held body.home (first_backs body.home backs) known both.0 in
-      let serves = serves_of body.home opens held.behind after (clause_backs body.home backs) early both.1 in
+      let serves = serves_of body.home opens held.behind after (clause_backs body.home backs) clauses_define early both.1 in
       let tested_part : Serves body.home opens held.behind held.middle =
       part_of opens body.home held.behind held.behind held.middle after serves (stays_itself opens held.behind)
       (passes_keep opens _ _ held.middle after held.nexts.passes) in

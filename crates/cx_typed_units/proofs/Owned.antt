@@ -3,6 +3,7 @@ use Rattle.std.proofs.Common.{◌≡◌, ◌⊎◌, inl, inr, ℕ, ◌<◌, ◌�
 use Rattle.std.proofs.lemmas.Bool.Decides.{nat_tests}
 use Rattle.std.proofs.lemmas.Slice.Eq.{bytes_eq-Decides}
 use Rattle.std.specs.Prelude.{IsSome, IfSome}
+use Rattle.std.specs.List.{Contains}
 use Rattle.std.specs.Bool.{beq}
 use Rattle.cr_base.specs.declared.refusal.Refusal.{Refusal}
 use Rattle.cx_core.proofs.Relation.{compatible_reflexive}
@@ -10,6 +11,7 @@ use Rattle.cx_core.specs.declared.program.Linkage.{Linkage}
 use Rattle.cx_core.specs.declared.program.Linkage.TheVariants.{External, Nothing}
 use Rattle.cx_core.specs.Compatible.{agree, in_pairs, AreCompatible}
 use Rattle.cx_core.specs.Trees.{CTy, ty, array, CTypes, CPuts, CObject}
+use Rattle.cx_core.specs.Linked.{home_of, IsStatic}
 use Rattle.cx_core.specs.Typing.{CHome, object_with, IsThere}
 use Rattle.cx_rules.proofs.Verdicts.{broken_behind}
 use Rattle.cx_rules.specs.Declare.{is_linked, with_object_at, CBegun, with_content}
@@ -22,7 +24,7 @@ use Rattle.cx_rules.specs.UnitWalk.{literals_since}
 use Rattle.cx_typed.proofs.Scopes.{longer, within}
 use Rattle.cx_typed.specs.Initialised.{IsKnownWhole}
 use Rattle.cx_typed.specs.Names.{IsKnownMeant}
-use Rattle.cx_typed.specs.Scopes.{IsHeld, IsHeldObject, Serves, Passes, is_thing}
+use Rattle.cx_typed.specs.Scopes.{IsHeld, IsHeldObject, Serves, Passes, is_thing, AreTypedLiterals}
 use Rattle.cx_typed.specs.Walked.{IsGood, Ends}
 use Rattle.cx_typed_units.proofs.Begun.{IsBegunAs}
 use Rattle.cx_typed_units.proofs.Blocks.{serves_of, all_on}
@@ -31,10 +33,14 @@ use Rattle.cx_typed_units.proofs.Fine.{static_puts}
 use Rattle.cx_typed_units.proofs.Joins.{agree_itself}
 use Rattle.cx_typed_units.proofs.Redeclared.{redeclare_first, IsRetyped, redeclared_front, redeclared_means, redeclared_tags}
 use Rattle.cx_typed_units.proofs.RestNodes.{StaysTo}
-use Rattle.cx_typed_units.proofs.Steps.{mapped_at, length_mapped, changed_static, changed_own, changed_numbers}
-use Rattle.cx_typed_units.proofs.Stretches.{passes_declare, leads_on, rest_leads}
+use Rattle.cx_typed_units.proofs.Steps.{got_behind, got_mapped, mapped_at, length_mapped, changed_static, changed_own, changed_numbers}
+use Rattle.cx_typed_units.proofs.StoredAccounts.{stored_accounted}
+use Rattle.cx_typed_units.proofs.Rests.{since_in, literals_typed, rest_leads}
+use Rattle.cx_typed_units.proofs.Stretches.{Steps, steps_on, steps_of, leads_by, backs_from, holds_earlier, passes_declare}
+use Rattle.cx_typed_units.specs.Account.{account_of, IsAccounted}
+use Rattle.cx_typed_units.proofs.Unfilled.{IsThereHere}
 use Rattle.cx_typed_units.specs.Rest.{CRest}
-use Rattle.cx_typed_units.specs.Stretches.{IsOrderly, Leads, Backs, IsHeldAt, AreIn}
+use Rattle.cx_typed_units.specs.Stretches.{IsOrderly, Leads, Backs, IsHeldAt, AreIn, HoldsAll, IsFilled, AreTypedThere, AreTypedUpTo}
 
 -- ---- the type that an initialiser completes
 
@@ -105,6 +111,14 @@ stored_linkage : (is_static : Bool) (type : CTy) (puts : CPuts) (one : CObject) 
 stored_linkage true type puts one = refl
 stored_linkage false type puts one = refl
 
+stored_unit : (is_static : Bool) (type : CTy) (puts : CPuts) (one : CObject) → (stored_in is_static type puts one).unit ≡ one.unit
+stored_unit true type puts one = refl
+stored_unit false type puts one = refl
+
+stored_text : (is_static : Bool) (type : CTy) (puts : CPuts) (one : CObject) → (stored_in is_static type puts one).is_text ≡ one.is_text
+stored_text true type puts one = refl
+stored_text false type puts one = refl
+
 stored_static : (is_static : Bool) (type : CTy) (puts : CPuts) (one : CObject) → is_some one.puts ≡ true → is_some (stored_in is_static type puts one).puts ≡ true
 stored_static true type puts one is = refl
 stored_static false type puts one is = is
@@ -138,10 +152,13 @@ pub record IsOwn (scope : CScope) (name : List ℕ) (is_static : Bool) (middle :
   pub here : own.unit ≡ scope.unit
   pub named : IsSome own.name
   pub puts_are : own.puts ≡ static_puts is_static
+  pub all : middle.objects ≡ scope.objects ++ own ∷ []
 
 module _ (opens : List ℕ) (scope : CScope) (orderly : IsOrderly opens scope) (name : List ℕ) (type : CTy) (is_register is_static : Bool) (whole : CTy) (puts : CPuts) (middle later : CScope)
     (begun : IsBegunAs opens scope name (an_object scope.next_object type is_register Nothing) middle) (own : CObject) (own_is : IsOwn scope name is_static middle own)
-    (passes : Passes opens middle later) (stays : StaysTo middle later) (good : IsGood opens later) (known : IsKnownWhole opens later.types later.unit whole)
+    (accounted : (pending : Option (List ℕ)) → IsAccounted opens pending (account_of scope) → IsAccounted opens pending (account_of middle))
+    (passes : Passes opens middle later) (stays : StaysTo middle later) (made : AreTypedLiterals opens middle later)
+    (own_static : (home : CHome) → Serves home opens middle later → is_static ≡ true → IsStatic (home_of home.program home.mentions home.unit) whole puts) (good : IsGood opens later) (known : IsKnownWhole opens later.types later.unit whole)
     (goes : (types : CTypes) → AreCompatible types type whole) where
   abbrev change : CObject → CObject
   change one = if one.object == scope.next_object then stored_in is_static whole puts one else one
@@ -153,10 +170,10 @@ module _ (opens : List ℕ) (scope : CScope) (orderly : IsOrderly opens scope) (
   final = stored_in is_static whole puts own
 
   init_leads : Leads opens middle later
-  init_leads = rest_leads opens middle later (passes_declare opens middle later passes) passes.declared stays
+  init_leads = rest_leads opens middle later (passes_declare opens middle later passes) passes.declared stays passes.numbers made
 
-  all_leads : Leads opens scope later
-  all_leads = leads_on opens scope middle later begun.leads init_leads
+  all_leads : Steps opens scope later
+  all_leads = steps_on opens scope middle later begun.leads (steps_of opens middle later init_leads)
 
   objects_are : later.objects ≡ middle.objects
   objects_are = ap {A = CRest} (λ one. one.objects) stays.rest_is
@@ -217,8 +234,8 @@ module _ (opens : List ℕ) (scope : CScope) (orderly : IsOrderly opens scope) (
         numbers = changed_numbers opens later scope.next_object (stored_in is_static whole puts) (stored_number is_static whole puts) (stored_linkage is_static whole puts) (stored_static is_static whole puts) held;
       }
 
-  pub behind_leads : Leads opens scope behind
-  behind_leads = record {
+  pub behind_steps : Steps opens scope behind
+  behind_steps = record {
     declares = record {
       unit_is = all_leads.declares.unit_is;
       grows = all_leads.declares.grows;
@@ -231,6 +248,7 @@ module _ (opens : List ℕ) (scope : CScope) (orderly : IsOrderly opens scope) (
     };
     begins_is = all_leads.begins_is;
     in_function_is = all_leads.in_function_is;
+    functions_are = all_leads.functions_are;
     objects_more = let h : length (map change later.objects) ≡ length later.objects = length_mapped change later.objects in omega (arith, h, all_leads.objects_more);
     objects = λ index one nothing at.
         mapped_at change later.objects index one (all_leads.objects index one nothing at)
@@ -241,6 +259,13 @@ module _ (opens : List ℕ) (scope : CScope) (orderly : IsOrderly opens scope) (
         changed_static opens later scope.next_object (stored_in is_static whole puts) (stored_number is_static whole puts) (stored_linkage is_static whole puts) (stored_static is_static whole puts) later.literals
         index later.objects (all_leads.statics index is);
   }
+
+  behind_accounted : (pending : Option (List ℕ)) → IsAccounted opens pending (account_of scope) → IsAccounted opens pending (account_of behind)
+  behind_accounted =
+      λ pending held.
+      stored_accounted opens pending (account_of later) (init_leads.keeps pending (accounted pending held)) (λ other one there. ((all_leads.orderly orderly).things other one there).linked) (length scope.objects) own
+      (ap (λ objects. slice_get objects (length scope.objects)) objects_are ∙ own_is.at) own_is.nothing scope.next_object own_is.number_is (stored_in is_static whole puts) (stored_number is_static whole puts)
+      (stored_linkage is_static whole puts) (stored_unit is_static whole puts) (stored_text is_static whole puts) whole (stored_type is_static whole puts) known.known known.object
 
   pub behind_good : IsGood opens behind
   behind_good = record {
@@ -298,7 +323,7 @@ module _ (opens : List ℕ) (scope : CScope) (orderly : IsOrderly opens scope) (
         }
 
     pub init_serves : IsHeldAt home scope.declared → IsThere home type final → AreIn home.scope (literals_since middle later) → Serves home opens middle later
-    init_serves held there inside = serves_of home opens middle later middle_backs (middle_held held there) inside
+    init_serves held there inside = serves_of home opens middle later middle_backs stays.defined (middle_held held there) inside
 
     pub behind_held : IsHeldAt home scope.declared → ((found : CTy) → IsThere home found final) → IsHeldAt home behind.declared
     behind_held held there other found is = held_by other found (redeclared_means name other whole later.declared found is)
@@ -309,3 +334,54 @@ module _ (opens : List ℕ) (scope : CScope) (orderly : IsOrderly opens scope) (
             let mine = own_means other _ at.name_is refl at.was_is in
             subst (IsHeld home other) (ap (retype whole) mine ∙ sym at.found_is)
             (subst (λ n. IsHeld home n (an_object scope.next_object whole is_register Nothing)) at.name_is (held_as whole (compatible_reflexive home.program.types whole) (there whole)))
+
+  -- ---- what is typed
+
+  there_by : (static : Bool) → is_static ≡ static → (home : CHome) → HoldsAll home opens behind → (found : CTy) → IsThere home found final
+  there_by true e home all found = subst (λ b. IsThere home found (stored_in b whole puts own)) (sym e) tt
+  there_by false e home all found =
+      let inside : Contains home.scope final.object = all.objects_inside (length scope.objects) final final_at (stored_linkage is_static whole puts own ∙ own_is.nothing) in
+      subst (λ b. IsThere home found (stored_in b whole puts own)) (sym e)
+      (subst (λ l. IsThereHere home found (stored_in false whole puts own) l own.puts) (sym own_is.nothing)
+      (subst (λ p. IsThereHere home found (stored_in false whole puts own) Nothing p) (sym (own_is.puts_are ∙ ap static_puts e))
+      (subst (Contains home.scope) (stored_number is_static whole puts own) inside)))
+
+  own_filled : (static : Bool) → is_static ≡ static → (home : CHome) → Serves home opens middle later → IfSome (stored_in static whole puts own).puts (IsFilled home (stored_in static whole puts own))
+  own_filled true e home serves = record { type = whole; same = λ nothing. refl; static = own_static home serves e }
+  own_filled false e home serves = subst (λ p. IfSome p (IsFilled home (stored_in false whole puts own))) (sym (own_is.puts_are ∙ ap static_puts e)) tt
+
+  behind_typed : AreTypedUpTo opens scope → AreTypedUpTo opens behind
+  behind_typed held home all =
+      let was = held home (holds_earlier opens home scope behind all behind_steps) in
+      let backs = backs_from opens home scope behind all behind_steps in
+      let there = there_by is_static refl home all in
+      let inside : AreIn home.scope (literals_since middle later) = literals_since_in home all in
+      let serves = init_serves home backs was.held (there type) inside in
+      record {
+        held = behind_held home backs was.held there;
+        literals = literals_typed home middle later passes.literals (λ index one is. was.literals index one (subst (λ made. slice_get made index ≡ Some one) begun.literals_are is))
+            (λ index one from is. made home serves index one from is);
+        objects = λ index one is. objects_by home serves was index one (got_mapped change later.objects index one is);
+        functions = λ index one is. was.functions index one (subst (λ functions. slice_get functions index ≡ Some one) behind_steps.functions_are is);
+      }
+    where
+      literals_since_in : (home : CHome) → HoldsAll home opens behind → AreIn home.scope (literals_since middle later)
+      literals_since_in home all = since_in home.scope (length middle.literals) later.literals all.literals_inside
+
+      object_by : (home : CHome) → Serves home opens middle later → AreTypedThere home scope → (index : ℕ) (before one : CObject) → slice_get (scope.objects ++ own ∷ []) index ≡ Some before → change before ≡ one
+          → (slice_get scope.objects index ≡ Some before) ⊎ (own ≡ before) → IfSome one.puts (IsFilled home one)
+      object_by home serves was index before one at is (inl old) =
+          subst (λ (x : CObject). IfSome x.puts (IsFilled home x))
+          (sym (kept_by before (before.object == scope.next_object) (not_same before.object scope.next_object (orderly.numbers index before old))) ∙ is) (was.objects index before old)
+      object_by home serves was index before one at is (inr new) =
+          let own_changed : change own ≡ final = ap (λ b. if b then final else own) (ap (λ n. n == scope.next_object) own_is.number_is ∙ itself scope.next_object) in
+          subst (λ (x : CObject). IfSome x.puts (IsFilled home x)) (sym own_changed ∙ (ap change new ∙ is)) (own_filled is_static refl home serves)
+
+      objects_by : (home : CHome) → Serves home opens middle later → AreTypedThere home scope → (index : ℕ) (one : CObject) → (before : CObject) × (slice_get later.objects index ≡ Some before) × (change before ≡ one)
+          → IfSome one.puts (IsFilled home one)
+      objects_by home serves was index one before =
+          let at = subst (λ objects. slice_get objects index ≡ Some before.0) (objects_are ∙ own_is.all) before.1 in
+          object_by home serves was index before.0 one at before.2 (got_behind scope.objects own index before.0 at)
+
+  pub behind_leads : Leads opens scope behind
+  behind_leads = leads_by opens scope behind behind_steps behind_accounted behind_typed

@@ -1,5 +1,5 @@
 -- What the pieces of the walk over expressions, types and initialisers leave of a scope as it is.
-use Rattle.cx_core.specs.Trees.{CMember, CTy}
+use Rattle.cx_core.specs.Trees.{CMember, CMention, CTy, calls, uses}
 use Rattle.cx_core.specs.declared.expr.Op2.{Op2}
 use Rattle.cx_core.specs.declared.program.Linkage.TheVariants.{External, Internal, Nothing}
 use Rattle.cx_lex.specs.declared.token.Ty0.{Ty0}
@@ -10,21 +10,22 @@ use Rattle.cx_rules.specs.Nodes.{CNode}
 use Rattle.cx_rules.specs.Operands.{COperand, constant_of, value_of}
 use Rattle.cx_rules.specs.Pieces.{CBinary, CFilling, CTarget, CUnary, Done, called, computes, continued, enumerator_value, fills, fills_whole, follows, landed, operates, param_of, seen_tag, tag_number, takes_address, tests_both, tests_either, text_landed, used, whole_at, with_closed_enum, with_open_enum, with_param, with_text, with_used, CFilled, filled_object}
 use Rattle.cx_rules.specs.Readings.{Seen, seen_gives, seen_chain, seen_here, seen_becomes, seen_look}
-use Rattle.cx_rules.specs.Scope.{CMeant, CScope, CTag, a_function, a_tag, a_type_name, an_enumerator, an_object, left, ordinary}
+use Rattle.cx_rules.specs.Scope.{CMeant, CScope, CTag, a_function, a_tag, a_type_name, an_enumerator, an_object, left, mention_of, ordinary}
 use Rattle.cx_rules.specs.Shapes.{CParam, CShape, CSpecs, CStep}
 use Rattle.cx_rules.specs.declared.kinds.SpecsPlace.{SpecsPlace}
 use Rattle.cx_tree.specs.Trees.{EntryTrees}
-use Rattle.cx_typed_units.specs.Rest.{rest_of}
-use Rattle.std.proofs.Common.{refl, ◌∙◌, ◌≡◌, ◌≤◌, arith}
-use Rattle.std.specs.Prelude.{Bool, List, None, Option, Some, false, length, true, ℕ, ℤ}
+use Rattle.cx_typed_units.specs.Rest.{rest_of, is_defining, DefinesNone}
+use Rattle.std.proofs.Common.{refl, sym, subst, ◌∙◌, ◌≡◌, ◌≤◌, arith, zero, suc, [], ◌∷◌, ◌++◌}
+use Rattle.std.specs.Prelude.{Bool, List, None, Option, Some, false, length, slice_get, slice_set, true, ℕ, ℤ}
 use Rattle.cx_rules.specs.Walk as walk
 
 -- ---- what stays
 
--- all but declarations, types, literals and mentions stays, and numbers for objects are only taken
+-- all but declarations, types, literals and mentions stays, numbers for objects are only taken, and nothing is defined
 pub record StaysTo (scope after : CScope) : Type 0 where
   pub rest_is : rest_of after ≡ rest_of scope
   pub more : scope.next_object ≤ after.next_object
+  pub defined : DefinesNone scope.mentions after.mentions
 
 pub record KeepsAt (A : Type 0) (walked : Seen A) (scope : CScope) : Type 0 where
   pub kept : StaysTo scope (walked scope).scope
@@ -35,10 +36,14 @@ Keeps A walked = (scope : CScope) → KeepsAt A walked scope
 -- ---- rules
 
 pub stays_itself : (scope : CScope) → StaysTo scope scope
-stays_itself scope = record { rest_is = refl; more = omega arith }
+stays_itself scope = record { rest_is = refl; more = omega arith; defined = λ index one is held. is }
 
 stays_on : (before middle after : CScope) → StaysTo before middle → StaysTo middle after → StaysTo before after
-stays_on before middle after first second = record { rest_is = second.rest_is ∙ first.rest_is; more = omega (arith, first.more, second.more) }
+stays_on before middle after first second = record {
+  rest_is = second.rest_is ∙ first.rest_is;
+  more = omega (arith, first.more, second.more);
+  defined = λ index one is held. first.defined index one (second.defined index one is held) held;
+}
 
 pub at_chain : (A B : Type 0) (first : Seen A) (next : A → Seen B) (scope : CScope) → KeepsAt A first scope → ((value : A) → Keeps B (next value)) → KeepsAt B (seen_chain A B first next) scope
 unfolding seen_chain
@@ -83,40 +88,78 @@ pub kept_either : (A : Type 0) (test : Bool) (one other : Seen A) → Keeps A on
 kept_either A true one other first second = first
 kept_either A false one other first second = second
 
+-- ---- mentions
+
+told_defines : (mentions : List CMention) (new : CMention) → is_defining new.does ≡ false → DefinesNone mentions (mentions ++ new ∷ [])
+told_defines [] new no_define zero one is held =
+    absurd (let same : new ≡ one = cc in let h : is_defining new.does ≡ true = subst (λ (mention : CMention). is_defining mention.does ≡ true) (sym same) held in cc)
+told_defines [] new no_define (suc index) one is held = absurd cc
+told_defines (first ∷ mentions) new no_define zero one is held = is
+told_defines (first ∷ mentions) new no_define (suc index) one is held = told_defines mentions new no_define index one is held
+
+set_defines : (mentions : List CMention) (at : ℕ) (new : CMention) → is_defining new.does ≡ false → DefinesNone mentions (slice_set mentions at new)
+set_defines [] at new no_define index one is held = is
+set_defines (first ∷ mentions) zero new no_define zero one is held =
+    absurd (let same : new ≡ one = cc in let h : is_defining new.does ≡ true = subst (λ (mention : CMention). is_defining mention.does ≡ true) (sym same) held in cc)
+set_defines (first ∷ mentions) zero new no_define (suc index) one is held = is
+set_defines (first ∷ mentions) (suc at) new no_define zero one is held = is
+set_defines (first ∷ mentions) (suc at) new no_define (suc index) one is held = set_defines mentions at new no_define index one is held
+
+-- as `Scope` says it
+abbrev with_trailing : Option CMention → List CTy → Option CMention
+with_trailing None types = None
+with_trailing (Some one) types = Some (record one { does = calls types })
+
+abbrev set_mention : ℕ → List CMention → Option CMention → List CMention
+set_mention index mentions None = mentions
+set_mention index mentions (Some one) = slice_set mentions index one
+
+call_defines : (mentions : List CMention) (at : ℕ) (types : List CTy) (found : Option CMention) → DefinesNone mentions (set_mention at mentions (with_trailing found types))
+call_defines mentions at types None index one is held = is
+call_defines mentions at types (Some mention) index one is held = set_defines mentions at (record mention { does = calls types }) refl index one is held
+
 -- ---- changes
 
 grow_used : (line : ℕ) (name : List ℕ) (meant : Option CMeant) (scope : CScope) → StaysTo scope (used line name meant scope)
-grow_used line name None scope = record { rest_is = refl; more = omega arith }
-grow_used line name (Some (an_object number type is_register External)) scope = record { rest_is = refl; more = omega arith }
-grow_used line name (Some (an_object number type is_register Internal)) scope = record { rest_is = refl; more = omega arith }
-grow_used line name (Some (an_object number type is_register Nothing)) scope = record { rest_is = refl; more = omega arith }
-grow_used line name (Some (a_function number type linkage)) scope = record { rest_is = refl; more = omega arith }
-grow_used line name (Some (a_type_name type)) scope = record { rest_is = refl; more = omega arith }
-grow_used line name (Some (an_enumerator value)) scope = record { rest_is = refl; more = omega arith }
-grow_used line name (Some (a_tag is_record is_open number)) scope = record { rest_is = refl; more = omega arith }
+grow_used line name None scope = record { rest_is = refl; more = omega arith; defined = λ index one is held. is }
+grow_used line name (Some (an_object number type is_register External)) scope = record {
+  rest_is = refl;
+  more = omega arith;
+  defined = told_defines scope.mentions (mention_of scope name line type External uses) refl;
+}
+grow_used line name (Some (an_object number type is_register Internal)) scope = record { rest_is = refl; more = omega arith; defined = λ index one is held. is }
+grow_used line name (Some (an_object number type is_register Nothing)) scope = record { rest_is = refl; more = omega arith; defined = λ index one is held. is }
+grow_used line name (Some (a_function number type linkage)) scope = record {
+  rest_is = refl;
+  more = omega arith;
+  defined = told_defines scope.mentions (mention_of scope name line type linkage uses) refl;
+}
+grow_used line name (Some (a_type_name type)) scope = record { rest_is = refl; more = omega arith; defined = λ index one is held. is }
+grow_used line name (Some (an_enumerator value)) scope = record { rest_is = refl; more = omega arith; defined = λ index one is held. is }
+grow_used line name (Some (a_tag is_record is_open number)) scope = record { rest_is = refl; more = omega arith; defined = λ index one is held. is }
 
 grow_text : (line : ℕ) (bytes : List ℕ) (scope : CScope) → StaysTo scope (with_text line bytes scope)
-grow_text line bytes scope = record { rest_is = refl; more = omega arith }
+grow_text line bytes scope = record { rest_is = refl; more = omega arith; defined = λ index one is held. is }
 
 grow_record : (found : Option CTag) (name : Option (List ℕ)) (is_union : Bool) (scope : CScope) → StaysTo scope (with_used found name is_union scope)
-grow_record None None is_union scope = record { rest_is = refl; more = omega arith }
-grow_record None (Some name) is_union scope = record { rest_is = refl; more = omega arith }
-grow_record (Some one) name is_union scope = record { rest_is = refl; more = omega arith }
+grow_record None None is_union scope = record { rest_is = refl; more = omega arith; defined = λ index one is held. is }
+grow_record None (Some name) is_union scope = record { rest_is = refl; more = omega arith; defined = λ index one is held. is }
+grow_record (Some one) name is_union scope = record { rest_is = refl; more = omega arith; defined = λ index one is held. is }
 
 grow_open : (name : Option (List ℕ)) (scope : CScope) → StaysTo scope (with_open_enum name scope)
-grow_open None scope = record { rest_is = refl; more = omega arith }
-grow_open (Some name) scope = record { rest_is = refl; more = omega arith }
+grow_open None scope = record { rest_is = refl; more = omega arith; defined = λ index one is held. is }
+grow_open (Some name) scope = record { rest_is = refl; more = omega arith; defined = λ index one is held. is }
 
 grow_closed : (name : Option (List ℕ)) (number : ℕ) (negative : Bool) (scope : CScope) → StaysTo scope (with_closed_enum name number negative scope)
-grow_closed None number negative scope = record { rest_is = refl; more = omega arith }
-grow_closed (Some name) number negative scope = record { rest_is = refl; more = omega arith }
+grow_closed None number negative scope = record { rest_is = refl; more = omega arith; defined = λ index one is held. is }
+grow_closed (Some name) number negative scope = record { rest_is = refl; more = omega arith; defined = λ index one is held. is }
 
 grow_named : (name : Option (List ℕ)) (one : CParam) (scope : CScope) → StaysTo scope (with_param (Some (record one { name = name })) scope)
-grow_named None one scope = record { rest_is = refl; more = omega arith }
-grow_named (Some name) one scope = record { rest_is = refl; more = omega arith }
+grow_named None one scope = record { rest_is = refl; more = omega arith; defined = λ index one is held. is }
+grow_named (Some name) one scope = record { rest_is = refl; more = omega arith; defined = λ index one is held. is }
 
 grow_param : (param : Option CParam) (scope : CScope) → StaysTo scope (with_param param scope)
-grow_param None scope = record { rest_is = refl; more = omega arith }
+grow_param None scope = record { rest_is = refl; more = omega arith; defined = λ index one is held. is }
 grow_param (Some one) scope = grow_named one.name one scope
 
 -- ---- nodes
@@ -187,7 +230,7 @@ pub kept_record_begins : (x1 : Bool) (x2 : Option (List ℕ)) → Keeps CScope (
 kept_record_begins is_union name = (kept_here _ _ (λ scope. (kept_becomes _ scope _ _ (grow_record (continued scope.types is_union (seen_tag true name scope)) name is_union scope))))
 
 pub kept_record_ended : (x1 : CSpecs) (x2 : Bool) (x3 : Option (List ℕ)) (x4 : ℕ) (x5 : List CMember) (x6 : CScope) (x7 : Option CTag) (x8 : ℕ) → KeepsAt CSpecs (s_record_ended x1 x2 x3 x4 x5 x6 x7 x8) x6
-kept_record_ended specs is_union name line members scope found number = (kept_changed _ scope _ _ _ _ (record { rest_is = refl; more = omega arith }))
+kept_record_ended specs is_union name line members scope found number = (kept_changed _ scope _ _ _ _ (record { rest_is = refl; more = omega arith; defined = λ index one is held. is }))
 
 pub kept_record_ends : (x1 : CScope) (x2 : CSpecs) (x3 : Bool) (x4 : Option (List ℕ)) (x5 : ℕ) (x6 : List CMember) → Keeps CSpecs (s_record_ends x1 x2 x3 x4 x5 x6)
 kept_record_ends before specs is_union name line members = (kept_here _ _ (λ scope. (kept_record_ended specs is_union name line members scope (seen_tag true name before) (tag_number (length before.types.records) (continued before.types is_union (seen_tag true name before))))))
@@ -205,7 +248,7 @@ pub kept_enum_ends : (x1 : CScope) (x2 : CSpecs) (x3 : Option (List ℕ)) (x4 : 
 kept_enum_ends before specs name line negative = (kept_here _ _ (λ scope. (kept_changed _ scope _ _ _ _ (grow_closed name (length before.types.enums) negative scope))))
 
 pub kept_enumerator_as : (x1 : CScope) (x2 : List ℕ) (x3 : ℕ) (x4 : Option COperand) (x5 : ℤ) → KeepsAt ℤ (s_enumerator_as x1 x2 x3 x4 x5) x1
-kept_enumerator_as scope name line written value = (kept_changed _ scope _ _ _ _ (record { rest_is = refl; more = omega arith }))
+kept_enumerator_as scope name line written value = (kept_changed _ scope _ _ _ _ (record { rest_is = refl; more = omega arith; defined = λ index one is held. is }))
 
 pub kept_enumerator_seen : (x1 : List ℕ) (x2 : ℕ) (x3 : ℤ) (x4 : Option COperand) → Keeps ℤ (s_enumerator_seen x1 x2 x3 x4)
 kept_enumerator_seen name line next None = (kept_here _ _ (λ scope. (kept_enumerator_as scope name line None next)))
@@ -233,7 +276,7 @@ pub kept_value_given : (x1 : ℕ) (x2 : CTarget) (x3 : Option CAt) (x4 : CFillin
 kept_value_given line target at filling value = (kept_here _ _ (λ scope. (kept_value_given_at line target filling value scope (landed scope.types value at))))
 
 pub kept_text_given_at : (x1 : ℕ) (x2 : CTarget) (x3 : CFilling) (x4 : List ℕ) (x5 : CScope) (x6 : Option CAt) → KeepsAt CFilling (s_text_given_at x1 x2 x3 x4 x5 x6) x5
-kept_text_given_at line target filling bytes scope at = (kept_changed _ scope _ _ _ _ (record { rest_is = refl; more = omega arith }))
+kept_text_given_at line target filling bytes scope at = (kept_changed _ scope _ _ _ _ (record { rest_is = refl; more = omega arith; defined = λ index one is held. is }))
 
 pub kept_text_given : (x1 : ℕ) (x2 : CTarget) (x3 : Option CAt) (x4 : CFilling) (x5 : List (List ℕ)) → Keeps CFilling (s_text_given x1 x2 x3 x4 x5)
 kept_text_given line target at filling parts = (kept_here _ _ (λ scope. (either_at _ scope (fills scope.types at) _ _ (kept_text_given_at line target filling (joined_bytes parts) scope (text_landed scope.types at)) (at_chain _ _ _ _ scope (kept_text_seen parts line scope) (λ value. (kept_value_given line target at filling value))))))
@@ -245,7 +288,7 @@ pub kept_whole_given : (x1 : ℕ) (x2 : CTarget) (x3 : COperand) → Keeps CFill
 kept_whole_given line target value = (kept_here _ _ (λ scope. (kept_whole_value line target value scope)))
 
 pub kept_whole_text_at : (x1 : ℕ) (x2 : CTarget) (x3 : List ℕ) (x4 : CScope) (x5 : Option CAt) → KeepsAt CFilling (s_whole_text_at x1 x2 x3 x4 x5) x4
-kept_whole_text_at line target bytes scope at = (kept_changed _ scope _ _ _ _ (record { rest_is = refl; more = omega arith }))
+kept_whole_text_at line target bytes scope at = (kept_changed _ scope _ _ _ _ (record { rest_is = refl; more = omega arith; defined = λ index one is held. is }))
 
 pub kept_whole_text : (x1 : ℕ) (x2 : CTarget) (x3 : List (List ℕ)) → Keeps CFilling (s_whole_text x1 x2 x3)
 kept_whole_text line target parts = (kept_here _ _ (λ scope. (either_at _ scope (fills_whole target) _ _ (kept_whole_text_at line target (joined_bytes parts) scope (whole_at target)) (at_chain _ _ _ _ scope (kept_text_seen parts line scope) (λ value. (kept_whole_given line target value))))))
@@ -270,20 +313,26 @@ kept_member_designated line at name = (kept_here _ _ (λ scope. (kept_member_as 
 
 -- the forms that look back at the scope before them
 called_rest : (by_name : Bool) (mentioned : ℕ) (types : List CTy) (scope : CScope) → StaysTo scope (called by_name mentioned types scope)
-called_rest true mentioned types scope = record { rest_is = refl; more = omega arith }
-called_rest false mentioned types scope = record { rest_is = refl; more = omega arith }
+called_rest true mentioned types scope = record {
+  rest_is = refl;
+  more = omega arith;
+  defined = call_defines scope.mentions mentioned types (slice_get scope.mentions mentioned);
+}
+called_rest false mentioned types scope = record { rest_is = refl; more = omega arith; defined = λ index one is held. is }
 
 pub kept_call_seen : (line : ℕ) (by_name : Bool) (mentioned : ℕ) (callee : COperand) (args : List COperand) → Keeps COperand (s_call_seen line by_name mentioned callee args)
 kept_call_seen line by_name mentioned callee args = kept_here _ _ (λ scope. kept_changed _ scope _ _ _ _ (called_rest by_name mentioned (trailing_types scope.types callee args) scope))
 
-pub kept_sizeof_seen : (line : ℕ) (before : CScope) (of : COperand) → Keeps COperand (s_sizeof_seen line before of)
-kept_sizeof_seen line before of = kept_here _ _ (λ scope. kept_changed _ scope _ _ _ _ (record { rest_is = refl; more = omega arith }))
+-- what is named there isn't used
+pub sizeof_at : (line : ℕ) (on : Seen COperand) (before : CScope) → KeepsAt COperand on before → KeepsAt COperand (seen_chain COperand COperand on (λ one. s_sizeof_seen line before one)) before
+unfolding seen_chain seen_here seen_look seen_becomes seen_gives
+sizeof_at line on before one = record { kept = record { rest_is = one.kept.rest_is; more = one.kept.more; defined = λ index mention is held. is } }
 
 pub kept_literal_begins : (type : CTy) → Keeps CScope (s_literal_begins type)
-kept_literal_begins type = kept_here _ _ (λ scope. kept_becomes _ scope _ _ (record { rest_is = refl; more = omega arith }))
+kept_literal_begins type = kept_here _ _ (λ scope. kept_becomes _ scope _ _ (record { rest_is = refl; more = omega arith; defined = λ index one is held. is }))
 
 pub kept_literal_ends_as : (before : CScope) (line : ℕ) (scope : CScope) (filled : CFilled) → KeepsAt COperand (s_literal_ends_as before line scope filled) scope
-kept_literal_ends_as before line scope filled = kept_changed _ scope _ _ _ _ (record { rest_is = refl; more = omega arith })
+kept_literal_ends_as before line scope filled = kept_changed _ scope _ _ _ _ (record { rest_is = refl; more = omega arith; defined = λ index one is held. is })
 
 pub kept_literal_ends : (before : CScope) (line : ℕ) (type : CTy) (stored : List CStored) → Keeps COperand (s_literal_ends before line type stored)
 kept_literal_ends before line type stored = kept_here _ _ (λ scope. kept_literal_ends_as before line scope (filled_object scope.types type stored))

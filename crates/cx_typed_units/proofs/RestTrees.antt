@@ -13,7 +13,7 @@ use Rattle.cx_rules.specs.Scope.{CScope, left, entered}
 use Rattle.cx_rules.specs.Shapes.{CParam, CShape, CSpecs, CStep, base_type, no_specs_yet}
 use Rattle.cx_rules.specs.declared.kinds.SpecsPlace.TheVariants.{Parameter, Plain}
 use Rattle.cx_tree.specs.Trees.{Array, Arrow, Assign, Binary, Braced, BracketsTree, Call, Cast, Comma, Cond, DeclaratorTree, DesignatorTree, DesignatorTrees, Dot, Element, Entry, EntryTree, EntryTrees, Enum, Enumerator, EnumeratorTree, EnumeratorTrees, ExprTree, ExprTrees, Function, Group, Identifier, Identifiers, Index, InitialiserList, InitialiserListTree, InitialiserTree, Key, Length, Letter, Literal, Member, MemberDecl, MemberDeclTree, MemberDeclTrees, MemberDeclarator, MemberDeclaratorTree, MemberDeclaratorTrees, Missing, Name, Number, OptionExprTree, Param, ParamTree, ParamTrees, Paren, Pointer, PostDown, PostUp, PreDown, PreUp, Record, Single, SizeofExpr, SizeofType, SpecTree, SpecTrees, Star, StaticFirst, StaticLast, Text, TypeName, TypeNameTree, Typedef, Unary, Unsized, more_designators, more_entries, more_enumerators, more_exprs, more_member_declarators, more_member_decls, more_params, more_specs, no_designators, no_entries, no_enumerator_list, no_enumerators, no_expr, no_exprs, no_member_declarators, no_member_decls, no_members, no_params, no_specs, some_enumerator_list, some_expr, some_members}
-use Rattle.cx_typed_units.proofs.RestNodes.{at_chain, kept_chain, kept_here, kept_given, kept_either, kept_name_seen, kept_number_seen, kept_letter_seen, kept_text_seen, kept_index_seen, kept_dot_seen, kept_arrow_seen, kept_step_seen, kept_unary_seen, kept_sizeof_type_seen, kept_cast_seen, kept_binary_seen, kept_cond_seen, kept_assign_seen, kept_comma_seen, kept_specs_seen, kept_typedef_seen, kept_record_use_seen, kept_record_begins, kept_record_ends, kept_enum_use_seen, kept_enum_begins, kept_enum_ends, kept_enumerator_seen, kept_derives_seen, kept_member_seen, kept_array_seen, kept_identifiers_seen, kept_param_seen, kept_value_given, kept_text_given, kept_whole_given, kept_whole_text, kept_list_begins, kept_list_given, kept_element_seen, kept_member_designated, kept_call_seen, kept_sizeof_seen, kept_literal_begins, kept_literal_ends, Keeps}
+use Rattle.cx_typed_units.proofs.RestNodes.{at_chain, kept_chain, kept_here, kept_given, kept_either, kept_name_seen, kept_number_seen, kept_letter_seen, kept_text_seen, kept_index_seen, kept_dot_seen, kept_arrow_seen, kept_step_seen, kept_unary_seen, kept_sizeof_type_seen, kept_cast_seen, kept_binary_seen, kept_cond_seen, kept_assign_seen, kept_comma_seen, kept_specs_seen, kept_typedef_seen, kept_record_use_seen, kept_record_begins, kept_record_ends, kept_enum_use_seen, kept_enum_begins, kept_enum_ends, kept_enumerator_seen, kept_derives_seen, kept_member_seen, kept_array_seen, kept_identifiers_seen, kept_param_seen, kept_value_given, kept_text_given, kept_whole_given, kept_whole_text, kept_list_begins, kept_list_given, kept_element_seen, kept_member_designated, kept_call_seen, sizeof_at, kept_literal_begins, kept_literal_ends, Keeps}
 use Rattle.cx_typed_units.specs.Rest.{CRest}
 use Rattle.std.proofs.Common.{ap}
 use Rattle.std.specs.Prelude.{Bool, List, None, Option, Some, [], false, length, not, pos, true, ℕ, ℤ, ◌&&◌, ◌++◌, ◌+ℤ◌, ◌∷◌}
@@ -27,7 +27,7 @@ expr_walk_12 of list lines h1 h2 = kept_chain _ _ _ _ h1 (λ type. kept_chain _ 
     kept_chain _ _ _ _ (h2 (object_of_type (not before.in_function) type) []) (λ stored. kept_literal_ends before (own_line lines) type stored)))
 
 expr_walk_16 : (on : ExprTree) (lines : List ℕ) (h1 : Keeps COperand (s_expr_walk on)) → Keeps COperand (s_expr_walk (SizeofExpr on lines))
-expr_walk_16 on lines h1 = kept_here _ _ (λ before. at_chain _ _ _ _ before (h1 before) (λ one. kept_sizeof_seen (own_line lines) before one))
+expr_walk_16 on lines h1 = kept_here _ _ (λ before. sizeof_at (own_line lines) (s_expr_walk on) before (h1 before))
 
 expr_walk_1 : (name : List ℕ) (lines : List ℕ) → Keeps COperand (s_expr_walk (Name name lines))
 expr_walk_1 name lines = (kept_name_seen name (own_line lines))
@@ -175,6 +175,7 @@ params_kept shape params variadic is_only h2 scope = record {
   kept = record {
     rest_is = ap {A = CRest} (λ rest. record rest { begins = scope.begins }) (h2 is_only (entered scope)).kept.rest_is;
     more = (h2 is_only (entered scope)).kept.more;
+    defined = (h2 is_only (entered scope)).kept.defined;
   };
 }
 

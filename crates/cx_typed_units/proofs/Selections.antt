@@ -63,7 +63,7 @@ module _ (opens : List ℕ) (where_is : CWhere) (condition : ExprTree) (branch :
       let here = backs_first opens body.home (entered scope) middle last backs behind_leads in
       let behind = backs_second opens body.home (entered scope) middle last backs tested.leads in
       let held = all_on body.home (entered scope) middle tested.none known in (
-        condition_is opens condition (entered scope) middle test tested last behind_leads (none_on middle later last first.none second.none) body.home (serves_of body.home opens (entered scope) middle here known inside)
+        condition_is opens condition (entered scope) middle test tested last behind_leads (none_on middle later last first.none second.none) body.home (serves_of body.home opens (entered scope) middle here tested.defined known inside)
             backs.grows unbroken,
         first.typed body stands (backs_first opens body.home middle later last behind second.leads) held,
         second.typed body stands (backs_second opens body.home middle later last behind first.leads) (all_on body.home middle later first.none held),
@@ -117,7 +117,7 @@ module _ (opens : List ℕ) (where_is : CWhere) (condition : ExprTree) (inner : 
       → AreIn body.home.scope (literals_since scope middle) → IsTypedStmtForm body [] (literals_since scope middle) (while (value_of test) one)
   while_form body stands backs known inside = (
     condition_is opens condition (entered scope) middle test tested last first.leads first.none body.home
-        (serves_of body.home opens (entered scope) middle (backs_first opens body.home (entered scope) middle last backs first.leads) known inside) backs.grows unbroken,
+        (serves_of body.home opens (entered scope) middle (backs_first opens body.home (entered scope) middle last backs first.leads) tested.defined known inside) backs.grows unbroken,
     first.typed (within_loop body) (stands_loop where_is body stands) (backs_second opens body.home (entered scope) middle last backs tested.leads) (all_on body.home (entered scope) middle tested.none known),
   )
 
@@ -148,7 +148,7 @@ module _ (opens : List ℕ) (where_is : CWhere) (inner : StmtTree) (condition : 
   do_form body stands backs known inside = (
     first.typed (within_loop body) (stands_loop where_is body stands) (backs_first opens body.home (entered scope) middle last backs tested.leads) known,
     condition_is opens condition middle last test tested last (leads_itself opens last) (λ name meant thing is. is) body.home
-        (serves_of body.home opens middle last (backs_second opens body.home (entered scope) middle last backs first.leads) (all_on body.home (entered scope) middle first.none known) inside)
+        (serves_of body.home opens middle last (backs_second opens body.home (entered scope) middle last backs first.leads) tested.defined (all_on body.home (entered scope) middle first.none known) inside)
         backs.grows unbroken,
   )
 

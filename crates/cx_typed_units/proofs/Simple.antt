@@ -162,7 +162,7 @@ module _ (opens : List ℕ) (where_is : CWhere) (value : ExprTree) (lines : List
     typed = λ body stands backs known inside. (
       tt,
       held.typed (home_in [] body.home)
-          (serves_of (home_in [] body.home) opens scope after (backs_in opens body.home [] scope after backs) (all_inside body.home [] scope.declared known) inside),
+          (serves_of (home_in [] body.home) opens scope after (backs_in opens body.home [] scope after backs) held.defined (all_inside body.home [] scope.declared known) inside),
     );
   }
 
@@ -261,7 +261,7 @@ module _ (opens : List ℕ) (where_is : CWhere) (tree : ExprTree) (lines : List 
       tt,
       subst (λ result. IsReturn (home_in [] body.home) result (Some (fitted after.types where_is.result (value_of value)))) (sym stands.result_is)
           (returns_in (home_in [] body.home)
-          (serves_of (home_in [] body.home) opens scope after (backs_in opens body.home [] scope after backs) (all_inside body.home [] scope.declared known) inside)),
+          (serves_of (home_in [] body.home) opens scope after (backs_in opens body.home [] scope after backs) held.defined (all_inside body.home [] scope.declared known) inside)),
     );
   }
 

@@ -17,8 +17,9 @@ use Rattle.cx_typed.specs.Operands.{IsKnownType}
 use Rattle.cx_typed.specs.Walked.{IsGood}
 use Rattle.cx_typed_units.proofs.Around.{known_thing}
 use Rattle.cx_typed_units.proofs.Named.{kept_in_front, IsFoundBehind, before, behind, found_behind, found_last, same_thing, set_thing, found_set, found_before, has_name}
-use Rattle.cx_typed_units.proofs.Stretches.{kept_is, same_itself, thing_on}
-use Rattle.cx_typed_units.specs.Stretches.{Fills, IsSameThing, IsKept, IsThing, IsThingOf, IsKnownThing, IsOrderly, Leads}
+use Rattle.cx_typed_units.proofs.Stretches.{Steps, kept_is, same_itself, thing_on}
+use Rattle.cx_typed_units.specs.Fills.{Fills}
+use Rattle.cx_typed_units.specs.Stretches.{IsSameThing, IsKept, IsThing, IsThingOf, IsKnownThing, IsOrderly}
 
 -- ---- a name that is declared
 
@@ -71,7 +72,7 @@ module _ (opens : List ℕ) (scope : CScope) (name : List ℕ) (meant : CMeant) 
       (made.0, subst (λ n. IsThingOf opens scope n number type linkage true) same_name made.1)
   new_function other number type linkage false e orderly held is = orderly.functions other number type linkage is
 
-  pub declared_leads : IsLinkedName opens scope name meant → Leads opens scope declared
+  pub declared_leads : IsLinkedName opens scope name meant → Steps opens scope declared
   declared_leads held = record {
     declares = record {
       unit_is = refl;
@@ -83,6 +84,7 @@ module _ (opens : List ℕ) (scope : CScope) (name : List ℕ) (meant : CMeant) 
     };
     begins_is = refl;
     in_function_is = refl;
+    functions_are = refl;
     objects_more = omega arith;
     statics = λ number is. is;
     objects = λ number one nothing is. is;
@@ -98,7 +100,7 @@ module _ (opens : List ℕ) (scope : CScope) (name : List ℕ) (meant : CMeant) 
 -- ---- mentions and numbers of functions
 
 module _ (opens : List ℕ) (scope : CScope) where
-  pub mention_leads : (one : CMention) → Leads opens scope (with_mention one scope)
+  pub mention_leads : (one : CMention) → Steps opens scope (with_mention one scope)
   mention_leads one = record {
     declares = record {
       unit_is = refl;
@@ -110,6 +112,7 @@ module _ (opens : List ℕ) (scope : CScope) where
     };
     begins_is = refl;
     in_function_is = refl;
+    functions_are = refl;
     objects_more = omega arith;
     statics = λ number is. is;
     objects = λ number one nothing is. is;
@@ -122,7 +125,7 @@ module _ (opens : List ℕ) (scope : CScope) where
     };
   }
 
-  pub number_leads : Leads opens scope (with_function_number scope)
+  pub number_leads : Steps opens scope (with_function_number scope)
   number_leads = record {
     declares = record {
       unit_is = refl;
@@ -134,6 +137,7 @@ module _ (opens : List ℕ) (scope : CScope) where
     };
     begins_is = refl;
     in_function_is = refl;
+    functions_are = refl;
     objects_more = omega arith;
     statics = λ number is. is;
     objects = λ number one nothing is. is;
@@ -192,7 +196,7 @@ module _ (opens : List ℕ) (scope : CScope) (new : CObject) (next : new.object 
   own_object one object index below own (inr is) same =
       absurd (let h : object.object ≡ scope.next_object = ap (λ (x : CObject). x.object) (sym is) ∙ next in omega (arith, h, same, below))
 
-  pub next_leads : Leads opens scope (with_next_object new scope)
+  pub next_leads : Steps opens scope (with_next_object new scope)
   next_leads = record {
     declares = record {
       unit_is = refl;
@@ -204,6 +208,7 @@ module _ (opens : List ℕ) (scope : CScope) (new : CObject) (next : new.object 
     };
     begins_is = refl;
     in_function_is = refl;
+    functions_are = refl;
     objects_more = let h : length (scope.objects ++ new ∷ []) ≡ length scope.objects + 1 = length-append scope.objects (new ∷ []) in omega (arith, h);
     objects = λ number one nothing is. kept_before scope.objects (new ∷ []) number one is;
     statics = λ number is. more_static scope.literals number scope.objects (new ∷ []) is;
@@ -302,7 +307,7 @@ module _ (opens : List ℕ) (scope : CScope) (number : ℕ) (change : CObject �
       subst (λ l. is_linked l ≡ true) (sym before.3) (was.own is_object index before.0 before.1 (sym before.2 ∙ same))
 
   pub changed_leads : (linked : (index : ℕ) (object : CObject) → slice_get scope.objects index ≡ Some object → object.object ≡ number → is_linked object.linkage ≡ true)
-      → Leads opens scope (with_object_at number change scope)
+      → Steps opens scope (with_object_at number change scope)
   changed_leads linked = record {
     declares = record {
       unit_is = refl;
@@ -314,6 +319,7 @@ module _ (opens : List ℕ) (scope : CScope) (number : ℕ) (change : CObject �
     };
     begins_is = refl;
     in_function_is = refl;
+    functions_are = refl;
     objects_more = let h : length (map change_one scope.objects) ≡ length scope.objects = length_mapped change_one scope.objects in omega (arith, h);
     statics = λ index is. changed_static scope.literals index scope.objects is;
     objects = λ index one nothing is.

@@ -2,12 +2,13 @@
 use Rattle.std.proofs.Common.{◌≡◌, ℕ, ◌≤◌, ◌<◌, Bool, true, false, List, [], ◌∷◌, ◌++◌, length, Option, None, Some, slice_get, refl, sym, ap, ◌∙◌, subst, arith}
 use Rattle.std.specs.Prelude.{IsSome, IfSome}
 use Rattle.cx_core.specs.declared.program.Linkage.{Linkage}
+use Rattle.cx_core.specs.declared.program.Linkage.TheVariants.{Nothing}
 use Rattle.cx_core.specs.Compatible.{AreCompatible}
 use Rattle.cx_core.specs.Trees.{CTy, CTypes, CObject, CProgram}
 use Rattle.cx_core.specs.Typing.{CHome, CCallee, object_with, callee_with}
 use Rattle.cx_rules.specs.Declare.{thing_named}
 use Rattle.cx_rules.specs.Pieces.{is_static_object}
-use Rattle.cx_rules.specs.Scope.{CMeant, CDeclared, CThing, CScope, ordinary}
+use Rattle.cx_rules.specs.Scope.{CMeant, CDeclared, CThing, CScope, new_scope, ordinary}
 use Rattle.cx_typed.proofs.Numbered.{statics_stay}
 use Rattle.cx_typed.proofs.Scopes.{longer, grows_not, grows_on}
 use Rattle.cx_typed.proofs.Walked.{known_stays}
@@ -16,7 +17,9 @@ use Rattle.cx_typed.specs.Operands.{IsKnownType}
 use Rattle.cx_typed.specs.Scopes.{Passes, CRest as TypedRest}
 use Rattle.cx_typed_units.proofs.RestNodes.{StaysTo}
 use Rattle.cx_typed_units.specs.Rest.{CRest}
-use Rattle.cx_typed_units.specs.Stretches.{Fills, IsSameThing, IsKept, IsThing, IsThingOf, IsKnownThing, IsOrderly, Continues, Leads, DeclaresNone, IsLinkedObject, IsLinkedFunction, IsLinkedBy, Backs}
+use Rattle.cx_typed_units.specs.Account.{account_of, IsAccounted}
+use Rattle.cx_typed_units.specs.Fills.{Fills}
+use Rattle.cx_typed_units.specs.Stretches.{IsSameThing, IsKept, IsThing, IsThingOf, IsKnownThing, IsOrderly, Continues, Leads, DeclaresNone, IsLinkedObject, IsLinkedFunction, IsLinkedBy, Backs, HoldsAll, AreTypedUpTo}
 
 -- what an expression leaves as it is, as expressions say it
 abbrev typed_rest : CRest → TypedRest
@@ -42,6 +45,18 @@ abbrev pub home_in : List ℕ → CHome → CHome
 home_in objects home = record home { scope = objects ++ home.scope }
 
 -- ---- what is declared
+
+-- what a step of a declaration does to a scope: as `Leads`, but for what the unit keeps account of, which is right again behind the declaration
+pub record Steps (opens : List ℕ) (before after : CScope) : Type 0 where
+  pub declares : Continues opens before after
+  pub begins_is : after.begins ≡ before.begins
+  pub in_function_is : after.in_function ≡ before.in_function
+  pub objects_more : length before.objects ≤ length after.objects
+  pub objects : (number : ℕ) (one : CObject) → one.linkage ≡ Nothing → slice_get before.objects number ≡ Some one → slice_get after.objects number ≡ Some one
+  pub things : (name : List ℕ) (one : CThing) → thing_named name before.things ≡ Some one → IsKept opens after.types one (thing_named name after.things)
+  pub orderly : IsOrderly opens before → IsOrderly opens after
+  pub functions_are : after.functions ≡ before.functions
+  pub statics : (number : ℕ) → is_static_object before number ≡ true → is_static_object after number ≡ true
 
 module _ (opens : List ℕ) where
   pub declares_itself : (scope : CScope) → Continues opens scope scope
@@ -84,7 +99,7 @@ module _ (opens : List ℕ) where
   found_kept types one (Some other) held = (other, refl, held.1)
 
   pub same_itself : (types : CTypes) (one : CThing) → IsSameThing opens types one one
-  same_itself types one = record { number_is = refl; linkage_is = refl; function_is = refl; fills = λ now grows counts other held. held }
+  same_itself types one = record { number_is = refl; linkage_is = refl; function_is = refl; fills = λ now grows counts other held. held; defined = λ is. is }
 
   same_on : (middle after : CTypes) (one two three : CThing) → Grows opens middle after → IsSameThing opens middle one two → IsSameThing opens after two three → IsSameThing opens after one three
   same_on middle after one two three growth first second = record {
@@ -92,15 +107,17 @@ module _ (opens : List ℕ) where
     linkage_is = second.linkage_is ∙ first.linkage_is;
     function_is = second.function_is ∙ first.function_is;
     fills = λ now grows counts other held. first.fills now (grows_on opens middle after now growth grows) counts other (second.fills now grows counts other held);
+    defined = λ is. second.defined (first.defined is);
   }
 
   -- ---- stretches
 
-  pub leads_itself : (scope : CScope) → Leads opens scope scope
-  leads_itself scope = record {
+  pub steps_itself : (scope : CScope) → Steps opens scope scope
+  steps_itself scope = record {
     declares = declares_itself scope;
     begins_is = refl;
     in_function_is = refl;
+    functions_are = refl;
     objects_more = omega arith;
     objects = λ number one nothing is. is;
     things = λ name one is. kept_is scope.types one one (thing_named name scope.things) is (same_itself scope.types one);
@@ -108,24 +125,62 @@ module _ (opens : List ℕ) where
     statics = λ number is. is;
   }
 
-  things_on : (before middle after : CScope) → Leads opens before middle → Leads opens middle after → (name : List ℕ) (one : CThing) → thing_named name before.things ≡ Some one
+  things_on : (before middle after : CScope) → Steps opens before middle → Steps opens middle after → (name : List ℕ) (one : CThing) → thing_named name before.things ≡ Some one
       → IsKept opens after.types one (thing_named name after.things)
   things_on before middle after first second name one is =
       let here = found_kept middle.types one (thing_named name middle.things) (first.things name one is) in
       let there = found_kept after.types here.0 (thing_named name after.things) (second.things name here.0 here.1) in
       kept_is after.types one there.0 (thing_named name after.things) there.1 (same_on middle.types after.types one here.0 there.0 second.declares.grows here.2 there.2)
 
-  pub leads_on : (before middle after : CScope) → Leads opens before middle → Leads opens middle after → Leads opens before after
-  leads_on before middle after first second = record {
+  pub steps_on : (before middle after : CScope) → Steps opens before middle → Steps opens middle after → Steps opens before after
+  steps_on before middle after first second = record {
     declares = declares_on before middle after first.declares second.declares;
     begins_is = second.begins_is ∙ first.begins_is;
     in_function_is = second.in_function_is ∙ first.in_function_is;
+    functions_are = second.functions_are ∙ first.functions_are;
     objects_more = omega (arith, first.objects_more, second.objects_more);
     objects = λ number one nothing is. second.objects number one nothing (first.objects number one nothing is);
     things = things_on before middle after first second;
     orderly = λ held. second.orderly (first.orderly held);
     statics = λ number is. second.statics number (first.statics number is);
   }
+
+  pub steps_of : (before after : CScope) → Leads opens before after → Steps opens before after
+  steps_of before after leads = record {
+    declares = leads.declares;
+    begins_is = leads.begins_is;
+    in_function_is = leads.in_function_is;
+    functions_are = leads.functions_are;
+    objects_more = leads.objects_more;
+    objects = leads.objects;
+    things = leads.things;
+    orderly = leads.orderly;
+    statics = leads.statics;
+  }
+
+  pub leads_by : (before after : CScope) → Steps opens before after
+      → ((pending : Option (List ℕ)) → IsAccounted opens pending (account_of before) → IsAccounted opens pending (account_of after)) → (AreTypedUpTo opens before → AreTypedUpTo opens after)
+      → Leads opens before after
+  leads_by before after steps keeps typed = record {
+    declares = steps.declares;
+    begins_is = steps.begins_is;
+    in_function_is = steps.in_function_is;
+    functions_are = steps.functions_are;
+    objects_more = steps.objects_more;
+    objects = steps.objects;
+    things = steps.things;
+    orderly = steps.orderly;
+    statics = steps.statics;
+    keeps = keeps;
+    typed = typed;
+  }
+
+  pub leads_itself : (scope : CScope) → Leads opens scope scope
+  leads_itself scope = leads_by scope scope (steps_itself scope) (λ pending held. held) (λ held. held)
+
+  pub leads_on : (before middle after : CScope) → Leads opens before middle → Leads opens middle after → Leads opens before after
+  leads_on before middle after first second =
+      leads_by before after (steps_on before middle after (steps_of before middle first) (steps_of middle after second)) (λ pending held. second.keeps pending (first.keeps pending held)) (λ held. second.typed (first.typed held))
 
   -- ---- names with linkage in a later scope
 
@@ -192,11 +247,12 @@ module _ (opens : List ℕ) where
     rest_statics : (number : ℕ) → is_static_object before number ≡ true → is_static_object after number ≡ true
     rest_statics = statics_stay before after declares.literals (ap {A = CRest} {B = TypedRest} typed_rest stays.rest_is)
 
-    pub rest_leads : Leads opens before after
-    rest_leads = record {
+    pub rest_steps : Steps opens before after
+    rest_steps = record {
       declares = declares;
       begins_is = ap {A = CRest} (λ one. one.begins) stays.rest_is;
       in_function_is = ap {A = CRest} (λ one. one.in_function) stays.rest_is;
+      functions_are = ap {A = CRest} (λ one. one.functions) stays.rest_is;
       objects_more = subst (λ (one : CRest). length before.objects ≤ length one.objects) (sym stays.rest_is) (omega arith);
       objects = λ number one nothing is. subst (λ (other : CRest). slice_get other.objects number ≡ Some one) (sym stays.rest_is) is;
       things = rest_things;
@@ -235,8 +291,8 @@ module _ (opens : List ℕ) where
     linked_back : IsLinkedBy other.is_function program opens name other → IsLinkedBy one.is_function program opens name one
     linked_back held = subst (λ is_function. IsLinkedBy is_function program opens name one) same.function_is (linked_by other.is_function held)
 
-  pub backs_first : (home : CHome) (before middle after : CScope) → Backs home opens before after → Leads opens middle after → Backs home opens before middle
-  backs_first home before middle after backs second = record {
+  pub backs_earlier : (home : CHome) (before middle after : CScope) → Backs home opens before after → Steps opens middle after → Backs home opens before middle
+  backs_earlier home before middle after backs second = record {
     unit_is = backs.unit_is;
     grows = grows_on opens middle.types after.types home.program.types second.declares.grows backs.grows;
     told = backs.told;
@@ -249,6 +305,9 @@ module _ (opens : List ℕ) where
         linked_back after.types home.program backs.grows name one there.0 there.2 (backs.things name there.0 there.1);
     statics = λ number is. backs.statics number (second.statics number is);
   }
+
+  pub backs_first : (home : CHome) (before middle after : CScope) → Backs home opens before after → Leads opens middle after → Backs home opens before middle
+  backs_first home before middle after backs second = backs_earlier home before middle after backs (steps_of middle after second)
 
   pub backs_second : (home : CHome) (before middle after : CScope) → Backs home opens before after → Leads opens before middle → Backs home opens middle after
   backs_second home before middle after backs first =
@@ -279,3 +338,38 @@ module _ (opens : List ℕ) where
     things = backs.things;
     statics = backs.statics;
   }
+
+  -- ---- a program that has all of a unit up to a place
+
+  pub backs_from : (home : CHome) (before after : CScope) → HoldsAll home opens after → Steps opens before after → Backs home opens before after
+  backs_from home before after all steps = record {
+    unit_is = all.backs.unit_is ∙ steps.declares.unit_is;
+    grows = all.backs.grows;
+    told = all.backs.told;
+    told_is = all.backs.told_is;
+    mentions = λ number one from is. all.backs.mentions number one (omega arith) is;
+    literals = λ number one from is. all.backs.literals number one (omega arith) is;
+    objects = λ number one nothing from is. all.backs.objects number one nothing (omega arith) is;
+    things = all.backs.things;
+    statics = all.backs.statics;
+  }
+
+  -- has all up to each place before it
+  pub holds_earlier : (home : CHome) (before after : CScope) → HoldsAll home opens after → Steps opens before after → HoldsAll home opens before
+  holds_earlier home before after all steps =
+      let backs = backs_earlier home (new_scope after.unit) before after all.backs steps in
+      record {
+        backs = record {
+          unit_is = backs.unit_is ∙ steps.declares.unit_is;
+          grows = backs.grows;
+          told = backs.told;
+          told_is = backs.told_is;
+          mentions = backs.mentions;
+          literals = backs.literals;
+          objects = backs.objects;
+          things = backs.things;
+          statics = backs.statics;
+        };
+        objects_inside = λ index one is nothing. all.objects_inside index one (steps.objects index one nothing is) nothing;
+        literals_inside = λ index one is. all.literals_inside index one (steps.declares.literals index one is);
+      }

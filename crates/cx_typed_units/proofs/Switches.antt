@@ -126,7 +126,7 @@ module _ (opens : List ℕ) (where_is : CWhere) (on : ExprTree) (inner : StmtTre
   module _ (body : CBody) (stands : StandsIn where_is body) (backs : Backs body.home opens (entered scope) last) (known : IsHeldAt body.home scope.declared)
       (inside : AreIn body.home.scope (literals_since scope middle)) where
     serves : Serves body.home opens (entered scope) middle
-    serves = serves_of body.home opens (entered scope) middle (backs_first opens body.home (entered scope) middle last backs first_leads) known inside
+    serves = serves_of body.home opens (entered scope) middle (backs_first opens body.home (entered scope) middle last backs first_leads) tested.defined known inside
 
     made : IsConverted body.home (promoted_type last.types test) (promoted_value last.types test) × IsPromoted (promoted_type last.types test)
     made =

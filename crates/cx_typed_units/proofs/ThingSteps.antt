@@ -9,8 +9,8 @@ use Rattle.cx_typed.proofs.Scopes.{grows_not}
 use Rattle.cx_typed.specs.Operands.{IsKnownType}
 use Rattle.cx_typed_units.proofs.Around.{known_thing}
 use Rattle.cx_typed_units.proofs.Named.{kept_in_front, IsFoundBehind, before, behind, found_behind, same_thing, set_thing, found_set, found_before, has_name}
-use Rattle.cx_typed_units.proofs.Stretches.{kept_is, same_itself, thing_on}
-use Rattle.cx_typed_units.specs.Stretches.{IsSameThing, IsKept, IsKnownThing, IsOrderly, Leads}
+use Rattle.cx_typed_units.proofs.Stretches.{Steps, kept_is, same_itself, thing_on}
+use Rattle.cx_typed_units.specs.Stretches.{IsSameThing, IsKept, IsKnownThing, IsOrderly}
 
 -- ---- for the first time
 
@@ -25,7 +25,7 @@ module _ (opens : List ℕ) (scope : CScope) (new : CThing) (known : IsKnownThin
   known_by name one orderly (before is) = orderly.things name one is
   known_by name one orderly (behind none is named) = subst (IsKnownThing opens scope) is known
 
-  pub new_thing_leads : Leads opens scope (with_new_thing new scope)
+  pub new_thing_leads : Steps opens scope (with_new_thing new scope)
   new_thing_leads = record {
     declares = record {
       unit_is = refl;
@@ -37,6 +37,7 @@ module _ (opens : List ℕ) (scope : CScope) (new : CThing) (known : IsKnownThin
     };
     begins_is = refl;
     in_function_is = refl;
+    functions_are = refl;
     objects_more = omega arith;
     statics = λ number is. is;
     objects = λ number one nothing is. is;
@@ -93,7 +94,7 @@ module _ (opens : List ℕ) (scope : CScope) (name : List ℕ) (old new : CThing
   known_set was one true orderly held is = subst (IsKnownThing opens scope) is (old_known orderly)
   known_set was one false orderly held is = subst (IsKnownThing opens scope) is held
 
-  pub set_thing_leads : Leads opens scope (with_set_thing name new scope)
+  pub set_thing_leads : Steps opens scope (with_set_thing name new scope)
   set_thing_leads = record {
     declares = record {
       unit_is = refl;
@@ -105,6 +106,7 @@ module _ (opens : List ℕ) (scope : CScope) (name : List ℕ) (old new : CThing
     };
     begins_is = refl;
     in_function_is = refl;
+    functions_are = refl;
     objects_more = omega arith;
     statics = λ number is. is;
     objects = λ number one nothing is. is;

@@ -1,5 +1,5 @@
 -- The walk over declarators without initialisers in blocks (ISO C99, 6.7).
-use Rattle.std.proofs.Common.{◌≡◌, ℕ, ◌≤◌, Bool, true, false, not, ◌&&◌, ◌||◌, if◌then◌else◌, List, [], ◌∷◌, ◌++◌, length, Option, None, Some, is_some, slice_get, refl, sym, ap, ◌∙◌, subst, arith}
+use Rattle.std.proofs.Common.{◌≡◌, ℕ, nat_lt, ◌≤◌, Bool, true, false, not, ◌&&◌, ◌||◌, if◌then◌else◌, List, [], ◌∷◌, ◌++◌, length, Option, None, Some, is_some, slice_get, refl, sym, ap, ◌∙◌, subst, arith}
 use Rattle.std.specs.Prelude.{IsSome, IfSome}
 use Rattle.std.specs.List.{Contains}
 use Rattle.cr_base.specs.declared.refusal.Place.{Place as TextPlace}
@@ -13,17 +13,18 @@ use Rattle.cx_core.specs.ValidTypes.{IsComplete}
 use Rattle.cx_lex.specs.declared.token.Keyword.TheVariants as keyword
 use Rattle.cx_rules.proofs.UnitNodesAgree.{s_init_walk, s_declared_ends, s_named_walk}
 use Rattle.cx_rules.specs.declared.kinds.SpecsPlace.{SpecsPlace}
-use Rattle.cx_rules.specs.Declare.{is_linked, is_typedef, linkage_of, thing_named, CBegun, CDeclaring, declaring, begun_as, with_declaration}
+use Rattle.cx_rules.specs.Declare.{is_linked, is_outside, is_typedef, linkage_of, thing_named, CBegun, CDeclaring, declaring, begun_as, with_declaration}
 use Rattle.cx_rules.specs.Initial.{CStored}
 use Rattle.cx_rules.specs.Nodes.{CNode, declares_node}
 use Rattle.cx_rules.specs.Pieces.{at_line}
 use Rattle.cx_rules.specs.Rules.{lacks_size, is_unlinked}
-use Rattle.cx_rules.specs.Scope.{CMeant, an_object, a_function, a_type_name, CScope, ordinary}
+use Rattle.cx_rules.specs.Scope.{CMeant, an_object, a_function, a_type_name, CThing, CScope, ordinary}
 use Rattle.cx_rules.specs.Shapes.{CSpecs, CShape, has_storage}
 use Rattle.cx_rules.specs.Types.{is_function, is_void, is_incomplete, is_too_large, has_size, too_large}
 use Rattle.cx_rules.specs.UnitWalk.{CMeant as CMeaning, nothing_meant, name_or_none, literals_since, declared_meant, clashes_behind}
 use Rattle.cx_rules.specs.Readings.{seen_chain}
 use Rattle.cx_typed.proofs.Derived.{small_whole, fits_by, sized_by}
+use Rattle.cx_typed.proofs.Growing.{complete_stays}
 use Rattle.cx_typed.proofs.Goes.{go_gives, go_becomes, go_here_then, go_chain, go_changed}
 use Rattle.cx_typed.proofs.Scopes.{pushed_at}
 use Rattle.cx_typed.specs.Operands.{IsKnownType}
@@ -31,11 +32,16 @@ use Rattle.cx_typed.specs.Scopes.{IsHeld, IsHeldObject}
 use Rattle.cx_typed.specs.Unbroken.{IsUnbroken}
 use Rattle.cx_typed.specs.Walked.{IsGood, Ends}
 use Rattle.cx_typed_units.proofs.Begun.{IsBegunAs, function_form}
+use Rattle.cx_typed_units.proofs.DeclarationAccounts.{IsAccountable, found_goes, plain_accounted}
 use Rattle.cx_typed_units.proofs.Declared.{object_held, function_held, one_more_held, only_literals, plain_declared, begun_declared}
-use Rattle.cx_typed_units.proofs.Entities.{new_object, linked_number}
+use Rattle.cx_typed_units.proofs.Entities.{new_object, linked_number, agree_function}
+use Rattle.cx_typed_units.proofs.FilledObjects.{declared_filled}
 use Rattle.cx_typed_units.proofs.Fine.{meant_by, static_puts, entity_by, declared_by, declaration_is, told_by, IsFine, no_linkage, begun_is, unclashed, fine_is}
+use Rattle.cx_typed_units.proofs.FirstInternal.{first_internal}
+use Rattle.cx_typed_units.proofs.Stretches.{leads_by, backs_from, holds_earlier}
+use Rattle.cx_typed_units.specs.Account.{account_of, IsAccounted}
 use Rattle.cx_typed_units.specs.Statements.{IsDeclaration}
-use Rattle.cx_typed_units.specs.Stretches.{IsOrderly, Leads, Backs, IsHeldAt}
+use Rattle.cx_typed_units.specs.Stretches.{IsOrderly, Leads, Backs, IsHeldAt, HoldsAll, AreTypedUpTo}
 
 -- ---- sizes (6.7p7)
 
@@ -69,6 +75,14 @@ own_objects : (one : CDeclaring) (scope : CScope) (told : Bool) → (declared_by
 own_objects one scope true = refl
 own_objects one scope false = refl
 
+pub own_all : (one : CDeclaring) (scope : CScope) → is_typedef one.specs ≡ false → is_function one.type ≡ false → is_linked one.linkage ≡ false
+    → (with_declaration one scope).objects ≡ scope.objects ++ own_object one scope ∷ []
+own_all one scope t f l =
+    ap (λ (after : CScope). after.objects) (declaration_is one scope)
+    ∙ (ap (λ typedef. (declared_by typedef (is_function one.type) (is_linked one.linkage) (told_by one) one scope).objects) t
+    ∙ (ap (λ is_fun. (declared_by false is_fun (is_linked one.linkage) (told_by one) one scope).objects) f
+    ∙ (ap (λ linked. (declared_by false false linked (told_by one) one scope).objects) l ∙ own_objects one scope (told_by one))))
+
 pub own_found : (one : CDeclaring) (scope : CScope) → is_typedef one.specs ≡ false → is_function one.type ≡ false → is_linked one.linkage ≡ false
     → slice_get (with_declaration one scope).objects (length scope.objects) ≡ Some (own_object one scope)
 own_found one scope t f l =
@@ -94,14 +108,14 @@ static_there home type scope one s = subst (λ b. IsThereHere home type (own_obj
 own_there : (home : CHome) (type : CTy) (scope : CScope) (one : CDeclaring) → has_storage keyword.Static one.specs ≡ false → Contains home.scope scope.next_object → IsThere home type (own_object one scope)
 own_there home type scope one s contains = subst (λ b. IsThereHere home type (own_object one scope) Nothing (static_puts b)) (sym s) contains
 
-module _ (opens : List ℕ) (scope : CScope) (good : IsGood opens scope) (orderly : IsOrderly opens scope) (inside : scope.in_function ≡ true) (one : CDeclaring) (fine : IsFine opens scope one) where
+module _ (opens : List ℕ) (scope : CScope) (good : IsGood opens scope) (orderly : IsOrderly opens scope) (one : CDeclaring) (fine : IsFine opens scope one) where
   abbrev after : CScope
   after = with_declaration one scope
 
-  made : IsBegunAs opens scope one.name (meant_by (is_typedef one.specs) (is_function one.type) (is_linked one.linkage) one scope) after
+  pub made : IsBegunAs opens scope one.name (meant_by (is_typedef one.specs) (is_function one.type) (is_linked one.linkage) one scope) after
   made = begun_is opens scope good orderly one fine
 
-  made_as : (typedef is_fun linked : Bool) → is_typedef one.specs ≡ typedef → is_function one.type ≡ is_fun → is_linked one.linkage ≡ linked
+  pub made_as : (typedef is_fun linked : Bool) → is_typedef one.specs ≡ typedef → is_function one.type ≡ is_fun → is_linked one.linkage ≡ linked
       → IsBegunAs opens scope one.name (meant_by typedef is_fun linked one scope) after
   made_as typedef is_fun linked t f l =
       subst (λ b. IsBegunAs opens scope one.name (meant_by b is_fun linked one scope) after) t
@@ -124,7 +138,7 @@ module _ (opens : List ℕ) (scope : CScope) (good : IsGood opens scope) (orderl
         }),
       )
 
-  held_after : (typedef is_fun linked : Bool) → is_typedef one.specs ≡ typedef → is_function one.type ≡ is_fun → is_linked one.linkage ≡ linked → (home : CHome) → Backs home opens scope after
+  pub held_after : (typedef is_fun linked : Bool) → is_typedef one.specs ≡ typedef → is_function one.type ≡ is_fun → is_linked one.linkage ≡ linked → (home : CHome) → Backs home opens scope after
       → (typedef ≡ false → is_fun ≡ false → linked ≡ false → IsThere home one.type (own_object one scope)) → IsHeldAt home scope.declared → IsHeldAt home after.declared
   held_after true is_fun linked t f l home backs there known =
       one_more_held home one.name (a_type_name one.type) scope.declared after.declared (made_as true is_fun linked t f l).declared_is known tt
@@ -139,29 +153,69 @@ module _ (opens : List ℕ) (scope : CScope) (good : IsGood opens scope) (orderl
   held_after false false false t f l home backs there known =
       one_more_held home one.name _ scope.declared after.declared (made_as false false false t f l).declared_is known (own_held t f l home backs (there refl refl refl))
 
-  -- without an object whose life begins
-  plain_either : (at : TextPlace) (has_init begins : Bool) (puts : CPuts) → IsDeclaration opens scope (only_literals scope after) after
-      → IsDeclaration opens scope (with_literals (literals_since scope after) (if begins then begin_at at has_init puts None else nothing_meant)) after
-  plain_either at has_init true puts held = held
-  plain_either at has_init false puts held = held
+  there_by : is_typedef one.specs ≡ false → is_function one.type ≡ false → is_linked one.linkage ≡ false → (static : Bool) → has_storage keyword.Static one.specs ≡ static → (home : CHome) → HoldsAll home opens after
+      → IsThere home one.type (own_object one scope)
+  there_by t f l true s home all = static_there home one.type scope one s
+  there_by t f l false s home all = own_there home one.type scope one s (all.objects_inside (length scope.objects) (own_object one scope) (own_found one scope t f l) refl)
 
-  unfilled_by : (at : TextPlace) (puts : CPuts) (typedef is_fun linked static : Bool) → is_typedef one.specs ≡ typedef → is_function one.type ≡ is_fun → is_linked one.linkage ≡ linked
-      → has_storage keyword.Static one.specs ≡ static → (typedef ≡ false → is_fun ≡ false → linked ≡ false → IsComplete after.types one.type)
-      → IsDeclaration opens scope (meaning_by true linked static typedef is_fun at false puts (if linked then linked_number scope.next_object (thing_named one.name scope.things) else scope.next_object) (literals_since scope after)) after
-  unfilled_by at puts true is_fun linked static t f l s complete =
-      plain_either at false (not (linked || static)) puts (plain_declared opens scope after made.good made.leads made.body_is (λ home backs known. held_after true is_fun linked t f l home backs (λ x. absurd cc) known))
-  unfilled_by at puts false true linked static t f l s complete =
-      plain_either at false (not (linked || static)) puts (plain_declared opens scope after made.good made.leads made.body_is (λ home backs known. held_after false true linked t f l home backs (λ x y. absurd cc) known))
-  unfilled_by at puts false false true static t f l s complete =
-      plain_declared opens scope after made.good made.leads made.body_is (λ home backs known. held_after false false true t f l home backs (λ x y z. absurd cc) known)
-  unfilled_by at puts false false false true t f l s complete =
-      plain_declared opens scope after made.good made.leads made.body_is
-      (λ home backs known. held_after false false false t f l home backs (λ x y z. static_there home one.type scope one s) known)
-  unfilled_by at puts false false false false t f l s complete =
-      begun_declared opens scope after made.good made.leads made.body_is at None (own_object one scope) (length scope.objects) (omega arith) (own_found one scope t f l) refl
-      (ap static_puts s) refl refl (complete refl refl refl)
-      (λ home backs known contains. held_after false false false t f l home backs (λ x y z. own_there home one.type scope one s contains) known)
-      (λ home backs known contains literals. tt)
+  -- a declaration of an object stands beside those of one
+  pub old_objects : is_typedef one.specs ≡ false → is_function one.type ≡ false → is_linked one.linkage ≡ true → (old : CThing) → thing_named one.name scope.things ≡ Some old → old.is_function ≡ false
+  old_objects t f l old there =
+      sym (orderly.things one.name old there).function_is
+      ∙ (sym (agree_function scope.types one.type old.type (found_goes _ (thing_named one.name scope.things) old there (fine.goes l)).agrees) ∙ f)
+
+  module _ (unfilled : one.has_init ≡ false)
+      (sized : is_typedef one.specs ≡ false → is_function one.type ≡ false → is_linked one.linkage ≡ false → IsComplete (with_declaration one scope).types one.type)
+      (internal : one.linkage ≡ Internal → thing_named one.name scope.things ≡ None → (is_outside one.where_stands ≡ true) × (has_storage keyword.Extern one.specs ≡ false)) where
+    able : (pending : Option (List ℕ)) → IsAccountable pending scope one
+    able pending = record {
+      alone = λ is. absurd (let h : false ≡ true = sym unfilled ∙ is in cc);
+      outside = λ is. absurd (let h : false ≡ true = sym unfilled ∙ is in cc);
+      internal = internal;
+    }
+
+    pub made_typed : AreTypedUpTo opens scope → AreTypedUpTo opens after
+    made_typed held home all =
+        let was = held home (holds_earlier opens home scope after all made.leads) in
+        let backs = backs_from opens home scope after all made.leads in
+        record {
+          held = held_after (is_typedef one.specs) (is_function one.type) (is_linked one.linkage) refl refl refl home backs (λ t f l. there_by t f l (has_storage keyword.Static one.specs) refl home all) was.held;
+          literals = λ index x is. was.literals index x (subst (λ literals. slice_get literals index ≡ Some x) made.literals_are is);
+          objects = λ index x is.
+              declared_filled home opens scope orderly one (λ t f l. record {
+                complete = complete_stays opens after.types home.program.types all.backs.grows one.type (sized t f l);
+                typed = (tt, tt);
+                constant = tt;
+              }) was.objects old_objects index x is;
+          functions = λ index x is. was.functions index x (subst (λ functions. slice_get functions index ≡ Some x) made.leads.functions_are is);
+        }
+
+    pub made_leads : Leads opens scope after
+    made_leads = leads_by opens scope after made.leads (λ pending held. plain_accounted opens pending scope orderly one fine held (λ linked. unfilled) (λ t f l. able pending)) made_typed
+
+    -- without an object whose life begins
+    plain_either : (at : TextPlace) (has_init begins : Bool) (puts : CPuts) → IsDeclaration opens scope (only_literals scope after) after
+        → IsDeclaration opens scope (with_literals (literals_since scope after) (if begins then begin_at at has_init puts None else nothing_meant)) after
+    plain_either at has_init true puts held = held
+    plain_either at has_init false puts held = held
+
+    unfilled_by : (at : TextPlace) (puts : CPuts) (typedef is_fun linked static : Bool) → is_typedef one.specs ≡ typedef → is_function one.type ≡ is_fun → is_linked one.linkage ≡ linked
+        → has_storage keyword.Static one.specs ≡ static → (typedef ≡ false → is_fun ≡ false → linked ≡ false → IsComplete after.types one.type)
+        → IsDeclaration opens scope (meaning_by true linked static typedef is_fun at false puts (if linked then linked_number scope.next_object (thing_named one.name scope.things) else scope.next_object) (literals_since scope after)) after
+    unfilled_by at puts true is_fun linked static t f l s complete =
+        plain_either at false (not (linked || static)) puts (plain_declared opens scope after made.good made_leads made.body_is (λ home backs known. held_after true is_fun linked t f l home backs (λ x. absurd cc) known))
+    unfilled_by at puts false true linked static t f l s complete =
+        plain_either at false (not (linked || static)) puts (plain_declared opens scope after made.good made_leads made.body_is (λ home backs known. held_after false true linked t f l home backs (λ x y. absurd cc) known))
+    unfilled_by at puts false false true static t f l s complete =
+        plain_declared opens scope after made.good made_leads made.body_is (λ home backs known. held_after false false true t f l home backs (λ x y z. absurd cc) known)
+    unfilled_by at puts false false false true t f l s complete =
+        plain_declared opens scope after made.good made_leads made.body_is
+        (λ home backs known. held_after false false false t f l home backs (λ x y z. static_there home one.type scope one s) known)
+    unfilled_by at puts false false false false t f l s complete =
+        begun_declared opens scope after made.good made_leads made.body_is at None (own_object one scope) (length scope.objects) (omega arith) (own_found one scope t f l) refl
+        (ap static_puts s) refl refl (complete refl refl refl)
+        (λ home backs known contains. held_after false false false t f l home backs (λ x y z. own_there home one.type scope one s contains) known)
+        (λ home backs known contains literals. tt)
 
 -- ---- the walk
 
@@ -175,13 +229,13 @@ size_said false true unlinked incomplete fine t = absurd cc
 size_said false false true incomplete fine t = record { some = refl; sized = λ is. fine }
 size_said false false false incomplete fine t = record { some = refl; sized = λ is. absurd cc }
 
-unlinked_is : (linkage : Linkage) → is_linked linkage ≡ false → is_unlinked linkage ≡ true
+pub unlinked_is : (linkage : Linkage) → is_linked linkage ≡ false → is_unlinked linkage ≡ true
 unlinked_is External is = absurd cc
 unlinked_is Internal is = absurd cc
 unlinked_is Nothing is = refl
 
 module _ (opens : List ℕ) (place : SpecsPlace) (specs : CSpecs) (line : ℕ) (written : CTy) (name : List ℕ) (scope : CScope) (good : IsGood opens scope) (orderly : IsOrderly opens scope)
-    (inside : scope.in_function ≡ true) (known : IsKnownType opens scope.types scope.unit written) where
+    (inside : scope.in_function ≡ true) (known : IsKnownType opens scope.types scope.unit written) (few : nat_lt 1 (length specs.storage) ≡ false) where
   abbrev one : CDeclaring
   one = declaring scope place specs name line written false
 
@@ -207,12 +261,13 @@ module _ (opens : List ℕ) (place : SpecsPlace) (specs : CSpecs) (line : ℕ) (
       (meaning_by b (is_linked one.linkage) (has_storage keyword.Static specs) (is_typedef specs) (is_function one.type) at false puts
       (if is_linked one.linkage then linked_number scope.next_object (thing_named name scope.things) else scope.next_object) (literals_since scope behind)) behind)
       (sym (begun.leads.in_function_is ∙ inside))
-      (unfilled_by opens scope good orderly inside one fine at puts (is_typedef specs) (is_function one.type) (is_linked one.linkage) (has_storage keyword.Static specs) refl refl refl refl
+      (unfilled_by opens scope good orderly one fine refl
+      (λ typedef no_fun no_link. complete_object behind.types one.type no_fun ((said typedef).sized (unlinked_is one.linkage no_link)) unbroken.m3) (λ internal none. first_internal opens scope orderly name none place specs written few internal) at puts (is_typedef specs) (is_function one.type) (is_linked one.linkage) (has_storage keyword.Static specs) refl refl refl refl
       (λ typedef no_fun no_link. complete_object behind.types one.type no_fun ((said typedef).sized (unlinked_is one.linkage no_link)) unbroken.m3))
 
 pub unfilled_goes : (opens : List ℕ) (place : SpecsPlace) (specs : CSpecs) (line : ℕ) (written : CTy) (shape : CShape) (scope : CScope) → IsGood opens scope → IsOrderly opens scope → scope.in_function ≡ true
-    → IsKnownType opens scope.types scope.unit written → Ends (s_named_walk place specs line written shape None) scope (IsDeclaration opens scope)
-unfilled_goes opens place specs line written shape scope good orderly inside known =
+    → IsKnownType opens scope.types scope.unit written → nat_lt 1 (length specs.storage) ≡ false → Ends (s_named_walk place specs line written shape None) scope (IsDeclaration opens scope)
+unfilled_goes opens place specs line written shape scope good orderly inside known few =
     let name = name_or_none shape.name in
     let one_is = declaring scope place specs (name_or_none shape.name) line written false in
     go_here_then _ _ scope _ (go_chain _ _ _ _ scope (λ begun middle. (begun ≡ begun_as scope one_is written) × (middle ≡ with_declaration one_is scope)) _
@@ -225,4 +280,4 @@ unfilled_goes opens place specs line written shape scope good orderly inside kno
     (go_chain _ _ _ _ (with_declaration one_is scope) (λ stored later. (stored ≡ []) × (later ≡ with_declaration one_is scope)) _ (go_gives [] (with_declaration one_is scope) _ (refl, refl)) (λ stored later same.
     subst (λ found. Ends (s_declared_ends place specs line scope (begun_as scope one_is written) false stored) found (IsDeclaration opens scope)) (sym same.1)
     (go_here_then _ _ (with_declaration one_is scope) _ (go_changed _ (with_declaration one_is scope) _ _ _ _ (with_declaration one_is scope) _ (λ unbroken.
-    ends_so opens place specs line written (name_or_none shape.name) scope good orderly inside known unbroken _ no_puts))))))))
+    ends_so opens place specs line written (name_or_none shape.name) scope good orderly inside known few unbroken _ no_puts))))))))

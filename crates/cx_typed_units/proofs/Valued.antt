@@ -17,8 +17,9 @@ use Rattle.cx_typed.specs.Operands.{IsOperandType}
 use Rattle.cx_typed.specs.Scopes.{Serves, Passes}
 use Rattle.cx_typed.specs.Walked.{IsGood, Ends, IsExpr, ExprGoes}
 use Rattle.cx_typed_units.proofs.RestTrees.{kept_expr_walk}
-use Rattle.cx_typed_units.proofs.Stretches.{passes_declare, rest_leads}
-use Rattle.cx_typed_units.specs.Rest.{CRest}
+use Rattle.cx_typed_units.proofs.Rests.{rest_leads}
+use Rattle.cx_typed_units.proofs.Stretches.{passes_declare}
+use Rattle.cx_typed_units.specs.Rest.{CRest, DefinesNone}
 use Rattle.cx_typed_units.specs.Stretches.{Leads, DeclaresNone}
 
 pub record IsValued (opens : List ℕ) (tree : ExprTree) (before : CScope) (operand : COperand) (after : CScope) : Type 0 where
@@ -26,6 +27,7 @@ pub record IsValued (opens : List ℕ) (tree : ExprTree) (before : CScope) (oper
   pub leads : Leads opens before after
   pub none : DeclaresNone before after
   pub body_is : after.body ≡ before.body
+  pub defined : DefinesNone before.mentions after.mentions
 
 pub valued : (opens : List ℕ) (tree : ExprTree) (scope : CScope) → ExprGoes tree → IsGood opens scope → Ends (seen_expr tree) scope (IsValued opens tree scope)
 valued opens tree scope goes good = record {
@@ -34,9 +36,10 @@ valued opens tree scope goes good = record {
       let stays = (kept_expr_walk tree scope).kept in
       record {
         is_expr = made;
-        leads = rest_leads opens scope (seen_expr tree scope).scope (passes_declare opens scope (seen_expr tree scope).scope made.passes) made.passes.declared stays;
+        leads = rest_leads opens scope (seen_expr tree scope).scope (passes_declare opens scope (seen_expr tree scope).scope made.passes) made.passes.declared stays made.passes.numbers made.made;
         none = made.passes.declared;
         body_is = ap {A = CRest} (λ one. one.body) stays.rest_is;
+        defined = stays.defined;
       };
 }
 
@@ -72,6 +75,7 @@ pub record IsDropped (opens : List ℕ) (before : CScope) (core : CExpr) (after 
   pub none : DeclaresNone before after
   pub body_is : after.body ≡ before.body
   pub passes : Passes opens before after
+  pub defined : DefinesNone before.mentions after.mentions
   pub typed : (home : CHome) → Serves home opens before after → IsVoidExpr home core
 
 pub dropped_goes : (opens : List ℕ) (tree : ExprTree) (scope : CScope) → ExprGoes tree → IsGood opens scope → Ends (s_dropped_walk tree) scope (IsDropped opens scope)
@@ -83,6 +87,7 @@ dropped_goes opens tree scope goes good =
       none = held.none;
       body_is = held.body_is;
       passes = held.is_expr.passes;
+      defined = held.defined;
       typed = λ home serves.
           dropped_is home (value_of one)
           (value_served opens tree scope after one held.is_expr (no_less (holds_nothing after.types one) (no_less (holds_nothing after.types one || false) unbroken.k10)) home serves);

@@ -1,3 +1,5 @@
+pub mod Account
+pub mod Fills
 pub mod Forms
 pub mod Labels
 pub mod Rest

@@ -1,7 +1,7 @@
 -- What stays of a scope behind an expression, a type or an initialiser: all but its declarations, its types, its literals, its mentions and
 -- the number of the next object.
-use Rattle.std.specs.Prelude.{◌≡◌, ℕ, Bool, List}
-use Rattle.cx_core.specs.Trees.{CObject, CFun}
+use Rattle.std.specs.Prelude.{◌≡◌, ℕ, Bool, true, false, List, Some, slice_get}
+use Rattle.cx_core.specs.Trees.{CObject, CFun, CDoes, declares, defines, calls, uses, CMention}
 use Rattle.cx_rules.specs.Pieces.{CTarget}
 use Rattle.cx_rules.specs.Readings.{Seen, seen_gives, seen_chain, seen_here, seen_becomes, seen_look}
 use Rattle.cx_rules.specs.Scope.{CThing, CLabels, CScope}
@@ -41,3 +41,15 @@ pub record ExpressionsLeaveRest : Type 0 where
   pub specs : (alone : Bool) (specs : CSpecs) (trees : SpecTrees) → LeavesRest (walk.specs_walk Seen seen_gives seen_chain seen_here seen_becomes seen_look alone specs trees)
   pub declarator : (tree : DeclaratorTree) → LeavesRest (walk.declarator_walk Seen seen_gives seen_chain seen_here seen_becomes seen_look tree)
   pub initialiser : (target : CTarget) (tree : InitialiserTree) → LeavesRest (seen_initialiser target tree)
+
+-- ---- mentions
+
+abbrev pub is_defining : CDoes → Bool
+is_defining defines = true
+is_defining declares = false
+is_defining (calls trailing) = false
+is_defining uses = false
+
+-- what is told of as defined was so before
+abbrev pub DefinesNone : List CMention → List CMention → Type 0
+DefinesNone before after = (index : ℕ) (one : CMention) → slice_get after index ≡ Some one → is_defining one.does ≡ true → slice_get before index ≡ Some one

@@ -3,25 +3,21 @@ use Rattle.std.specs.Prelude.{◌≡◌, ℕ, ◌≤◌, ◌<◌, Bool, true, fa
 use Rattle.std.specs.List.{Contains}
 use Rattle.cx_core.specs.declared.program.Linkage.{Linkage}
 use Rattle.cx_core.specs.declared.program.Linkage.TheVariants.{Internal, Nothing}
-use Rattle.cx_core.specs.Compatible.{agree, AreCompatible}
-use Rattle.cx_core.specs.Trees.{CTy, CTypes, CPuts, CObject, CProgram, CMention}
+use Rattle.cx_core.specs.Compatible.{AreCompatible}
+use Rattle.cx_core.specs.Linked.{home_of, IsStatic, IsTypedObject, IsTypedFunction}
+use Rattle.cx_core.specs.Trees.{CTy, CTypes, CPuts, CObject, CFun, CProgram, CMention}
 use Rattle.cx_core.specs.Typing.{CHome, CCallee, object_with, callee_with, IsStaticObject}
 use Rattle.cx_core.specs.ValidTypes.{IsComplete}
 use Rattle.cx_rules.specs.Declare.{is_linked, thing_named}
 use Rattle.cx_rules.specs.Pieces.{is_static_object}
-use Rattle.cx_rules.specs.Scope.{CMeant, an_object, a_function, CDeclared, CMade, CThing, CScope, ordinary}
+use Rattle.cx_rules.specs.Scope.{CMeant, an_object, a_function, CDeclared, CMade, CThing, CScope, new_scope, ordinary}
 use Rattle.cx_rules.specs.Types.{is_function}
 use Rattle.cx_typed.specs.Growth.{Gives, Grows}
 use Rattle.cx_typed.specs.Operands.{IsKnownType}
-use Rattle.cx_typed.specs.Scopes.{IsHeld, is_thing}
-
--- ---- types of several declarations (6.2.7p3, p4)
-
--- the later type says no less: in all types that have grown from these, and whichever records count as compatible, what is compatible with
--- it is compatible with the earlier one
-abbrev pub Fills : List ℕ → CTypes → CTy → CTy → Type 0
-Fills opens types earlier later = (now : CTypes) → Grows opens types now → (counts : ℕ → ℕ → Bool) (other : CTy)
-    → agree now counts other later ≡ true → agree now counts other earlier ≡ true
+use Rattle.cx_typed.specs.Scopes.{IsHeld, is_thing, object_made}
+use Rattle.cx_typed_units.specs.Account.{account_of, IsAccounted}
+use Rattle.cx_typed_units.specs.Fills.{Fills}
+use Rattle.cx_typed_units.specs.Rest.{is_defining}
 
 -- ---- what stays of a scope
 
@@ -31,6 +27,7 @@ pub record IsSameThing (opens : List ℕ) (types : CTypes) (one other : CThing) 
   pub linkage_is : other.linkage ≡ one.linkage
   pub function_is : other.is_function ≡ one.is_function
   pub fills : Fills opens types one.type other.type
+  pub defined : one.is_defined ≡ true → other.is_defined ≡ true
 
 abbrev pub IsKept : List ℕ → CTypes → CThing → Option CThing → Type 0
 IsKept opens types one found = IsSome found × IfSome found (IsSameThing opens types one)
@@ -74,17 +71,6 @@ pub record Continues (opens : List ℕ) (before after : CScope) : Type 0 where
   pub literals : (number : ℕ) → Gives (slice_get before.literals number) (slice_get after.literals number)
   pub front : List CDeclared
   pub declared_is : after.declared ≡ front ++ before.declared
-
--- what declarations and statements do to a scope: what isn't linked stays, and what is linked is declared once more at most
-pub record Leads (opens : List ℕ) (before after : CScope) : Type 0 where
-  pub declares : Continues opens before after
-  pub begins_is : after.begins ≡ before.begins
-  pub in_function_is : after.in_function ≡ before.in_function
-  pub objects_more : length before.objects ≤ length after.objects
-  pub objects : (number : ℕ) (one : CObject) → one.linkage ≡ Nothing → slice_get before.objects number ≡ Some one → slice_get after.objects number ≡ Some one
-  pub things : (name : List ℕ) (one : CThing) → thing_named name before.things ≡ Some one → IsKept opens after.types one (thing_named name after.things)
-  pub orderly : IsOrderly opens before → IsOrderly opens after
-  pub statics : (number : ℕ) → is_static_object before number ≡ true → is_static_object after number ≡ true
 
 -- no object and no function is declared
 abbrev pub DeclaresNone : CScope → CScope → Type 0
@@ -145,7 +131,7 @@ pub record Backs (home : CHome) (opens : List ℕ) (before after : CScope) : Typ
   pub grows : Grows opens after.types home.program.types
   pub told : List CMention
   pub told_is : home.mentions ≡ Some told
-  pub mentions : (number : ℕ) (one : CMention) → length before.mentions ≤ number → slice_get after.mentions number ≡ Some one → Contains told one
+  pub mentions : (number : ℕ) (one : CMention) → length before.mentions ≤ number → slice_get after.mentions number ≡ Some one → is_defining one.does ≡ false → Contains told one
   pub literals : (number : ℕ) (one : CMade) → length before.literals ≤ number → slice_get after.literals number ≡ Some one → IsMadeThere home.program home.unit one
   pub objects : (number : ℕ) (one : CObject) → one.linkage ≡ Nothing → length before.objects ≤ number → slice_get after.objects number ≡ Some one
       → object_with one.object home.program.objects ≡ Some one
@@ -159,3 +145,41 @@ IsHeldAt home declared = (name : List ℕ) (meant : CMeant) → ordinary name de
 abbrev pub AreIn : List ℕ → List ℕ → Type 0
 AreIn scope [] = Unit {0}
 AreIn scope (one ∷ others) = Contains scope one × AreIn scope others
+
+-- ---- what is typed up to a place
+
+-- a program has all that a unit has up to a place, and a block of it holds all of its objects
+pub record HoldsAll (home : CHome) (opens : List ℕ) (scope : CScope) : Type 0 where
+  pub backs : Backs home opens (new_scope scope.unit) scope
+  pub objects_inside : (index : ℕ) (one : CObject) → slice_get scope.objects index ≡ Some one → one.linkage ≡ Nothing → Contains home.scope one.object
+  pub literals_inside : (index : ℕ) (one : CMade) → slice_get scope.literals index ≡ Some one → Contains home.scope one.object
+
+-- what is stored in a static object is typed; one with linkage may be declared with another type behind it
+pub record IsFilled (home : CHome) (one : CObject) (puts : CPuts) : Type 0 where
+  pub type : CTy
+  pub same : one.linkage ≡ Nothing → one.type ≡ type
+  pub static : IsStatic (home_of home.program home.mentions home.unit) type puts
+
+pub record AreTypedThere (home : CHome) (scope : CScope) : Type 0 where
+  pub held : IsHeldAt home scope.declared
+  pub literals : (index : ℕ) (one : CMade) → slice_get scope.literals index ≡ Some one → IsTypedObject home.program home.mentions (object_made home.unit one)
+  pub objects : (index : ℕ) (one : CObject) → slice_get scope.objects index ≡ Some one → IfSome one.puts (IsFilled home one)
+  pub functions : (index : ℕ) (one : CFun) → slice_get scope.functions index ≡ Some one → IsTypedFunction home.program home.mentions one
+
+-- in each program that has it, what was made and defined is typed
+abbrev pub AreTypedUpTo : List ℕ → CScope → Type 0
+AreTypedUpTo opens scope = (home : CHome) → HoldsAll home opens scope → AreTypedThere home scope
+
+-- what declarations and statements do to a scope: what isn't linked stays, and what is linked is declared once more at most
+pub record Leads (opens : List ℕ) (before after : CScope) : Type 0 where
+  pub declares : Continues opens before after
+  pub begins_is : after.begins ≡ before.begins
+  pub in_function_is : after.in_function ≡ before.in_function
+  pub objects_more : length before.objects ≤ length after.objects
+  pub objects : (number : ℕ) (one : CObject) → one.linkage ≡ Nothing → slice_get before.objects number ≡ Some one → slice_get after.objects number ≡ Some one
+  pub things : (name : List ℕ) (one : CThing) → thing_named name before.things ≡ Some one → IsKept opens after.types one (thing_named name after.things)
+  pub orderly : IsOrderly opens before → IsOrderly opens after
+  pub functions_are : after.functions ≡ before.functions
+  pub statics : (number : ℕ) → is_static_object before number ≡ true → is_static_object after number ≡ true
+  pub keeps : (pending : Option (List ℕ)) → IsAccounted opens pending (account_of before) → IsAccounted opens pending (account_of after)
+  pub typed : AreTypedUpTo opens before → AreTypedUpTo opens after

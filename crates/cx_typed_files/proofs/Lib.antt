@@ -1,0 +1,15 @@
+pub mod Bodies
+pub mod DeclaredThing
+pub mod DefinedFunctions
+pub mod Definitions
+pub mod Externals
+pub mod FileContent
+pub mod FileDeclarations
+pub mod FileFilled
+pub mod FileSteps
+pub mod FileUnfilled
+pub mod FunctionTypes
+pub mod Heads
+pub mod OwnParams
+pub mod OwnShapes
+pub mod ParamAccounts

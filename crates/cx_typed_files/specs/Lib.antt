@@ -1,0 +1,2 @@
+pub mod FileScope
+pub mod FileUnits
