@@ -115,20 +115,20 @@ comes_any (Err fault) = tt
 pub sequenced_comes : (marks : Marks) (range : Range) → Comes (λ (_ : Range). Unit {0}) (sequenced_after marks range)
 sequenced_comes marks range = comes_else (λ (_ : Range). Unit {0}) (any_overlap marks.still (range ∷ [])) U1 range tt
 
-scalar_loaded : (program : CProgram) (type : CTy) (blocks : Blocks) (at : Ptr) (marks : Marks) (one : IsScalarAccess program type) → IsTypedMemory blocks
+scalar_loaded : (program : CProgram) (type : CTy) (blocks : Blocks) (at : Ptr) (marks : Marks) (one : IsScalarAccess program type) → IsTypedMemory program blocks
     → Comes (IsLoadedOf program type) (loaded_scalar blocks at marks one.kind)
 scalar_loaded program type blocks at marks one memory =
     comes_and (λ _. Unit {0}) (IsLoadedOf program type) (accessed (part_at blocks at (scalar_size one.kind))) _ (comes_any _) (λ _ _.
     comes_and (λ _. Unit {0}) (IsLoadedOf program type) (sequenced_after marks (bits_of_bytes at (scalar_size one.kind))) _ (sequenced_comes marks _) (λ range _.
-    comes_and (IsKindValue one.kind) (IsLoadedOf program type) (accessed (value_at blocks at one.kind)) _ (comes_given (IsKindValue one.kind) _ (value_typed blocks at one.kind one.is_scalar memory)) (λ value is.
-    record { kind = one.kind; kind_is = one.kind_is; of_kind = is.of_kind; near = is.near })))
+    comes_and (IsKindValue program one.kind) (IsLoadedOf program type) (accessed (value_at blocks at one.kind)) _ (comes_given (IsKindValue program one.kind) _ (value_typed program blocks at one.kind one.is_scalar memory)) (λ value is.
+    record { kind = one.kind; kind_is = one.kind_is; of_kind = is.of_kind; leads = is.leads })))
 
-record_loaded : (program : CProgram) (type : CTy) (blocks : Blocks) (at : Ptr) (marks : Marks) (one : IsRecordAccess program type) → IsTypedMemory blocks
+record_loaded : (program : CProgram) (type : CTy) (blocks : Blocks) (at : Ptr) (marks : Marks) (one : IsRecordAccess program type) → IsTypedMemory program blocks
     → Comes (IsLoadedOf program type) (loaded_record blocks at marks one.laid)
 record_loaded program type blocks at marks one memory =
     comes_and (λ _. Unit {0}) (IsLoadedOf program type) (accessed (part_at blocks at one.laid.size)) _ (comes_any _) (λ _ _.
     comes_and (λ _. Unit {0}) (IsLoadedOf program type) (sequenced_after marks (bits_of_bytes at one.laid.size)) _ (sequenced_comes marks _) (λ range _.
-    comes_and (AreRecordCells one.laid.size) (IsLoadedOf program type) (accessed (record_at blocks at one.laid.size one.laid.align)) _ (comes_given (AreRecordCells one.laid.size) _ (record_typed blocks at one.laid.size one.laid.align memory)) (λ held is.
+    comes_and (AreRecordCells program one.laid.size) (IsLoadedOf program type) (accessed (record_at blocks at one.laid.size one.laid.align)) _ (comes_given (AreRecordCells program one.laid.size) _ (record_typed program blocks at one.laid.size one.laid.align memory)) (λ held is.
     record { is_record = one.is_record; laid = one.laid; laid_is = one.laid_is; all = is.all; typed = is.typed })))
 
 pub object_comes : (to : Value) → IsObjectPointer to → Comes (λ (_ : Ptr). Unit {0}) (object_at to)
@@ -137,7 +137,7 @@ object_comes Null is = tt
 object_comes (Number number) is = is
 object_comes (Function number) is = is
 
-kind_loaded_comes : (program : CProgram) (type : CTy) (blocks : Blocks) (at : Ptr) (marks : Marks) (kind : CKind) → kind_of (setting_of program) type ≡ Ok kind → IsAccess program type → IsTypedMemory blocks
+kind_loaded_comes : (program : CProgram) (type : CTy) (blocks : Blocks) (at : Ptr) (marks : Marks) (kind : CKind) → kind_of (setting_of program) type ≡ Ok kind → IsAccess program type → IsTypedMemory program blocks
     → Comes (IsLoadedOf program type) (loaded_kind blocks at marks kind)
 kind_loaded_comes program type blocks at marks kind e (inl one) memory =
     let same : of_scalar one.kind ≡ kind = cc (one.access, e) in
@@ -152,7 +152,7 @@ kind_comes program type (inl one) = subst (λ found. Comes (λ (kind : CKind). f
 kind_comes program type (inr one) = subst (λ found. Comes (λ (kind : CKind). found ≡ Ok kind) found) (sym one.access) refl
 
 -- a load of an object that isn't a bit-field gives a value of its type
-pub load_comes : (program : CProgram) (type : CTy) (blocks : Blocks) (marks : Marks) (place : Result Value CWhy) → IsAccess program type → IsTypedMemory blocks → Comes IsObjectPointer place
+pub load_comes : (program : CProgram) (type : CTy) (blocks : Blocks) (marks : Marks) (place : Result Value CWhy) → IsAccess program type → IsTypedMemory program blocks → Comes IsObjectPointer place
     → Comes (IsLoadedOf program type) (loaded_from (setting_of program) blocks type marks place)
 load_comes program type blocks marks place access memory there =
     comes_and (λ kind. kind_of (setting_of program) type ≡ Ok kind) (IsLoadedOf program type) (kind_of (setting_of program) type) _ (kind_comes program type access) (λ kind e.

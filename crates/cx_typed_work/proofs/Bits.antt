@@ -28,10 +28,10 @@ use Rattle.mem_bytes.specs.declared.value.Value.TheVariants.{Whole as Number}
 use Rattle.mem_bytes.specs.Memory.{Block, Blocks, live_block}
 use Rattle.cx_typed_values.proofs.Ranges.{from_half_in_range}
 use Rattle.cx_typed_values.specs.Outcomes.{Comes}
-use Rattle.cx_typed_values.specs.Values.{IsScalarOf}
 use Rattle.cx_typed_work.proofs.Accesses.{IsLoadedOf, sequenced_comes}
 use Rattle.cx_typed_work.proofs.Fields.{FitsKind, IsField}
 use Rattle.cx_typed_work.proofs.Outcomes.{comes_and, comes_accessed}
+use Rattle.cx_typed_work.specs.Operands.{IsScalarIn}
 
 -- ---- numbers of bits
 
@@ -62,12 +62,12 @@ truth_bits (suc zero) bits fits below = omega (arith, below)
 truth_bits (suc (suc n)) bits fits below = absurd (omega (arith, fits))
 
 -- what bits mean
-pub field_means : (types : _) (type : CTy) (width bits : ℕ) (one : IsField types type width) → bits < 2 ^ width → Comes (IsScalarOf types type) (field_value one.kind width bits)
-field_means types type width bits one below = by one.kind one.kind_is one.fits
+pub field_means : (program : CProgram) (type : CTy) (width bits : ℕ) (one : IsField program.types type width) → bits < 2 ^ width → Comes (IsScalarIn program type) (field_value one.kind width bits)
+field_means program type width bits one below = by one.kind one.kind_is one.fits
   where
-    by : (kind : Scalar) → scalar_of types (form_of_type type) ≡ Some kind → FitsKind kind width → Comes (IsScalarOf types type) (field_value kind width bits)
-    by Truth e fits = let small : bits < 2 = truth_bits width bits fits below in record { kind = Truth; kind_is = e; of_kind = (omega (arith, ints), omega (arith, ints, small)); near = tt }
-    by (Whole size signed) e fits = record { kind = Whole size signed; kind_is = e; of_kind = bits_in_range width size signed (pos bits) fits; near = tt }
+    by : (kind : Scalar) → scalar_of program.types (form_of_type type) ≡ Some kind → FitsKind kind width → Comes (IsScalarIn program type) (field_value kind width bits)
+    by Truth e fits = let small : bits < 2 = truth_bits width bits fits below in record { kind = Truth; kind_is = e; of_kind = (omega (arith, ints), omega (arith, ints, small)); leads = tt }
+    by (Whole size signed) e fits = record { kind = Whole size signed; kind_is = e; of_kind = bits_in_range width size signed (pos bits) fits; leads = tt }
     by Object e fits = absurd fits
     by Code e fits = absurd fits
 
@@ -102,4 +102,4 @@ bits_loaded program type blocks at bit width marks one is =
     (comes_and (λ _. Unit {0}) (IsLoadedOf program type) (accessed (part_at blocks at (bytes_touched bit width))) _ (comes_accessed (λ _. Unit {0}) _ (λ _ _. tt)) (λ _ _.
     comes_and (λ _. Unit {0}) (IsLoadedOf program type) (sequenced_after marks (bits_of_field at bit width)) _ (sequenced_comes marks _) (λ range _.
     comes_and (λ n. n < 2 ^ width) (IsLoadedOf program type) (accessed (field_at blocks at bit width)) _ (comes_bits width (field_at blocks at bit width) (slot_field (live_block blocks at.block) at.offset bit width)) (λ bits below.
-    comes_and (IsScalarOf program.types type) (IsLoadedOf program type) (field_value one.kind width bits) _ (field_means program.types type width bits one below) (λ value fits. fits)))))
+    comes_and (IsScalarIn program type) (IsLoadedOf program type) (field_value one.kind width bits) _ (field_means program type width bits one below) (λ value fits. fits)))))

@@ -5,6 +5,7 @@ use Rattle.std.proofs.lemmas.List.Elements.{All-append, All-take, All-drop}
 use Rattle.std.specs.List.{list_all}
 use Rattle.cr_base.specs.Scalar.{modulus, residue}
 use Rattle.cr_base.specs.declared.scalar.Scalar.{Scalar}
+use Rattle.cx_core.specs.Trees.{CProgram}
 use Rattle.mem_bytes.proofs.Reached.{size_of-with_part}
 use Rattle.mem_bytes.proofs.Slots.{live-set_same, live-set_other, live_within}
 use Rattle.mem_bytes.specs.Calls.{IsPointer}
@@ -16,49 +17,49 @@ use Rattle.mem_bytes.specs.declared.value.Value.{Value}
 use Rattle.mem_bytes.specs.declared.value.Value.TheVariants.{Whole, Null, Object, Code}
 use Rattle.mem_bytes.specs.Laws.{Writes}
 use Rattle.mem_bytes.specs.Memory.{Block, Blocks, live_block, size_of, byte_cell, unset_cell, with_part}
-use Rattle.cx_typed_values.specs.Values.{IsNear, AreObjects, most_bytes}
-use Rattle.cx_typed_work.specs.Scenes.{IsTypedCell, IsTypedMemory, IsSameShape, AreSameShapes}
+use Rattle.cx_typed_values.specs.Values.{AreObjects, most_bytes}
+use Rattle.cx_typed_work.specs.Scenes.{IsLeading, IsTypedCell, IsTypedMemory, IsSameShape, AreSameShapes}
 
 -- ---- lists of cells
 
-pub typed_none : All IsTypedCell []
-typed_none k d p = absurd (omega arith)
+pub typed_none : (program : CProgram) → All (IsTypedCell program) []
+typed_none program k d p = absurd (omega arith)
 
-pub typed_more : (cell : Cell) (cells : List Cell) → IsTypedCell cell → All IsTypedCell cells → All IsTypedCell (cell ∷ cells)
-typed_more cell cells first rest =
+pub typed_more : (program : CProgram) (cell : Cell) (cells : List Cell) → IsTypedCell program cell → All (IsTypedCell program) cells → All (IsTypedCell program) (cell ∷ cells)
+typed_more program cell cells first rest =
     elim [ zero ↦ λ d p. first | suc k ↦ λ d p. rest k d (omega arith) ]
 
-pub typed_replicate : (count : ℕ) (cell : Cell) → IsTypedCell cell → All IsTypedCell (replicate count cell)
-typed_replicate zero cell is = typed_none
-typed_replicate (suc count) cell is = typed_more cell (replicate count cell) is (typed_replicate count cell is)
+pub typed_replicate : (program : CProgram) (count : ℕ) (cell : Cell) → IsTypedCell program cell → All (IsTypedCell program) (replicate count cell)
+typed_replicate program zero cell is = typed_none program
+typed_replicate program (suc count) cell is = typed_more program cell (replicate count cell) is (typed_replicate program count cell is)
 
-typed_bytes : (count n : ℕ) → All IsTypedCell (map byte_cell (bytes_of count n))
-typed_bytes zero n = typed_none
-typed_bytes (suc count) n = typed_more (byte_cell (n % 256)) (map byte_cell (bytes_of count (n / 256))) tt (typed_bytes count (n / 256))
+typed_bytes : (program : CProgram) (count n : ℕ) → All (IsTypedCell program) (map byte_cell (bytes_of count n))
+typed_bytes program zero n = typed_none program
+typed_bytes program (suc count) n = typed_more program (byte_cell (n % 256)) (map byte_cell (bytes_of count (n / 256))) tt (typed_bytes program count (n / 256))
 
-typed_indexes : (of : Value) (indexes : List ℕ) → IsPointer of → IsNear of → list_all (λ index. nat_lt index 8) indexes ≡ true → All IsTypedCell (map (λ index. PtrByte of index) indexes)
-typed_indexes of [] p near few = typed_none
-typed_indexes of (index ∷ indexes) p near few =
+typed_indexes : (program : CProgram) (of : Value) (indexes : List ℕ) → IsPointer of → IsLeading program of → list_all (λ index. nat_lt index 8) indexes ≡ true → All (IsTypedCell program) (map (λ index. PtrByte of index) indexes)
+typed_indexes program of [] p near few = typed_none program
+typed_indexes program of (index ∷ indexes) p near few =
     let both = and_parts (nat_lt index 8) (list_all (λ i. nat_lt i 8) indexes) few in
-    typed_more (PtrByte of index) (map (λ i. PtrByte of i) indexes) ((p, ltb-true index 8 both.0), near) (typed_indexes of indexes p near both.1)
+    typed_more program (PtrByte of index) (map (λ i. PtrByte of i) indexes) ((p, ltb-true index 8 both.0), near) (typed_indexes program of indexes p near both.1)
 
-typed_pointer : (of : Value) → IsPointer of → IsNear of → All IsTypedCell (pointer_bytes of)
-typed_pointer of p near = typed_indexes of (0 ∷ 1 ∷ 2 ∷ 3 ∷ 4 ∷ 5 ∷ 6 ∷ 7 ∷ []) p near refl
+typed_pointer : (program : CProgram) (of : Value) → IsPointer of → IsLeading program of → All (IsTypedCell program) (pointer_bytes of)
+typed_pointer program of p near = typed_indexes program of (0 ∷ 1 ∷ 2 ∷ 3 ∷ 4 ∷ 5 ∷ 6 ∷ 7 ∷ []) p near refl
 
 -- the cells of a value that leads no further than an object reaches
-pub typed_value : (kind : Scalar) (value : Value) → IsNear value → All IsTypedCell (cells_of kind value)
-typed_value kind (Whole n) near = typed_bytes (scalar_size kind) (residue n (modulus kind))
-typed_value kind Null near = typed_replicate 8 (byte_cell 0) tt
-typed_value kind (Object at) near = typed_pointer (Object at) tt near
-typed_value kind (Code f) near = typed_pointer (Code f) tt near
+pub typed_value : (program : CProgram) (kind : Scalar) (value : Value) → IsLeading program value → All (IsTypedCell program) (cells_of kind value)
+typed_value program kind (Whole n) near = typed_bytes program (scalar_size kind) (residue n (modulus kind))
+typed_value program kind Null near = typed_replicate program 8 (byte_cell 0) tt
+typed_value program kind (Object at) near = typed_pointer program (Object at) tt near
+typed_value program kind (Code f) near = typed_pointer program (Code f) tt near
 
 -- ---- memories
 
-typed_part : (block : Block) (offset : ℕ) (cells : List Cell) → All IsTypedCell block.cells → All IsTypedCell cells → All IsTypedCell (with_part block offset cells).cells
-typed_part block offset cells old new =
-    All-append IsTypedCell (take offset block.cells ++ cells) (drop (offset + length cells) block.cells)
-    (All-append IsTypedCell (take offset block.cells) cells (All-take IsTypedCell offset block.cells old) new)
-    (All-drop IsTypedCell (offset + length cells) block.cells old)
+typed_part : (program : CProgram) (block : Block) (offset : ℕ) (cells : List Cell) → All (IsTypedCell program) block.cells → All (IsTypedCell program) cells → All (IsTypedCell program) (with_part block offset cells).cells
+typed_part program block offset cells old new =
+    All-append (IsTypedCell program) (take offset block.cells ++ cells) (drop (offset + length cells) block.cells)
+    (All-append (IsTypedCell program) (take offset block.cells) cells (All-take (IsTypedCell program) offset block.cells old) new)
+    (All-drop (IsTypedCell program) (offset + length cells) block.cells old)
 
 -- the block that was written is live, with its new cells
 written_block : (memory after : Blocks) (at : Ptr) (count : ℕ) (writes : Writes memory at count after) (number : ℕ) → at.block ≡ number
@@ -78,8 +79,8 @@ written_size : (memory after : Blocks) (at : Ptr) (count : ℕ) (writes : Writes
 written_size memory after at count writes =
     size_of-with_part writes.block at.offset writes.cells (subst (λ n. at.offset + n ≤ size_of writes.block) (sym writes.many) writes.within)
 
-pub written_typed : (memory after : Blocks) (at : Ptr) (count : ℕ) (writes : Writes memory at count after) → IsTypedMemory memory → All IsTypedCell writes.cells → IsTypedMemory after
-written_typed memory after at count writes is new = record {
+pub written_typed : (program : CProgram) (memory after : Blocks) (at : Ptr) (count : ℕ) (writes : Writes memory at count after) → IsTypedMemory program memory → All (IsTypedCell program) writes.cells → IsTypedMemory program after
+written_typed program memory after at count writes is new = record {
   objects = record {
     sizes = λ number block live. ⊎_elim
         (λ (same : at.block ≡ number).
@@ -92,7 +93,7 @@ written_typed memory after at count writes is new = record {
   cells = λ number block live. ⊎_elim
       (λ (same : at.block ≡ number).
       let made : with_part writes.block at.offset writes.cells ≡ block = cc (written_block memory after at count writes number same, live) in
-      subst (λ (b : Block). All IsTypedCell b.cells) made (typed_part writes.block at.offset writes.cells (is.cells at.block writes.block writes.live) new))
+      subst (λ (b : Block). All (IsTypedCell program) b.cells) made (typed_part program writes.block at.offset writes.cells (is.cells at.block writes.block writes.live) new))
       (λ (away : at.block ≢ number). is.cells number block (sym (other_block memory after at count writes number away) ∙ live))
       (cases_eq at.block number);
 }

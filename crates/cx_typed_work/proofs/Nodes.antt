@@ -21,21 +21,20 @@ use Rattle.mem_bytes.specs.declared.value.Value.{Value}
 use Rattle.mem_bytes.specs.declared.value.Value.TheVariants.{Whole as Number, Null, Object as Pointer, Code as Function}
 use Rattle.mem_bytes.specs.Memory.{Blocks}
 use Rattle.cx_typed_values.specs.Outcomes.{Comes}
-use Rattle.cx_typed_values.specs.Values.{IsNear, IsScalarOf}
 use Rattle.cx_typed_work.proofs.Given.{value_given, place_given}
 use Rattle.cx_typed_work.proofs.Memories.{shapes_stay}
 use Rattle.cx_typed_work.proofs.Outcomes.{comes_and, comes_else}
 use Rattle.cx_typed_work.proofs.Stores.{record_no_scalar}
-use Rattle.cx_typed_work.specs.Operands.{IsValueOfType, IsMissing, IsGiven, IsObjectPointer, IsPlaceOf, IsGivenBy}
-use Rattle.cx_typed_work.specs.Scenes.{IsScene, IsTypedMemory, AreSameShapes}
+use Rattle.cx_typed_work.specs.Operands.{IsScalarIn, IsValueOfType, IsMissing, IsGiven, IsObjectPointer, IsPlaceOf, IsGivenBy}
+use Rattle.cx_typed_work.specs.Scenes.{IsLeading, IsScene, IsTypedMemory, AreSameShapes}
 
 -- what a step of a node gives is what its expression gives, in a typed memory with the same live blocks
 pub record IsDoneOf (home : CHome) (node : CExpr) (before : Blocks) (one : CDone) : Type 0 where
   pub given : IsGivenBy home node one.value
-  pub memory : IsTypedMemory one.blocks
+  pub memory : IsTypedMemory home.program one.blocks
   pub shapes : AreSameShapes before one.blocks
 
-pub gives_comes : (home : CHome) (node : CExpr) (marks : Marks) (blocks : Blocks) (outcome : Result CValue CWhy) → IsTypedMemory blocks → Comes (IsGivenBy home node) outcome
+pub gives_comes : (home : CHome) (node : CExpr) (marks : Marks) (blocks : Blocks) (outcome : Result CValue CWhy) → IsTypedMemory home.program blocks → Comes (IsGivenBy home node) outcome
     → Comes (IsDoneOf home node blocks) (gives_value marks blocks outcome)
 gives_comes home node marks blocks outcome memory comes =
     comes_and (IsGivenBy home node) (IsDoneOf home node blocks) outcome _ comes (λ value is. record { given = is; memory = memory; shapes = shapes_stay blocks })
@@ -56,7 +55,7 @@ scalar_kind_of types type None e some = cc
 scalar_kind_of types type (Some kind) e some = (kind, e)
 
 -- the scalar value of an expression of scalar type, or none
-pub scalar_comes : (program : CProgram) (node : CExpr) (value : CValue) → IsScalarType program.types (type_of node) → IsGiven program node value → Comes (IsScalarOf program.types (type_of node)) (scalar_value value)
+pub scalar_comes : (program : CProgram) (node : CExpr) (value : CValue) → IsScalarType program.types (type_of node) → IsGiven program node value → Comes (IsScalarIn program (type_of node)) (scalar_value value)
 scalar_comes program node (scalar value) is (inl given) = given
 scalar_comes program node (scalar value) is (inr given) = absurd given.1
 scalar_comes program node (cells held from) is (inl given) =
@@ -84,13 +83,13 @@ object_kind (ty (record_type number) is_const) is = refl
 object_kind (ty (function result params variadic) is_const) is = absurd is
 
 -- a pointer to an object type is null or leads to an object
-object_pointer : (types : CTypes) (to pointer_type : CTy) (value : Value) → pointer_type ≡ ty (pointer to) false → IsObjectForm (form_of_type to) → IsScalarOf types pointer_type value → IsObjectPointer value
-object_pointer types to pointer_type value e is given =
-    let same : scalar_of types (form_of_type pointer_type) ≡ Some (scalar_of_pointer to) = ap (λ (t : CTy). scalar_of types (form_of_type t)) e in
+object_pointer : (program : CProgram) (to pointer_type : CTy) (value : Value) → pointer_type ≡ ty (pointer to) false → IsObjectForm (form_of_type to) → IsScalarIn program pointer_type value → IsObjectPointer value
+object_pointer program to pointer_type value e is given =
+    let same : scalar_of program.types (form_of_type pointer_type) ≡ Some (scalar_of_pointer to) = ap (λ (t : CTy). scalar_of program.types (form_of_type t)) e in
     let kind : given.kind ≡ Object = cc (given.kind_is, same, object_kind to is) in
-    by value (subst (λ k. IsValueOf k value) kind given.of_kind) given.near
+    by value (subst (λ k. IsValueOf k value) kind given.of_kind) given.leads
   where
-    by : (one : Value) → IsValueOf Object one → IsNear one → IsObjectPointer one
+    by : (one : Value) → IsValueOf Object one → IsLeading program one → IsObjectPointer one
     by (Pointer at) of_kind near = near
     by Null of_kind near = tt
     by (Number number) of_kind near = absurd of_kind
@@ -106,9 +105,9 @@ pub deref_comes : (home : CHome) (type : CTy) (place : _) (from : CExpr) (value 
     → Comes (IsGivenBy home (expr type place (deref from))) (deref_value value)
 deref_comes home type place from value is given =
     let pointer_is : type_of from ≡ ty (pointer type) false = is.2.1.pointer_is in
-    comes_and (IsScalarOf (types_of_home home) (type_of from)) (IsGivenBy home (expr type place (deref from))) (scalar_value value) _
+    comes_and (IsScalarIn home.program (type_of from)) (IsGivenBy home (expr type place (deref from))) (scalar_value value) _
     (scalar_comes home.program from value (subst (λ t. IsScalarType (types_of_home home) t) (sym pointer_is) refl) (value_given home from value is.2.0 given)) (λ to fits.
-    comes_as_place to (object_pointer (types_of_home home) type (type_of from) to pointer_is is.2.1.object fits))
+    comes_as_place to (object_pointer home.program type (type_of from) to pointer_is is.2.1.object fits))
   where
     comes_as_place : (to : Value) → IsObjectPointer to → Comes (IsGivenBy home (expr type place (deref from))) (pointed_to to)
     comes_as_place (Pointer at) fits = inl (is, (refl, fits))

@@ -28,19 +28,18 @@ use Rattle.mem_bytes.specs.declared.value.Value.TheVariants.{Whole as Number, Nu
 use Rattle.mem_bytes.specs.Laws.{Writes}
 use Rattle.mem_bytes.specs.Memory.{Block, Blocks, with_part}
 use Rattle.cx_typed_values.specs.Outcomes.{Comes}
-use Rattle.cx_typed_values.specs.Values.{IsNear, IsScalarOf}
 use Rattle.cx_typed_work.proofs.Accesses.{IsScalarAccess, IsRecordAccess, IsAccess, sequenced_comes, object_comes, kind_comes}
 use Rattle.cx_typed_work.proofs.Memories.{typed_value, written_typed, written_shapes}
 use Rattle.cx_typed_work.proofs.Outcomes.{comes_and, comes_else, comes_accessed}
 use Rattle.cx_typed_work.specs.Operands.{IsValueOfType, IsMissing, IsObjectPointer, IsRecordForm, IsRecordOf}
-use Rattle.cx_typed_work.specs.Scenes.{IsTypedCell, IsTypedMemory, AreSameShapes}
+use Rattle.cx_typed_work.specs.Scenes.{IsLeading, IsTypedCell, IsTypedMemory, AreSameShapes}
 
 -- ---- what is stored
 
 -- a store gives the value that it stored, and leaves a typed memory with the same live blocks
 pub record IsStoredOf (program : CProgram) (type : CTy) (before : Blocks) (one : CStored) : Type 0 where
   pub given : IsValueOfType program type one.value
-  pub memory : IsTypedMemory one.blocks
+  pub memory : IsTypedMemory program one.blocks
   pub shapes : AreSameShapes before one.blocks
 
 -- a value of a type, or none
@@ -75,13 +74,13 @@ of_kind Code (Number number) is = absurd is
 of_kind Code (Pointer at) is = absurd is
 
 -- a value to be stored in a scalar
-pub record IsNewValue (kind : Scalar) (value : Value) : Type 0 where
+pub record IsNewValue (program : CProgram) (kind : Scalar) (value : Value) : Type 0 where
   pub of_kind : IsValueOf kind value
-  pub near : IsNear value
+  pub leads : IsLeading program value
 
-tested_kind : (kind : Scalar) (value : Value) (test : Bool) → is_of_kind kind value ≡ test → IsNewValue kind value → Comes (IsNewValue kind) (if test then Ok value else Err stuck)
-tested_kind kind value true e is = is
-tested_kind kind value false e is = absurd (true≢false (sym (of_kind kind value is.of_kind) ∙ e))
+tested_kind : (program : CProgram) (kind : Scalar) (value : Value) (test : Bool) → is_of_kind kind value ≡ test → IsNewValue program kind value → Comes (IsNewValue program kind) (if test then Ok value else Err stuck)
+tested_kind program kind value true e is = is
+tested_kind program kind value false e is = absurd (true≢false (sym (of_kind kind value is.of_kind) ∙ e))
 
 pub record_no_scalar : (types : CTypes) (form : CTyForm) (kind : Scalar) → IsRecordForm form → scalar_of types form ≡ Some kind → ⊥
 record_no_scalar types (record_type number) kind is e = cc
@@ -92,10 +91,10 @@ record_no_scalar types (pointer to) kind is e = is
 record_no_scalar types (array element length) kind is e = is
 record_no_scalar types (function result params variadic) kind is e = is
 
-pub new_scalar : (program : CProgram) (type : CTy) (kind : Scalar) (new : CValue) → scalar_of program.types (form_of_type type) ≡ Some kind → IsStorable program type new → Comes (IsNewValue kind) (value_of_kind kind new)
+pub new_scalar : (program : CProgram) (type : CTy) (kind : Scalar) (new : CValue) → scalar_of program.types (form_of_type type) ≡ Some kind → IsStorable program type new → Comes (IsNewValue program kind) (value_of_kind kind new)
 new_scalar program type kind (scalar value) e (inl is) =
     let same : is.kind ≡ kind = cc (is.kind_is, e) in
-    tested_kind kind value (is_of_kind kind value) refl (record { of_kind = subst (λ k. IsValueOf k value) same is.of_kind; near = is.near })
+    tested_kind program kind value (is_of_kind kind value) refl (record { of_kind = subst (λ k. IsValueOf k value) same is.of_kind; leads = is.leads })
 new_scalar program type kind (scalar value) e (inr is) = absurd is
 new_scalar program type kind (cells held from) e (inl is) = absurd (record_no_scalar program.types (form_of_type type) kind is.is_record e)
 new_scalar program type kind (cells held from) e (inr is) = absurd is
@@ -131,39 +130,39 @@ scalar_writes memory after at kind value p q e =
       refl,
     )
 
-scalar_stored : (program : CProgram) (type : CTy) (blocks : Blocks) (at : Ptr) (marks : Marks) (new : CValue) (one : IsScalarAccess program type) → IsTypedMemory blocks → IsStorable program type new
+scalar_stored : (program : CProgram) (type : CTy) (blocks : Blocks) (at : Ptr) (marks : Marks) (new : CValue) (one : IsScalarAccess program type) → IsTypedMemory program blocks → IsStorable program type new
     → Comes (IsStoredOf program type blocks) (stored_scalar blocks at marks new one.kind)
 scalar_stored program type blocks at marks new one memory is =
-    comes_and (IsNewValue one.kind) (IsStoredOf program type blocks) (value_of_kind one.kind new) _ (new_scalar program type one.kind new one.kind_is is) (λ value fits.
+    comes_and (IsNewValue program one.kind) (IsStoredOf program type blocks) (value_of_kind one.kind new) _ (new_scalar program type one.kind new one.kind_is is) (λ value fits.
     comes_and (λ _. Unit {0}) (IsStoredOf program type blocks) (accessed (part_at blocks at (scalar_size one.kind))) _ (comes_accessed (λ _. Unit {0}) _ (λ _ _. tt)) (λ _ _.
     comes_and (λ _. Unit {0}) (IsStoredOf program type blocks) (sequenced_after marks (bits_of_bytes at (scalar_size one.kind))) _ (sequenced_comes marks _) (λ range _.
     comes_and (λ after. after_put blocks at one.kind value ≡ Ok after) (IsStoredOf program type blocks) (accessed (after_put blocks at one.kind value)) _ (comes_accessed (λ after. after_put blocks at one.kind value ≡ Ok after) _ (λ after e. e)) (λ after made.
     let writes = scalar_writes blocks after at one.kind value one.is_scalar fits.of_kind made in
     record {
-      given = record { kind = one.kind; kind_is = one.kind_is; of_kind = fits.of_kind; near = fits.near };
-      memory = written_typed blocks after at (scalar_size one.kind) writes.0 memory (subst (All IsTypedCell) (sym writes.1) (typed_value one.kind value fits.near));
+      given = record { kind = one.kind; kind_is = one.kind_is; of_kind = fits.of_kind; leads = fits.leads };
+      memory = written_typed program blocks after at (scalar_size one.kind) writes.0 memory (subst (All (IsTypedCell program)) (sym writes.1) (typed_value program one.kind value fits.leads));
       shapes = written_shapes blocks after at (scalar_size one.kind) writes.0;
     }))))
 
 -- ---- structures and unions
 
 -- the cells of a value of a structure or union
-pub record AreNewCells (size : ℕ) (held : List Cell) : Type 0 where
+pub record AreNewCells (program : CProgram) (size : ℕ) (held : List Cell) : Type 0 where
   all : length held ≡ size
-  typed : All IsTypedCell held
+  typed : All (IsTypedCell program) held
 
-sized_cells : (size : ℕ) (held : List Cell) (test : Bool) → (length held == size) ≡ test → AreNewCells size held → Comes (AreNewCells size) (if test then Ok held else Err stuck)
-sized_cells size held true e is = is
-sized_cells size held false e is = absurd (true≢false (sym (ap (λ n. n == size) is.all ∙ same_number size) ∙ e))
+sized_cells : (program : CProgram) (size : ℕ) (held : List Cell) (test : Bool) → (length held == size) ≡ test → AreNewCells program size held → Comes (AreNewCells program size) (if test then Ok held else Err stuck)
+sized_cells program size held true e is = is
+sized_cells program size held false e is = absurd (true≢false (sym (ap (λ n. n == size) is.all ∙ same_number size) ∙ e))
   where
     same_number : (n : ℕ) → (n == n) ≡ true
     same_number n = grind (arith, nat_tests)
 
 new_cells : (program : CProgram) (type : CTy) (laid : Laid) (new : CValue) → extent_in (setting_of program) type ≡ Some laid → IsRecordForm (form_of_type type) → IsStorable program type new
-    → Comes (AreNewCells laid.size) (cells_in laid.size new)
+    → Comes (AreNewCells program laid.size) (cells_in laid.size new)
 new_cells program type laid (cells held from) e record_is (inl is) =
     let same : is.laid ≡ laid = cc (is.laid_is, e) in
-    sized_cells laid.size held (length held == laid.size) refl (record { all = is.all ∙ ap (λ one. one.size) same; typed = is.typed })
+    sized_cells program laid.size held (length held == laid.size) refl (record { all = is.all ∙ ap (λ one. one.size) same; typed = is.typed })
 new_cells program type laid (cells held from) e record_is (inr is) = absurd is
 new_cells program type laid (scalar value) e record_is (inl is) = absurd (record_no_scalar program.types (form_of_type type) is.kind record_is is.kind_is)
 new_cells program type laid (scalar value) e record_is (inr is) = absurd is
@@ -198,10 +197,10 @@ record_writes blocks after at align held made =
       refl,
     )
 
-record_stored : (program : CProgram) (type : CTy) (blocks : Blocks) (at : Ptr) (marks : Marks) (new : CValue) (one : IsRecordAccess program type) → IsTypedMemory blocks → IsStorable program type new
+record_stored : (program : CProgram) (type : CTy) (blocks : Blocks) (at : Ptr) (marks : Marks) (new : CValue) (one : IsRecordAccess program type) → IsTypedMemory program blocks → IsStorable program type new
     → Comes (IsStoredOf program type blocks) (stored_record blocks at marks new one.laid)
 record_stored program type blocks at marks new one memory is =
-    comes_and (AreNewCells one.laid.size) (IsStoredOf program type blocks) (cells_in one.laid.size new) _ (new_cells program type one.laid new one.laid_is one.is_record is) (λ held fits.
+    comes_and (AreNewCells program one.laid.size) (IsStoredOf program type blocks) (cells_in one.laid.size new) _ (new_cells program type one.laid new one.laid_is one.is_record is) (λ held fits.
     comes_and (λ _. Unit {0}) (IsStoredOf program type blocks) (accessed (part_at blocks at one.laid.size)) _ (comes_accessed (λ _. Unit {0}) _ (λ _ _. tt)) (λ _ _.
     comes_and (λ _. Unit {0}) (IsStoredOf program type blocks) (sequenced_after marks (bits_of_bytes at one.laid.size)) _ (sequenced_comes marks _) (λ range _.
     comes_and (λ _. Unit {0}) (IsStoredOf program type blocks) (accessed (record_at blocks at one.laid.size one.laid.align)) _ (comes_accessed (λ _. Unit {0}) _ (λ _ _. tt)) (λ _ _.
@@ -210,13 +209,13 @@ record_stored program type blocks at marks new one memory is =
     let writes = record_writes blocks after at one.laid.align held made in
     record {
       given = record { is_record = one.is_record; laid = one.laid; laid_is = one.laid_is; all = fits.all; typed = fits.typed };
-      memory = written_typed blocks after at (length held) writes.0 memory (subst (All IsTypedCell) (sym writes.1) fits.typed);
+      memory = written_typed program blocks after at (length held) writes.0 memory (subst (All (IsTypedCell program)) (sym writes.1) fits.typed);
       shapes = written_shapes blocks after at (length held) writes.0;
     }))))))
 
 -- ---- any of them
 
-kind_stored : (program : CProgram) (type : CTy) (blocks : Blocks) (at : Ptr) (marks : Marks) (new : CValue) (kind : CKind) → kind_of (setting_of program) type ≡ Ok kind → IsAccess program type → IsTypedMemory blocks → IsStorable program type new
+kind_stored : (program : CProgram) (type : CTy) (blocks : Blocks) (at : Ptr) (marks : Marks) (new : CValue) (kind : CKind) → kind_of (setting_of program) type ≡ Ok kind → IsAccess program type → IsTypedMemory program blocks → IsStorable program type new
     → Comes (IsStoredOf program type blocks) (stored_kind blocks at marks new kind)
 kind_stored program type blocks at marks new kind e (inl one) memory is =
     let same : of_scalar one.kind ≡ kind = cc (one.access, e) in
@@ -226,7 +225,7 @@ kind_stored program type blocks at marks new kind e (inr one) memory is =
     subst (λ k. Comes (IsStoredOf program type blocks) (stored_kind blocks at marks new k)) same (record_stored program type blocks at marks new one memory is)
 
 -- a store in an object that isn't a bit-field
-pub store_comes : (program : CProgram) (type : CTy) (blocks : Blocks) (new : CValue) (marks : Marks) (place : Result Value CWhy) → IsAccess program type → IsTypedMemory blocks → IsStorable program type new → Comes IsObjectPointer place
+pub store_comes : (program : CProgram) (type : CTy) (blocks : Blocks) (new : CValue) (marks : Marks) (place : Result Value CWhy) → IsAccess program type → IsTypedMemory program blocks → IsStorable program type new → Comes IsObjectPointer place
     → Comes (IsStoredOf program type blocks) (stored_to (setting_of program) blocks type new marks place)
 store_comes program type blocks new marks place access memory is there =
     comes_and (λ kind. kind_of (setting_of program) type ≡ Ok kind) (IsStoredOf program type blocks) (kind_of (setting_of program) type) _ (kind_comes program type access) (λ kind e.

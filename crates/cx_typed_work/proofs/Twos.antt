@@ -2,12 +2,12 @@
 use Rattle.std.proofs.Common.{◌≡◌, ◌⊎◌, inl, inr, ℕ, Bool, true, false, Option, Some, None, IsSome, Result, Ok, Err, refl, sym, ap, subst, ◌∙◌}
 use Rattle.cr_base.specs.declared.refusal.Place.{Place}
 use Rattle.cr_base.specs.declared.scalar.Scalar.{Scalar}
-use Rattle.cr_base.specs.declared.scalar.Scalar.TheVariants.{Object}
+use Rattle.cr_base.specs.declared.scalar.Scalar.TheVariants.{Object, Code}
 use Rattle.cx_core.specs.Conversions.{scalar_of, scalar_of_pointer, IsScalarType, IsPromoted}
 use Rattle.cx_core.specs.declared.expr.Op2.{Op2}
 use Rattle.cx_core.specs.declared.expr.Op2.TheVariants.{Multiply, Divide, Remainder, Add, Subtract, ShiftLeft, ShiftRight, Less, Greater, LessOrEqual, GreaterOrEqual, Equal, NotEqual, BitAnd, BitXor, BitOr}
 use Rattle.cx_core.specs.Trees.{CTy, ty, CTyForm, void, basic, enum_type, pointer, array, record_type, function, form_of_type, CTypes, CProgram, CExpr, expr, binary, type_of}
-use Rattle.cx_core.specs.Typing.{CHome, IsTyped, IsElementPointer, AreCommon, IsMoved, PointAlike, IsDifference, IsShift, AreNumbers, AreOrdered, AreEqual, IsBinaryOf}
+use Rattle.cx_core.specs.Typing.{CHome, IsTyped, IsElementPointer, AreCommon, IsMoved, PointAlike, IsDifference, IsShift, AreNumbers, AreOrdered, AreEqual, int_type, difference_type, IsBinaryOf}
 use Rattle.cx_mean.specs.Nodes.{typed_value}
 use Rattle.cx_mean.specs.Operands.{CWhy, CValue, scalar, COperand, scalar_value}
 use Rattle.cx_mean.specs.Settings.{setting_of}
@@ -21,9 +21,9 @@ use Rattle.cx_typed_values.specs.Outcomes.{Comes}
 use Rattle.cx_typed_values.specs.Values.{IsScalarOf, AreObjects}
 use Rattle.cx_typed_work.proofs.Given.{value_given}
 use Rattle.cx_typed_work.proofs.Nodes.{scalar_comes}
-use Rattle.cx_typed_work.proofs.Operators.{some_of, integer_is_scalar}
+use Rattle.cx_typed_work.proofs.Operators.{some_of, integer_is_scalar, scalar_out, scalar_in, promoted_no_code}
 use Rattle.cx_typed_work.proofs.Outcomes.{comes_and}
-use Rattle.cx_typed_work.specs.Operands.{IsGivenBy, IsOperandOf}
+use Rattle.cx_typed_work.specs.Operands.{IsScalarIn, IsGivenBy, IsOperandOf}
 
 -- ---- operands of operators are scalar (6.5.5 to 6.5.12)
 
@@ -123,13 +123,72 @@ both_scalar types GreaterOrEqual type left right is = order_scalar types type le
 both_scalar types Equal type left right is = equality_scalar types type left right is
 both_scalar types NotEqual type left right is = equality_scalar types type left right is
 
+-- ---- what they give is no pointer to a function
+
+element_no_code : (types : CTypes) (type : CTy) → IsElementPointer types type → scalar_of types (form_of_type type) ≡ Some Code → ⊥
+element_no_code types (ty (pointer (ty void inner)) is_const) is e = cc
+element_no_code types (ty (pointer (ty (basic which) inner)) is_const) is e = cc
+element_no_code types (ty (pointer (ty (enum_type number) inner)) is_const) is e = cc
+element_no_code types (ty (pointer (ty (pointer to) inner)) is_const) is e = cc
+element_no_code types (ty (pointer (ty (array element length) inner)) is_const) is e = cc
+element_no_code types (ty (pointer (ty (record_type number) inner)) is_const) is e = cc
+element_no_code types (ty (pointer (ty (function result params variadic) inner)) is_const) is e = cc (is.1)
+element_no_code types (ty void is_const) is e = absurd is
+element_no_code types (ty (basic which) is_const) is e = absurd is
+element_no_code types (ty (enum_type number) is_const) is e = absurd is
+element_no_code types (ty (array element length) is_const) is e = absurd is
+element_no_code types (ty (record_type number) is_const) is e = absurd is
+element_no_code types (ty (function result params variadic) is_const) is e = absurd is
+
+moved_no_code : (types : CTypes) (type pointer_type by : CTy) → IsMoved types type pointer_type by → scalar_of types (form_of_type type) ≡ Some Code → ⊥
+moved_no_code types type pointer_type by is e = element_no_code types pointer_type is.elements (subst (λ (t : CTy). scalar_of types (form_of_type t) ≡ Some Code) is.type_is e)
+
+sum_no_code : (types : CTypes) (type left right : CTy) → AreCommon type left right ⊎ (IsMoved types type left right ⊎ IsMoved types type right left) → scalar_of types (form_of_type type) ≡ Some Code → ⊥
+sum_no_code types type left right (inl is) = promoted_no_code types type is.promoted
+sum_no_code types type left right (inr (inl is)) = moved_no_code types type left right is
+sum_no_code types type left right (inr (inr is)) = moved_no_code types type right left is
+
+plain_no_code : (types : CTypes) (type other : CTy) → type ≡ other → (scalar_of types (form_of_type other) ≡ Some Code → ⊥) → scalar_of types (form_of_type type) ≡ Some Code → ⊥
+plain_no_code types type other same never e = never (subst (λ (t : CTy). scalar_of types (form_of_type t) ≡ Some Code) same e)
+
+subtraction_no_code : (types : CTypes) (type left right : CTy) → AreCommon type left right ⊎ (IsMoved types type left right ⊎ IsDifference types type left right) → scalar_of types (form_of_type type) ≡ Some Code → ⊥
+subtraction_no_code types type left right (inl is) = promoted_no_code types type is.promoted
+subtraction_no_code types type left right (inr (inl is)) = moved_no_code types type left right is
+subtraction_no_code types type left right (inr (inr is)) = plain_no_code types type difference_type is.type_is (λ e. cc)
+
+order_no_code : (types : CTypes) (type left right : CTy) → AreNumbers type left right ⊎ AreOrdered types type left right → scalar_of types (form_of_type type) ≡ Some Code → ⊥
+order_no_code types type left right (inl is) = plain_no_code types type int_type is.type_is (λ e. cc)
+order_no_code types type left right (inr is) = plain_no_code types type int_type is.type_is (λ e. cc)
+
+equality_no_code : (types : CTypes) (type left right : CTy) → AreNumbers type left right ⊎ AreEqual types type left right → scalar_of types (form_of_type type) ≡ Some Code → ⊥
+equality_no_code types type left right (inl is) = plain_no_code types type int_type is.type_is (λ e. cc)
+equality_no_code types type left right (inr is) = plain_no_code types type int_type is.type_is (λ e. cc)
+
+binary_no_code : (types : CTypes) (op : Op2) (type left right : CTy) → IsBinaryOf types op type left right → scalar_of types (form_of_type type) ≡ Some Code → ⊥
+binary_no_code types Multiply type left right is = promoted_no_code types type is.promoted
+binary_no_code types Divide type left right is = promoted_no_code types type is.promoted
+binary_no_code types Remainder type left right is = promoted_no_code types type is.promoted
+binary_no_code types BitAnd type left right is = promoted_no_code types type is.promoted
+binary_no_code types BitXor type left right is = promoted_no_code types type is.promoted
+binary_no_code types BitOr type left right is = promoted_no_code types type is.promoted
+binary_no_code types Add type left right is = sum_no_code types type left right is
+binary_no_code types Subtract type left right is = subtraction_no_code types type left right is
+binary_no_code types ShiftLeft type left right is = promoted_no_code types type is.promoted
+binary_no_code types ShiftRight type left right is = promoted_no_code types type is.promoted
+binary_no_code types Less type left right is = order_no_code types type left right is
+binary_no_code types Greater type left right is = order_no_code types type left right is
+binary_no_code types LessOrEqual type left right is = order_no_code types type left right is
+binary_no_code types GreaterOrEqual type left right is = order_no_code types type left right is
+binary_no_code types Equal type left right is = equality_no_code types type left right is
+binary_no_code types NotEqual type left right is = equality_no_code types type left right is
+
 -- ---- the node
 
 -- an operand with its type
 typed_comes : (home : CHome) (node : CExpr) (operand : COperand) → IsTyped home node → IsScalarType home.program.types (type_of node) → IsOperandOf home node operand
-    → Comes (λ (one : CTyped). (one.type ≡ type_of node) × IsScalarOf home.program.types (type_of node) one.value) (typed_value operand)
+    → Comes (λ (one : CTyped). (one.type ≡ type_of node) × IsScalarIn home.program (type_of node) one.value) (typed_value operand)
 typed_comes home node operand is scalar_is given =
-    comes_and (IsScalarOf home.program.types (type_of node)) (λ (one : CTyped). (one.type ≡ type_of node) × IsScalarOf home.program.types (type_of node) one.value) (scalar_value operand.value) _
+    comes_and (IsScalarIn home.program (type_of node)) (λ (one : CTyped). (one.type ≡ type_of node) × IsScalarIn home.program (type_of node) one.value) (scalar_value operand.value) _
     (scalar_comes home.program node operand.value scalar_is (value_given home node operand.value is given.given)) (λ value fits. (given.type_is, fits))
 
 pub binary_comes : (home : CHome) (type : CTy) (place : Place) (op : Op2) (left right : CExpr) (blocks : Blocks) (one other : COperand) → AreObjects blocks → IsTyped home (expr type place (binary op left right))
@@ -139,10 +198,10 @@ pub binary_comes : (home : CHome) (type : CTy) (place : Place) (op : Op2) (left 
 binary_comes home type place op left right blocks one other objects is first second =
     let are = both_scalar home.program.types op type (type_of left) (type_of right) is.1.2 in
     let Goal = IsGivenBy home (expr type place (binary op left right)) in
-    comes_and (λ (t : CTyped). (t.type ≡ type_of left) × IsScalarOf home.program.types (type_of left) t.value) Goal (typed_value one) _ (typed_comes home left one is.1.0 are.left_is first) (λ a fits.
-    comes_and (λ (t : CTyped). (t.type ≡ type_of right) × IsScalarOf home.program.types (type_of right) t.value) Goal (typed_value other) _ (typed_comes home right other is.1.1 are.right_is second) (λ b good.
+    comes_and (λ (t : CTyped). (t.type ≡ type_of left) × IsScalarIn home.program (type_of left) t.value) Goal (typed_value one) _ (typed_comes home left one is.1.0 are.left_is first) (λ a fits.
+    comes_and (λ (t : CTyped). (t.type ≡ type_of right) × IsScalarIn home.program (type_of right) t.value) Goal (typed_value other) _ (typed_comes home right other is.1.1 are.right_is second) (λ b good.
     comes_and (IsScalarOf home.program.types type) Goal (binary_value (setting_of home.program) op type blocks a b) _
     (subst (λ l. Comes (IsScalarOf home.program.types type) (binary_value (setting_of home.program) op type blocks (record { type = l; value = a.value }) b)) (sym fits.0)
     (subst (λ r. Comes (IsScalarOf home.program.types type) (binary_value (setting_of home.program) op type blocks (record { type = type_of left; value = a.value }) (record { type = r; value = b.value }))) (sym good.0)
-    (binary_values home.program op type (type_of left) (type_of right) blocks a.value b.value objects is.1.2 fits.1 good.1)))
-    (λ new done. inr (is, inl done))))
+    (binary_values home.program op type (type_of left) (type_of right) blocks a.value b.value objects is.1.2 (scalar_out home.program (type_of left) a.value fits.1) (scalar_out home.program (type_of right) b.value good.1))))
+    (λ new done. inr (is, inl (scalar_in home.program type new (binary_no_code home.program.types op type (type_of left) (type_of right) is.1.2) done)))))

@@ -3,17 +3,20 @@
 use Rattle.std.specs.Prelude.{◌≡◌, ◌⊎◌, ℕ, ◌≤◌, zero, suc, Bool, true, false, ◌||◌, Option, Some, None, List, length, All, IsTrue}
 use Rattle.cr_base.specs.declared.layout.Laid.{Laid}
 use Rattle.cr_base.specs.declared.layout.Spot.{Spot}
+use Rattle.cr_base.specs.declared.scalar.Scalar.{Scalar}
+use Rattle.cx_core.specs.Conversions.{scalar_of}
 use Rattle.cx_core.specs.Trees.{CTy, CTyForm, void, basic, enum_type, pointer, array, record_type, function, form_of_type, CTypes, CProgram, CExpr, expr, CForm, whole, null, object, code, load, deref, member, address, convert, unary, binary, and, or, cond, assign, assign_by, step, call, call_by, comma, literal, type_of}
 use Rattle.cx_core.specs.Typing.{CHome, IsTyped, IsLvalue, is_bit_field}
 use Rattle.cx_mean.specs.Accesses.{is_field_place}
 use Rattle.cx_mean.specs.Operands.{CValue, scalar, cells, names, designates, designates_bits, missing, COperand}
 use Rattle.cx_mean.specs.Settings.{setting_of, extent_in}
+use Rattle.mem_bytes.specs.Coding.{IsValueOf}
 use Rattle.mem_bytes.specs.declared.cell.Cell.{Cell}
 use Rattle.mem_bytes.specs.declared.value.Ptr.{Ptr}
 use Rattle.mem_bytes.specs.declared.value.Value.{Value}
 use Rattle.mem_bytes.specs.declared.value.Value.TheVariants.{Whole as Number, Null, Object as Pointer, Code as Function}
-use Rattle.cx_typed_values.specs.Values.{IsScalarOf, most_bytes}
-use Rattle.cx_typed_work.specs.Scenes.{IsTypedCell}
+use Rattle.cx_typed_values.specs.Values.{most_bytes}
+use Rattle.cx_typed_work.specs.Scenes.{IsLeading, IsTypedCell}
 
 -- ---- values
 
@@ -26,17 +29,24 @@ IsRecordForm (pointer to) = ⊥
 IsRecordForm (array element length) = ⊥
 IsRecordForm (function result params variadic) = ⊥
 
--- the value of a structure or union has a typed cell for each byte of its type
+-- the value of a structure or union has a typed cell for each byte of its type (6.2.6.1p4, p6)
 pub record IsRecordOf (program : CProgram) (type : CTy) (held : List Cell) : Type 0 where
   pub is_record : IsRecordForm (form_of_type type)
   pub laid : Laid
   pub laid_is : extent_in (setting_of program) type ≡ Some laid
   pub all : length held ≡ laid.size
-  pub typed : All IsTypedCell held
+  pub typed : All (IsTypedCell program) held
 
--- a value of a type (6.2.6.1p4)
+-- a value of a scalar type, as a store takes it (6.2.5p21)
+pub record IsScalarIn (program : CProgram) (type : CTy) (value : Value) : Type 0 where
+  pub kind : Scalar
+  pub kind_is : scalar_of program.types (form_of_type type) ≡ Some kind
+  pub of_kind : IsValueOf kind value
+  pub leads : IsLeading program value
+
+-- a value of a type (6.2.5p1)
 abbrev pub IsValueOfType : CProgram → CTy → CValue → Type 0
-IsValueOfType program type (scalar value) = IsScalarOf program.types type value
+IsValueOfType program type (scalar value) = IsScalarIn program type value
 IsValueOfType program type (cells held from) = IsRecordOf program type held
 IsValueOfType program type (names number) = ⊥
 IsValueOfType program type (designates value) = ⊥

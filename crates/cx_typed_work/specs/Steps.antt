@@ -24,14 +24,14 @@ AreGivenArguments program (first ∷ others) = IsValueOfType program first.type 
 -- what the step of a typed expression leaves: a typed tree, in a memory with the same live blocks; a call with values of the types of its
 -- arguments, for which a typed tree waits; or a broken rule
 abbrev pub StepLeaves : CHome → CExpr → Blocks → CStepped → Type 0
-StepLeaves home node blocks (Ok (did work after)) = IsTypedWork home node work × AreSameShapes blocks after × IsTypedMemory after
+StepLeaves home node blocks (Ok (did work after)) = IsTypedWork home node work × AreSameShapes blocks after × IsTypedMemory home.program after
 StepLeaves home node blocks (Ok (asks_call called work)) =
     IsTypedWork home node work × AreGivenArguments home.program called.args
 StepLeaves home node blocks (Err fault) = IsRule fault.why
 
 -- Law: what is begun of a typed expression is typed
 abbrev pub ExpressionsBeginTyped : Type 0
-ExpressionsBeginTyped = (home : CHome) (node : CExpr) → IsTypedNode home node → IsTypedWork home node (begun node)
+ExpressionsBeginTyped = (home : CHome) (node : CExpr) → home.mentions ≡ None → IsTypedNode home node → IsTypedWork home node (begun node)
 
 -- Law: a step at any ready node keeps it typed
 abbrev pub StepsKeepTyped : Type 0

@@ -4,15 +4,14 @@ use Rattle.std.specs.Prelude.{◌≡◌, ◌⊎◌, ℕ, ℤ, pos, Bool, true, f
 use Rattle.cx_core.specs.Conversions.{promoted}
 use Rattle.cx_core.specs.declared.expr.Op2.{Op2}
 use Rattle.cx_core.specs.declared.expr.Op2.TheVariants.{Add, Subtract}
-use Rattle.cx_core.specs.Trees.{CTy, CTypes, unqualified, CExpr, expr, CForm, whole, null, object, code, load, deref, member, address, convert, unary, binary, and, or, cond, assign, assign_by, step, call, call_by, comma, literal, CExprs, no_exprs, more_exprs, CPut, put, CPuts, no_puts, more_puts, type_of}
+use Rattle.cx_core.specs.Trees.{CTy, CProgram, unqualified, CExpr, expr, CForm, whole, null, object, code, load, deref, member, address, convert, unary, binary, and, or, cond, assign, assign_by, step, call, call_by, comma, literal, CExprs, no_exprs, more_exprs, CPut, put, CPuts, no_puts, more_puts, type_of}
 use Rattle.cx_core.specs.Typing.{CHome, IsTyped, IsLvalue, types_of_home, width_of}
 use Rattle.cx_mean.specs.Marks.{Marks}
 use Rattle.cx_mean.specs.Operands.{CValue}
 use Rattle.cx_mean.specs.Values.{CTyped}
 use Rattle.cx_mean.specs.Work.{CUpdate, CStage, was_loaded, was_computed, was_converted, CWork, finished, needs, chooses, tests, carries, updates, fills, waits, CWorks, no_works, more_works, is_finished}
 use Rattle.mem_bytes.specs.declared.value.Value.TheVariants.{Whole as Number}
-use Rattle.cx_typed_values.specs.Values.{IsScalarOf}
-use Rattle.cx_typed_work.specs.Operands.{IsPlaceOf, IsOperandOf}
+use Rattle.cx_typed_work.specs.Operands.{IsScalarIn, IsPlaceOf, IsOperandOf}
 
 -- ---- nodes and their operands
 
@@ -22,7 +21,7 @@ form_in (expr type place form) = form
 abbrev pub one_operand : CExpr → CExprs
 one_operand one = more_exprs one no_exprs
 
--- the operands of a node that needs them all; none where it takes its parts one after the other
+-- the operands of a node that needs them all; none where it takes its parts one after the other, or is finished at once
 abbrev operands_in_form : CForm → Option CExprs
 operands_in_form (load from) = Some (one_operand from)
 operands_in_form (deref from) = Some (one_operand from)
@@ -115,13 +114,13 @@ changes_of home (expr type place form) = changes_in home form
 -- the type of the value that is computed, or stored
 abbrev IsStageOf : CHome → CChanges → CStage → Type 0
 IsStageOf home change was_loaded = Unit {0}
-IsStageOf home change (was_computed value) = IsScalarOf (types_of_home home) change.computes value
-IsStageOf home change (was_converted value) = IsScalarOf (types_of_home home) (unqualified (type_of change.target)) value
+IsStageOf home change (was_computed value) = IsScalarIn home.program change.computes value
+IsStageOf home change (was_converted value) = IsScalarIn home.program (unqualified (type_of change.target)) value
 
 -- what it computes with: a value of the operand's type, or 1
-abbrev IsRightOf : CTypes → Option CTy → CTyped → Type 0
-IsRightOf types None right = right.value ≡ Number (pos 1)
-IsRightOf types (Some type) right = (right.type ≡ type) × IsScalarOf types type right.value
+abbrev IsRightOf : CProgram → Option CTy → CTyped → Type 0
+IsRightOf program None right = right.value ≡ Number (pos 1)
+IsRightOf program (Some type) right = (right.type ≡ type) × IsScalarIn program type right.value
 
 -- what the node keeps of its operands
 pub record IsUpdateOf (home : CHome) (node : CExpr) (update : CUpdate) (stage : CStage) : Type 0 where
@@ -129,11 +128,11 @@ pub record IsUpdateOf (home : CHome) (node : CExpr) (update : CUpdate) (stage : 
   pub change_is : changes_of home node ≡ Some change
   pub op_is : update.op ≡ change.op
   pub computes_is : update.computes ≡ change.computes
-  pub right : IsRightOf (types_of_home home) change.right update.right
+  pub right : IsRightOf home.program change.right update.right
   pub target_type_is : update.target_type ≡ unqualified (type_of change.target)
   pub target : IsPlaceOf change.target update.target
   pub postfix_is : update.is_postfix ≡ change.is_postfix
-  pub old : IsScalarOf (types_of_home home) (unqualified (type_of change.target)) update.old
+  pub old : IsScalarIn home.program (unqualified (type_of change.target)) update.old
   pub stage_is : IsStageOf home change stage
 
 -- ---- puts of compound literals (6.5.2.5)
