@@ -2,12 +2,14 @@ pub mod Accesses
 pub mod Begun
 pub mod BitStores
 pub mod Bits
+pub mod Choices
 pub mod Fields
 pub mod Given
 pub mod GoesOn
 pub mod Loads
 pub mod Lvalues
 pub mod Memories
+pub mod NodeSteps
 pub mod Nodes
 pub mod Operators
 pub mod Outcomes

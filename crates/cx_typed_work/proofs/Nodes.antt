@@ -73,7 +73,7 @@ scalar_comes program node (designates_bits at bit width) is (inr given) = absurd
 
 -- ---- what a pointer points to (6.5.3.2p4)
 
-object_kind : (to : CTy) → IsObjectForm (form_of_type to) → scalar_of_pointer to ≡ Object
+pub object_kind : (to : CTy) → IsObjectForm (form_of_type to) → scalar_of_pointer to ≡ Object
 object_kind (ty void is_const) is = absurd is
 object_kind (ty (basic which) is_const) is = refl
 object_kind (ty (enum_type number) is_const) is = refl

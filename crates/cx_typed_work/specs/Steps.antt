@@ -17,7 +17,7 @@ IsRule (breaks rule) = Unit {0}
 IsRule stuck = ⊥
 
 -- the arguments of a call: each has a value of its type
-abbrev AreGivenArguments : CProgram → List COperand → Type 0
+abbrev pub AreGivenArguments : CProgram → List COperand → Type 0
 AreGivenArguments program [] = Unit {0}
 AreGivenArguments program (first ∷ others) = IsValueOfType program first.type first.value × AreGivenArguments program others
 
