@@ -3,6 +3,7 @@ pub mod Begun
 pub mod BitStores
 pub mod Bits
 pub mod Choices
+pub mod Computing
 pub mod Fields
 pub mod Given
 pub mod GoesOn
@@ -17,3 +18,5 @@ pub mod Places
 pub mod Spots
 pub mod Stores
 pub mod Twos
+pub mod Updates
+pub mod Updating

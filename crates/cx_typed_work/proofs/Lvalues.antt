@@ -61,7 +61,7 @@ plain_field : (types : CTypes) (form : CTyForm) (is_const : Bool) (width : ℕ) 
 plain_field types form is_const width one = record { kind = one.kind; kind_is = one.kind_is; fits = one.fits; narrow = one.narrow }
 
 -- a type without its qualifier stands where it does, but for arrays, which have none
-plain_type_in : (types : CTypes) (unit : ℕ) (form : CTyForm) (is_const : Bool) → IsTypeIn types unit (ty form is_const) → IsResultForm form → IsTypeIn types unit (ty form false)
+pub plain_type_in : (types : CTypes) (unit : ℕ) (form : CTyForm) (is_const : Bool) → IsTypeIn types unit (ty form is_const) → IsResultForm form → IsTypeIn types unit (ty form false)
 plain_type_in types unit void is_const is result = is
 plain_type_in types unit (basic which) is_const is result = is
 plain_type_in types unit (enum_type number) is_const is result = is

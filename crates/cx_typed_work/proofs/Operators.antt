@@ -40,7 +40,7 @@ some_of found one e = subst IsSome (sym e) refl
 pub integer_is_scalar : (types : CTypes) (type : CTy) → IsIntegerType types type → IsScalarType types type
 integer_is_scalar types type is = some_of (scalar_of types (form_of_type type)) _ (integer_kind types type is).kind_is
 
-pointer_is_scalar : (types : CTypes) (type : CTy) → IsPointer type → IsScalarType types type
+pub pointer_is_scalar : (types : CTypes) (type : CTy) → IsPointer type → IsScalarType types type
 pointer_is_scalar types (ty (pointer to) is_const) is = refl
 pointer_is_scalar types (ty void is_const) is = absurd is
 pointer_is_scalar types (ty (basic which) is_const) is = absurd is
@@ -100,7 +100,7 @@ promoted_no_code types type is e = let kind = promoted_kind types type is in cc 
 -- ---- conversions (6.3)
 
 -- what a conversion gives, as its node gives it
-abbrev IsConvertedIn : CProgram → CTy → CValue → Type 0
+abbrev pub IsConvertedIn : CProgram → CTy → CValue → Type 0
 IsConvertedIn program type (scalar value) = IsScalarIn program type value
 IsConvertedIn program type missing = form_of_type type ≡ void
 IsConvertedIn program type (cells held from) = ⊥

@@ -27,14 +27,14 @@ use Rattle.cx_typed_work.specs.Operands.{IsScalarIn, IsGivenBy, IsOperandOf}
 
 -- ---- operands of operators are scalar (6.5.5 to 6.5.12)
 
-record AreScalar (types : CTypes) (left right : CTy) : Type 0 where
-  left_is : IsScalarType types left
-  right_is : IsScalarType types right
+pub record AreScalar (types : CTypes) (left right : CTy) : Type 0 where
+  pub left_is : IsScalarType types left
+  pub right_is : IsScalarType types right
 
-promoted_is_scalar : (types : CTypes) (type : CTy) → IsPromoted type → IsScalarType types type
+pub promoted_is_scalar : (types : CTypes) (type : CTy) → IsPromoted type → IsScalarType types type
 promoted_is_scalar types type is = some_of (scalar_of types (form_of_type type)) _ (promoted_kind types type is).kind_is
 
-element_is_scalar : (types : CTypes) (type : CTy) → IsElementPointer types type → IsScalarType types type
+pub element_is_scalar : (types : CTypes) (type : CTy) → IsElementPointer types type → IsScalarType types type
 element_is_scalar types (ty (pointer to) is_const) is = refl
 element_is_scalar types (ty void is_const) is = absurd is
 element_is_scalar types (ty (basic which) is_const) is = absurd is
@@ -105,7 +105,7 @@ equality_scalar : (types : CTypes) (type left right : CTy) → AreNumbers type l
 equality_scalar types type left right (inl is) = numbers_scalar types type left right is
 equality_scalar types type left right (inr is) = record { left_is = alike_left types left right is.alike; right_is = alike_right types left right is.alike }
 
-both_scalar : (types : CTypes) (op : Op2) (type left right : CTy) → IsBinaryOf types op type left right → AreScalar types left right
+pub both_scalar : (types : CTypes) (op : Op2) (type left right : CTy) → IsBinaryOf types op type left right → AreScalar types left right
 both_scalar types Multiply type left right is = common_scalar types type left right is
 both_scalar types Divide type left right is = common_scalar types type left right is
 both_scalar types Remainder type left right is = common_scalar types type left right is
@@ -125,7 +125,7 @@ both_scalar types NotEqual type left right is = equality_scalar types type left 
 
 -- ---- what they give is no pointer to a function
 
-element_no_code : (types : CTypes) (type : CTy) → IsElementPointer types type → scalar_of types (form_of_type type) ≡ Some Code → ⊥
+pub element_no_code : (types : CTypes) (type : CTy) → IsElementPointer types type → scalar_of types (form_of_type type) ≡ Some Code → ⊥
 element_no_code types (ty (pointer (ty void inner)) is_const) is e = cc
 element_no_code types (ty (pointer (ty (basic which) inner)) is_const) is e = cc
 element_no_code types (ty (pointer (ty (enum_type number) inner)) is_const) is e = cc
@@ -164,7 +164,7 @@ equality_no_code : (types : CTypes) (type left right : CTy) → AreNumbers type 
 equality_no_code types type left right (inl is) = plain_no_code types type int_type is.type_is (λ e. cc)
 equality_no_code types type left right (inr is) = plain_no_code types type int_type is.type_is (λ e. cc)
 
-binary_no_code : (types : CTypes) (op : Op2) (type left right : CTy) → IsBinaryOf types op type left right → scalar_of types (form_of_type type) ≡ Some Code → ⊥
+pub binary_no_code : (types : CTypes) (op : Op2) (type left right : CTy) → IsBinaryOf types op type left right → scalar_of types (form_of_type type) ≡ Some Code → ⊥
 binary_no_code types Multiply type left right is = promoted_no_code types type is.promoted
 binary_no_code types Divide type left right is = promoted_no_code types type is.promoted
 binary_no_code types Remainder type left right is = promoted_no_code types type is.promoted
@@ -185,7 +185,7 @@ binary_no_code types NotEqual type left right is = equality_no_code types type l
 -- ---- the node
 
 -- an operand with its type
-typed_comes : (home : CHome) (node : CExpr) (operand : COperand) → IsTyped home node → IsScalarType home.program.types (type_of node) → IsOperandOf home node operand
+pub typed_comes : (home : CHome) (node : CExpr) (operand : COperand) → IsTyped home node → IsScalarType home.program.types (type_of node) → IsOperandOf home node operand
     → Comes (λ (one : CTyped). (one.type ≡ type_of node) × IsScalarIn home.program (type_of node) one.value) (typed_value operand)
 typed_comes home node operand is scalar_is given =
     comes_and (IsScalarIn home.program (type_of node)) (λ (one : CTyped). (one.type ≡ type_of node) × IsScalarIn home.program (type_of node) one.value) (scalar_value operand.value) _

@@ -112,13 +112,13 @@ abbrev pub changes_of : CHome → CExpr → Option CChanges
 changes_of home (expr type place form) = changes_in home form
 
 -- the type of the value that is computed, or stored
-abbrev IsStageOf : CHome → CChanges → CStage → Type 0
+abbrev pub IsStageOf : CHome → CChanges → CStage → Type 0
 IsStageOf home change was_loaded = Unit {0}
 IsStageOf home change (was_computed value) = IsScalarIn home.program change.computes value
 IsStageOf home change (was_converted value) = IsScalarIn home.program (unqualified (type_of change.target)) value
 
 -- what it computes with: a value of the operand's type, or 1
-abbrev IsRightOf : CProgram → Option CTy → CTyped → Type 0
+abbrev pub IsRightOf : CProgram → Option CTy → CTyped → Type 0
 IsRightOf program None right = right.value ≡ Number (pos 1)
 IsRightOf program (Some type) right = (right.type ≡ type) × IsScalarIn program type right.value
 
