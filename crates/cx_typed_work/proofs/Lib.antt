@@ -9,6 +9,7 @@ pub mod Given
 pub mod GoesOn
 pub mod Loads
 pub mod Lvalues
+pub mod Members
 pub mod Memories
 pub mod NodeSteps
 pub mod Nodes
