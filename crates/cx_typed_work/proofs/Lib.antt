@@ -7,6 +7,7 @@ pub mod Computing
 pub mod Fields
 pub mod Given
 pub mod GoesOn
+pub mod Induction
 pub mod Loads
 pub mod Lvalues
 pub mod Members
