@@ -62,17 +62,17 @@ operand_tested home node blocks value is scalar_is given =
 -- ---- the part that gives the value (6.5.15p4, 6.5.17p2)
 
 -- what a part gives is what the node gives
-record IsPartOf (home : CHome) (node part : CExpr) : Type 0 where
-  part_typed : IsTyped home part
-  type_is : type_of part ≡ type_of node
-  lacks : IsTrue (may_lack part) → IsTrue (may_lack node)
-  among : (work : CWork) → IsWorkOf home part work → AnyPart (chosen_parts node) (λ one. IsWorkOf home one work)
+pub record IsPartOf (home : CHome) (node part : CExpr) : Type 0 where
+  pub part_typed : IsTyped home part
+  pub type_is : type_of part ≡ type_of node
+  pub lacks : IsTrue (may_lack part) → IsTrue (may_lack node)
+  pub among : (work : CWork) → IsWorkOf home part work → AnyPart (chosen_parts node) (λ one. IsWorkOf home one work)
 
 part_given : (home : CHome) (node part : CExpr) (value : CValue) → IsTyped home node → IsPartOf home node part → IsGiven home.program part value → IsGivenBy home node value
 part_given home node part value is one (inl good) = inr (is, inl (subst (λ t. IsValueOfType home.program t value) one.type_is good))
 part_given home node part value is one (inr lacks) = inr (is, inr (one.lacks lacks.0, lacks.1))
 
-part_carried : (home : CHome) (node part : CExpr) (marks : Marks) (work : CWork) → IsTyped home node → IsPartOf home node part → IsWorkOf home part work → IsWorkOf home node (carried node marks work)
+pub part_carried : (home : CHome) (node part : CExpr) (marks : Marks) (work : CWork) → IsTyped home node → IsPartOf home node part → IsWorkOf home part work → IsWorkOf home node (carried node marks work)
 part_carried home node part marks (finished operand) is one left =
     record { type_is = left.type_is ∙ one.type_is; given = part_given home node part operand.value is one (value_given home part operand.value one.part_typed left.given) }
 part_carried home node part marks (needs own operands) is one left = (refl, refl, one.among (needs own operands) left)
@@ -126,11 +126,11 @@ carries_leaves : (home : CHome) (type : CTy) (place : Place) (form : CForm) (blo
 carries_leaves home type place form blocks marks part none memory is one =
     did_here home (expr type place form) blocks _ memory is (part_carried home (expr type place form) part marks (begun part) is one (begun_typed home part none (inl one.part_typed)))
 
-first_part_of : (home : CHome) (type : CTy) (place : Place) (test first second : CExpr) → IsTyped home (expr type place (cond test first second)) → IsPartOf home (expr type place (cond test first second)) first
+pub first_part_of : (home : CHome) (type : CTy) (place : Place) (test first second : CExpr) → IsTyped home (expr type place (cond test first second)) → IsPartOf home (expr type place (cond test first second)) first
 first_part_of home type place test first second is =
     record { part_typed = is.1.1; type_is = is.1.3.first_is; lacks = either_true (may_lack first) (may_lack second); among = λ work left. inl left }
 
-second_part_of : (home : CHome) (type : CTy) (place : Place) (test first second : CExpr) → IsTyped home (expr type place (cond test first second)) → IsPartOf home (expr type place (cond test first second)) second
+pub second_part_of : (home : CHome) (type : CTy) (place : Place) (test first second : CExpr) → IsTyped home (expr type place (cond test first second)) → IsPartOf home (expr type place (cond test first second)) second
 second_part_of home type place test first second is =
     record { part_typed = is.1.2; type_is = is.1.3.second_is; lacks = or_true (may_lack first) (may_lack second); among = λ work left. inr (inl left) }
 

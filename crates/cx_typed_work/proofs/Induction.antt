@@ -25,7 +25,7 @@ inside_leaves home node part blocks around (Err fault) leaves each = leaves
 
 -- ---- the operands of a typed node are typed
 
-abbrev EachTyped : CHome → CExprs → Type 0
+abbrev pub EachTyped : CHome → CExprs → Type 0
 EachTyped home no_exprs = Unit {0}
 EachTyped home (more_exprs first others) = IsTypedNode home first × EachTyped home others
 
@@ -33,7 +33,7 @@ args_typed : (home : CHome) (args : CExprs) → AreTyped home args → EachTyped
 args_typed home no_exprs are = tt
 args_typed home (more_exprs first others) are = (inl are.0, args_typed home others are.1)
 
-abbrev OperandsTyped : CHome → Option CExprs → Type 0
+abbrev pub OperandsTyped : CHome → Option CExprs → Type 0
 OperandsTyped home None = Unit {0}
 OperandsTyped home (Some parts) = EachTyped home parts
 

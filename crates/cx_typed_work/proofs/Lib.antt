@@ -19,6 +19,7 @@ pub mod Outcomes
 pub mod Places
 pub mod Spots
 pub mod Stores
+pub mod Trees
 pub mod Twos
 pub mod Updates
 pub mod Updating
