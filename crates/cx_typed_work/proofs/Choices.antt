@@ -1,19 +1,16 @@
 -- Steps of `&&`, `||`, `?:` and the comma (6.5.13 to 6.5.15, 6.5.17).
-use Rattle.std.proofs.Common.{◌≡◌, ◌⊎◌, inl, inr, ℕ, Bool, true, false, ◌||◌, IsTrue, List, [], ◌∷◌, Option, Some, None, Result, Ok, Err, refl, sym, ap, subst, ◌∙◌}
+use Rattle.std.proofs.Common.{◌≡◌, inl, inr, Bool, true, false, ◌||◌, IsTrue, None, Result, Ok, Err, refl, sym, subst, ◌∙◌}
 use Rattle.cr_base.specs.declared.refusal.Place.{Place}
 use Rattle.cr_base.specs.declared.scalar.Scalar.TheVariants.{Whole}
 use Rattle.cx_core.specs.Conversions.{IsScalarType}
-use Rattle.cx_core.specs.Trees.{CTy, CTyForm, form_of_type, CProgram, CExpr, expr, CForm, and, or, cond, comma, type_of}
+use Rattle.cx_core.specs.Trees.{CTy, CProgram, CExpr, expr, CForm, and, or, cond, comma, type_of}
 use Rattle.cx_core.specs.Typing.{CHome, IsTyped, int_type}
 use Rattle.cx_mean.specs.Marks.{Marks, at_sequence_point}
-use Rattle.cx_mean.specs.Nodes.{CChoice, decided, tests_next, carries_next, chosen, chosen_and, chosen_or, chosen_part, truth, truth_of_value, tested}
-use Rattle.cx_mean.specs.Operands.{CWhy, breaks, stuck, CValue, scalar, missing, COperand, scalar_value}
-use Rattle.cx_mean.specs.Steps.{CDid, did, asks_call, CStepped, at_node, outcome_of, finished_with, after_choice, chooses_step, tests_step}
-use Rattle.cx_mean.specs.Values.{is_true}
-use Rattle.cx_mean.specs.Work.{CWork, finished, needs, chooses, tests, carries, updates, fills, waits, begun, after_marks, carried, is_finished}
+use Rattle.cx_mean.specs.Nodes.{CChoice, carries_next, chosen, chosen_and, chosen_or, chosen_part, truth, truth_of_value, tested}
+use Rattle.cx_mean.specs.Operands.{CWhy, breaks, stuck, CValue, COperand, scalar_value}
+use Rattle.cx_mean.specs.Steps.{CDid, did, asks_call, at_node, finished_with, after_choice, chooses_step, tests_step}
+use Rattle.cx_mean.specs.Work.{CWork, finished, needs, chooses, tests, carries, updates, fills, waits, begun, after_marks, carried}
 use Rattle.cx_numbers.specs.Numbers.{number_of_truth}
-use Rattle.mem_bytes.specs.Access.{and_then}
-use Rattle.mem_bytes.specs.declared.value.Value.{Value}
 use Rattle.mem_bytes.specs.declared.value.Value.TheVariants.{Whole as Number}
 use Rattle.mem_bytes.specs.Memory.{Blocks}
 use Rattle.cx_typed_values.proofs.Operators.{truth_comes}
@@ -27,7 +24,7 @@ use Rattle.cx_typed_work.proofs.Outcomes.{comes_and}
 use Rattle.cx_typed_work.specs.Operands.{IsScalarIn, IsValueOfType, IsGiven, IsGivenBy, IsOperandOf, may_lack}
 use Rattle.cx_typed_work.specs.Scenes.{IsTypedMemory, AreSameShapes}
 use Rattle.cx_typed_work.specs.Steps.{AreGivenArguments, StepLeaves}
-use Rattle.cx_typed_work.specs.Works.{AnyPart, chosen_parts, IsWorkOf, IsTypedNode, IsTypedWork}
+use Rattle.cx_typed_work.specs.Works.{AnyPart, chosen_parts, IsWorkOf, IsTypedWork}
 
 -- ---- what a step leaves
 

@@ -1,18 +1,15 @@
 -- The types of `op=`, `++` and `--`: what they compute in, and the conversions there and back (ISO C99, 6.5.2.4, 6.5.3.1, 6.5.16.2).
-use Rattle.std.proofs.Common.{◌≡◌, ◌⊎◌, inl, inr, ℕ, ◌≤◌, nat_le, Bool, true, false, if◌then◌else◌, option_map, slice_get, Option, Some, None, IsSome, pos, refl, sym, ap, subst, ◌∙◌}
-use Rattle.cr_base.specs.declared.scalar.Scalar.{Scalar}
-use Rattle.cr_base.specs.declared.scalar.Scalar.TheVariants.{Truth, Whole, Object, Code}
-use Rattle.cx_core.specs.Conversions.{scalar_of, scalar_of_basic, basic_of, basic_of_enum, rank, precision, promoted_basic, is_promoted_basic, promoted, common_type, IsIntegerType, IsScalarType, IsPromoted}
+use Rattle.std.proofs.Common.{◌≡◌, ◌⊎◌, inl, inr, ℕ, nat_le, Bool, true, false, if◌then◌else◌, option_map, slice_get, Option, Some, None, IsSome, refl, sym, ap, subst}
+use Rattle.cr_base.specs.declared.scalar.Scalar.TheVariants.{Truth}
+use Rattle.cx_core.specs.Conversions.{basic_of, basic_of_enum, precision, promoted_basic, is_promoted_basic, promoted, common_type, IsIntegerType, IsScalarType, IsPromoted}
 use Rattle.cx_core.specs.declared.expr.Op2.{Op2}
 use Rattle.cx_core.specs.declared.expr.Op2.TheVariants.{Multiply, Divide, Remainder, Add, Subtract, ShiftLeft, ShiftRight, Less, Greater, LessOrEqual, GreaterOrEqual, Equal, NotEqual, BitAnd, BitXor, BitOr}
 use Rattle.cx_core.specs.declared.ty.Basic.{Basic}
 use Rattle.cx_core.specs.declared.ty.Basic.TheVariants as basics
-use Rattle.cx_core.specs.Trees.{CTy, ty, CTyForm, void, basic, enum_type, pointer, array, record_type, function, form_of_type, unqualified, CTypes}
-use Rattle.cx_core.specs.Typing.{IsPointer, IsElementPointer, AreJoined, IsComputedIn, IsConversion, IsMoved, IsShift, IsBinaryOf, int_type}
-use Rattle.cx_core.specs.ValidTypes.{IsTypeIn, IsResultForm}
-use Rattle.cx_typed_work.proofs.Lvalues.{plain_type_in}
+use Rattle.cx_core.specs.Trees.{CTy, ty, void, basic, enum_type, pointer, array, record_type, function, form_of_type, unqualified, CTypes}
+use Rattle.cx_core.specs.Typing.{IsPointer, IsElementPointer, AreJoined, IsComputedIn, IsConversion, IsMoved, IsShift, IsBinaryOf}
+use Rattle.cx_core.specs.ValidTypes.{IsTypeIn}
 use Rattle.cx_typed_work.proofs.Operators.{integer_is_scalar, pointer_is_scalar}
-use Rattle.cx_typed_work.proofs.Twos.{promoted_is_scalar, element_is_scalar}
 
 -- ---- what is computed in
 

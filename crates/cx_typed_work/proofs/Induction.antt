@@ -1,19 +1,15 @@
 -- A step at any ready node of a typed tree leaves a typed tree, where the steps of the nodes themselves do (ISO C99, 6.5 and 5.1.2.3).
-use Rattle.std.proofs.Common.{◌≡◌, ◌⊎◌, inl, inr, ℕ, ◌+◌, ◌-◌, ◌<◌, nat_lt, Bool, true, false, true≢false, if◌then◌else◌, IsTrue, List, [], ◌∷◌, Option, Some, None, Result, Ok, Err, refl, sym, ap, subst, ◌∙◌, arith}
+use Rattle.std.proofs.Common.{◌≡◌, inl, inr, ℕ, ◌+◌, ◌-◌, ◌<◌, nat_lt, Bool, true, false, Option, Some, None, Ok, Err, refl, arith}
 use Rattle.std.proofs.lemmas.Bool.Decides.{nat_tests}
-use Rattle.cr_base.specs.declared.refusal.Place.{Place}
-use Rattle.cx_core.specs.Trees.{CTy, CExpr, expr, CForm, whole, null, object, code, load, deref, member, address, convert, unary, binary, and, or, cond, assign, assign_by, step, call, call_by, comma, literal, CExprs, no_exprs, more_exprs, CPut, CPuts, place_of, type_of}
-use Rattle.cx_core.specs.Typing.{CHome, IsTyped, IsLvalue, AreTyped}
-use Rattle.cx_mean.specs.Marks.{Marks}
-use Rattle.cx_mean.specs.Operands.{COperand, Frame}
+use Rattle.cx_core.specs.Trees.{CExpr, expr, whole, null, object, code, load, deref, member, address, convert, unary, binary, and, or, cond, assign, assign_by, step, call, call_by, comma, literal, CExprs, no_exprs, more_exprs}
+use Rattle.cx_core.specs.Typing.{CHome, AreTyped}
+use Rattle.cx_mean.specs.Operands.{Frame}
 use Rattle.cx_mean.specs.Settings.{setting_of}
-use Rattle.cx_mean.specs.Steps.{did, asks_call, CStepped, at_node, needs_step, stage_step, put_step, place_of_put, inside, nowhere, step_at, step_among}
-use Rattle.cx_mean.specs.Work.{CWork, finished, needs, chooses, tests, carries, updates, fills, waits, CWorks, no_works, more_works, is_finished, are_finished, operands_in, one_or, ready, ready_among, carried}
+use Rattle.cx_mean.specs.Steps.{did, asks_call, CStepped, inside, step_at, step_among}
+use Rattle.cx_mean.specs.Work.{CWork, CWorks, no_works, more_works, ready, ready_among}
 use Rattle.mem_bytes.specs.Memory.{Blocks}
-use Rattle.cx_typed_work.specs.Operands.{IsOperandOf}
-use Rattle.cx_typed_work.specs.Scenes.{IsScene}
 use Rattle.cx_typed_work.specs.Steps.{StepLeaves}
-use Rattle.cx_typed_work.specs.Works.{operands_of, IfOperands, IsFilling, value_of_put, IsWorkOf, AreWorksOf, IsTypedNode, IsTypedWork}
+use Rattle.cx_typed_work.specs.Works.{operands_of, IsWorkOf, AreWorksOf, IsTypedNode, IsTypedWork}
 
 -- ---- a step of a part
 

@@ -1,17 +1,17 @@
 -- Members of lvalues as nodes: the place of a member, and of a bit-field (ISO C99, 6.5.2.3p3, p4).
-use Rattle.std.proofs.Common.{◌≡◌, ◌⊎◌, inl, inr, ℕ, zero, suc, ◌≤◌, ◌<◌, ◌==◌, ◌&&◌, not, nat_le, nat_lt, Bool, true, false, true≢false, IsTrue, pos, List, [], ◌∷◌, Option, Some, None, Result, Ok, Err, refl, sym, ap, subst, ◌∙◌, arith}
+use Rattle.std.proofs.Common.{◌≡◌, inl, ℕ, zero, suc, ◌≤◌, ◌<◌, ◌==◌, not, true, IsTrue, pos, [], ◌∷◌, Result, Ok, Err, refl, sym, ap, subst, arith}
 use Rattle.std.proofs.lemmas.Bool.Decides.{nat_tests}
 use Rattle.cr_base.specs.declared.layout.Spot.{Spot}
 use Rattle.cr_base.specs.declared.refusal.Place.{Place}
 use Rattle.cr_base.specs.declared.rule.URule.TheVariants.{U11}
 use Rattle.cx_core.specs.Trees.{CTy, form_of_type, CExpr, expr, member, type_of}
-use Rattle.cx_core.specs.Typing.{CHome, IsLvalue, is_bit_field}
+use Rattle.cx_core.specs.Typing.{CHome, IsLvalue}
 use Rattle.cx_core.specs.ValidTypes.{AreTypes, IsMemberOf}
 use Rattle.cx_mean.specs.Accesses.{is_field_place, object_at}
 use Rattle.cx_mean.specs.Initialisers.{part_with}
 use Rattle.cx_mean.specs.Marks.{Marks}
-use Rattle.cx_mean.specs.Nodes.{CDone, member_at, member_of_place, member_value, gives_value, node_done}
-use Rattle.cx_mean.specs.Operands.{CWhy, breaks, stuck, by_pointers, CValue, scalar, cells, names, designates, designates_bits, missing, COperand, Frame, place_in, united_operands}
+use Rattle.cx_mean.specs.Nodes.{member_at, member_of_place, member_value, node_done}
+use Rattle.cx_mean.specs.Operands.{by_pointers, CValue, scalar, cells, names, designates, designates_bits, missing, COperand, Frame, place_in, united_operands}
 use Rattle.cx_mean.specs.Settings.{setting_of}
 use Rattle.mem_bytes.specs.Access.{and_then}
 use Rattle.mem_bytes.specs.declared.pointer.PointerFault.{PointerFault}
@@ -29,7 +29,7 @@ use Rattle.cx_typed_work.proofs.Given.{place_given, place_comes, IsBits}
 use Rattle.cx_typed_work.proofs.Lvalues.{field_of_place}
 use Rattle.cx_typed_work.proofs.Nodes.{IsDoneOf, gives_comes, operands_united}
 use Rattle.cx_typed_work.proofs.Outcomes.{comes_and}
-use Rattle.cx_typed_work.specs.Operands.{IsObjectPointer, IsPlaceOf, IsFieldPlace, IsGivenBy, IsOperandOf}
+use Rattle.cx_typed_work.specs.Operands.{IsObjectPointer, IsPlaceOf, IsGivenBy, IsOperandOf}
 use Rattle.cx_typed_work.specs.Scenes.{IsScene}
 
 -- ---- where a member begins

@@ -1,16 +1,16 @@
 -- Steps of nodes whose operands are finished and typed: loads, assignments, addresses, operators and conversions.
-use Rattle.std.proofs.Common.{◌≡◌, ◌⊎◌, inl, inr, ℕ, Bool, true, false, true≢false, List, [], ◌∷◌, Option, Some, None, Result, Ok, Err, refl, sym, ap, subst, ◌∙◌}
+use Rattle.std.proofs.Common.{◌≡◌, ◌⊎◌, inl, inr, Bool, true, false, true≢false, List, [], ◌∷◌, Some, Result, sym, ap, subst, ◌∙◌}
 use Rattle.cr_base.specs.declared.refusal.Place.{Place}
 use Rattle.cr_base.specs.declared.scalar.Scalar.TheVariants.{Object}
-use Rattle.cx_core.specs.Conversions.{scalar_of, scalar_of_pointer}
+use Rattle.cx_core.specs.Conversions.{scalar_of}
 use Rattle.cx_core.specs.declared.expr.Op1.{Op1}
 use Rattle.cx_core.specs.declared.expr.Op2.{Op2}
-use Rattle.cx_core.specs.Trees.{CTy, ty, CTyForm, void, basic, enum_type, pointer, array, record_type, function, form_of_type, unqualified, CTypes, CProgram, CExpr, expr, CForm, load, deref, address, convert, unary, binary, assign, type_of}
+use Rattle.cx_core.specs.Trees.{CTy, ty, CTyForm, void, basic, enum_type, pointer, array, record_type, function, form_of_type, CTypes, CProgram, CExpr, expr, CForm, load, deref, address, convert, unary, binary, assign, type_of}
 use Rattle.cx_core.specs.Typing.{CHome, IsTyped, IsLvalue, is_bit_field}
-use Rattle.cx_core.specs.ValidTypes.{IsTypeIn, IsComplete, IsObjectForm}
-use Rattle.cx_mean.specs.Accesses.{CLoaded, loaded, CStored, stored}
+use Rattle.cx_core.specs.ValidTypes.{IsComplete, IsObjectForm}
+use Rattle.cx_mean.specs.Accesses.{loaded, stored}
 use Rattle.cx_mean.specs.Marks.{Marks}
-use Rattle.cx_mean.specs.Nodes.{CDone, done, done_by_load, done_by_store, deref_value, address_value, unary_done, binary_done, done_by_count, node_done}
+use Rattle.cx_mean.specs.Nodes.{CDone, deref_value, address_value, node_done}
 use Rattle.cx_mean.specs.Operands.{CWhy, CValue, scalar, cells, names, designates, designates_bits, missing, COperand, Frame, place_in, united_operands}
 use Rattle.cx_mean.specs.Settings.{setting_of}
 use Rattle.cx_mean.specs.Values.{converted_value}
@@ -26,10 +26,10 @@ use Rattle.cx_typed_work.proofs.Lvalues.{load_from_lvalue, store_to_lvalue}
 use Rattle.cx_typed_work.proofs.Memories.{shapes_stay}
 use Rattle.cx_typed_work.proofs.Nodes.{IsDoneOf, gives_comes, operands_united, object_kind, deref_comes}
 use Rattle.cx_typed_work.proofs.Operators.{convert_comes, unary_comes}
-use Rattle.cx_typed_work.proofs.Outcomes.{comes_and, comes_as}
+use Rattle.cx_typed_work.proofs.Outcomes.{comes_and}
 use Rattle.cx_typed_work.proofs.Stores.{IsStoredOf, IsStorable}
 use Rattle.cx_typed_work.proofs.Twos.{binary_comes}
-use Rattle.cx_typed_work.specs.Operands.{IsScalarIn, IsValueOfType, IsMissing, IsGiven, IsObjectPointer, IsPlaceOf, IsGivenBy, IsOperandOf}
+use Rattle.cx_typed_work.specs.Operands.{IsScalarIn, IsValueOfType, IsGiven, IsObjectPointer, IsPlaceOf, IsGivenBy, IsOperandOf}
 use Rattle.cx_typed_work.specs.Scenes.{IsLeading, IsScene}
 
 -- what a value of the type of a node gives, where it isn't an lvalue

@@ -1,7 +1,7 @@
 -- The step at any ready node of a typed tree, by the steps of its nodes (ISO C99, 6.5 and 5.1.2.3).
-use Rattle.std.proofs.Common.{◌≡◌, ◌⊎◌, inl, inr, ℕ, ◌+◌, ◌<◌, Bool, true, false, true≢false, if◌then◌else◌, List, [], ◌∷◌, Option, Some, None, Result, Ok, Err, refl, sym, ap, subst, ◌∙◌, arith}
+use Rattle.std.proofs.Common.{◌≡◌, inl, inr, ℕ, ◌<◌, Bool, true, false, true≢false, Option, Some, None, refl, sym, subst, arith}
 use Rattle.cr_base.specs.declared.refusal.Place.{Place}
-use Rattle.cx_core.specs.Trees.{CTy, CExpr, expr, CForm, whole, null, object, code, load, deref, member, address, convert, unary, binary, and, or, cond, assign, assign_by, step, call, call_by, comma, literal, CExprs, CPut, CPuts, place_of, type_of}
+use Rattle.cx_core.specs.Trees.{CTy, CExpr, expr, whole, null, object, code, load, deref, member, address, convert, unary, binary, and, or, cond, assign, assign_by, step, call, call_by, comma, literal, CExprs, CPut, CPuts}
 use Rattle.cx_core.specs.Typing.{CHome, IsTyped, IsLvalue}
 use Rattle.cx_mean.specs.Marks.{Marks}
 use Rattle.cx_mean.specs.Operands.{COperand, Frame}
@@ -10,12 +10,12 @@ use Rattle.cx_mean.specs.Steps.{CStepped, at_node, needs_step, chooses_step, tes
 use Rattle.cx_mean.specs.Work.{CUpdate, CStage, CWork, finished, needs, chooses, tests, carries, updates, fills, waits, CWorks, no_works, more_works, is_finished, are_finished, operands_in, one_or, ready, ready_among, carried}
 use Rattle.mem_bytes.specs.Memory.{Blocks}
 use Rattle.cx_typed_work.proofs.Choices.{IsPartOf, part_carried, first_part_of, second_part_of, at_node_leaves, and_leaves, or_leaves, cond_leaves, comma_leaves, tests_leave}
-use Rattle.cx_typed_work.proofs.Induction.{EachTyped, OperandsTyped, operands_typed, inside_leaves, PartSteps, EachSteps, among_leaves}
+use Rattle.cx_typed_work.proofs.Induction.{OperandsTyped, operands_typed, inside_leaves, PartSteps, EachSteps, among_leaves}
 use Rattle.cx_typed_work.proofs.Updating.{stage_leaves}
 use Rattle.cx_typed_work.specs.Operands.{IsOperandOf}
 use Rattle.cx_typed_work.specs.Scenes.{IsScene}
 use Rattle.cx_typed_work.specs.Steps.{StepLeaves}
-use Rattle.cx_typed_work.specs.Works.{operands_of, first_part, second_part, chosen_parts, changes_of, IfOperands, IfPart, AnyPart, IsFilling, IsUpdateOf, value_of_put, IsWorkOf, AreWorksOf, IsTypedNode, IsTypedWork}
+use Rattle.cx_typed_work.specs.Works.{operands_of, first_part, second_part, chosen_parts, IfOperands, IfPart, AnyPart, IsFilling, IsUpdateOf, value_of_put, IsWorkOf, AreWorksOf, IsTypedNode, IsTypedWork}
 
 -- ---- a node with one operand: its own step, or one inside
 

@@ -1,23 +1,22 @@
 -- Steps of `op=`, `++` and `--`: the load, the operator, the conversion back and the store (ISO C99, 6.5.2.4, 6.5.3.1, 6.5.16.2).
-use Rattle.std.proofs.Common.{◌≡◌, ◌⊎◌, inl, inr, ℕ, Bool, true, false, if◌then◌else◌, List, [], ◌∷◌, Option, Some, None, pos, Result, Ok, Err, refl, sym, ap, subst, ◌∙◌, rules}
+use Rattle.std.proofs.Common.{◌≡◌, ◌⊎◌, inl, inr, Bool, true, false, if◌then◌else◌, Some, None, pos, Result, Ok, refl, sym, subst, rules}
 use Rattle.std.proofs.lemmas.Int.{ints}
 use Rattle.cr_base.specs.declared.refusal.Place.{Place}
-use Rattle.cr_base.specs.declared.scalar.Scalar.TheVariants.{Whole}
-use Rattle.cx_core.specs.Conversions.{scalar_of, scalar_of_basic, promoted, IsIntegerType, IsScalarType, IsPromoted}
+use Rattle.cx_core.specs.Conversions.{scalar_of_basic, promoted, IsIntegerType, IsPromoted}
 use Rattle.cx_core.specs.declared.expr.Op2.{Op2}
 use Rattle.cx_core.specs.declared.expr.Op2.TheVariants.{Add, Subtract}
 use Rattle.cx_core.specs.declared.ty.Basic.{Basic}
 use Rattle.cx_core.specs.declared.ty.Basic.TheVariants as basics
-use Rattle.cx_core.specs.Trees.{CTy, ty, CTyForm, void, basic, enum_type, pointer, array, record_type, function, form_of_type, unqualified, CTypes, CProgram, CExpr, expr, CForm, null, assign_by, step, type_of}
+use Rattle.cx_core.specs.Trees.{CTy, ty, basic, unqualified, CTypes, CProgram, CExpr, expr, CForm, null, assign_by, step, type_of}
 use Rattle.cx_core.specs.Typing.{CHome, IsTyped, IsLvalue, IsElementPointer, IsConversion, IsBinaryOf, int_type, width_of}
 use Rattle.cx_core.specs.ValidTypes.{IsTypeIn, IsModifiable, AreTypes}
-use Rattle.cx_mean.specs.Accesses.{CLoaded, loaded, CStored, stored}
+use Rattle.cx_mean.specs.Accesses.{loaded, stored}
 use Rattle.cx_mean.specs.Marks.{Marks}
-use Rattle.cx_mean.specs.Nodes.{CDone, done, CUpdating, CChange, updating, update_loaded, changes, node_updating, update_computed, update_converted, update_value, update_stored, typed_value}
-use Rattle.cx_mean.specs.Operands.{CWhy, CValue, scalar, cells, names, designates, designates_bits, missing, COperand, Frame, scalar_value, united_operands}
+use Rattle.cx_mean.specs.Nodes.{done, update_computed, update_converted, update_value, update_stored}
+use Rattle.cx_mean.specs.Operands.{CWhy, CValue, scalar, cells, names, designates, designates_bits, missing, Frame, scalar_value}
 use Rattle.cx_mean.specs.Settings.{CSetting, setting_of}
 use Rattle.cx_mean.specs.Values.{CTyped, binary_value, converted_value}
-use Rattle.cx_mean.specs.Work.{CUpdate, CStage, was_loaded, was_computed, was_converted}
+use Rattle.cx_mean.specs.Work.{CUpdate, CStage}
 use Rattle.mem_bytes.specs.Access.{and_then}
 use Rattle.mem_bytes.specs.Coding.{IsValueOf}
 use Rattle.mem_bytes.specs.declared.value.Value.{Value}
@@ -27,15 +26,14 @@ use Rattle.cx_typed_values.proofs.BinaryValues.{binary_values}
 use Rattle.cx_typed_values.specs.Outcomes.{Comes}
 use Rattle.cx_typed_values.specs.Values.{IsScalarOf, AreObjects}
 use Rattle.cx_typed_work.proofs.Accesses.{IsLoadedOf}
-use Rattle.cx_typed_work.proofs.Computing.{IsNumberIn, IsPointerIn, IsRun, assigned_run, assigned_binary, to_computes, to_target, computes_in, target_scalar, stepped_run, promoted_basic_type}
-use Rattle.cx_typed_work.proofs.Given.{place_given}
+use Rattle.cx_typed_work.proofs.Computing.{IsRun, assigned_run, assigned_binary, to_computes, to_target, computes_in, stepped_run, promoted_basic_type}
 use Rattle.cx_typed_work.proofs.Lvalues.{load_from_lvalue, store_to_lvalue}
-use Rattle.cx_typed_work.proofs.Nodes.{IsDoneOf, operands_united, scalar_comes}
+use Rattle.cx_typed_work.proofs.Nodes.{IsDoneOf}
 use Rattle.cx_typed_work.proofs.Operators.{IsConvertedIn, converted_comes, scalar_out, scalar_in}
 use Rattle.cx_typed_work.proofs.Outcomes.{comes_and, comes_as}
 use Rattle.cx_typed_work.proofs.Stores.{IsStoredOf, IsStorable}
-use Rattle.cx_typed_work.proofs.Twos.{both_scalar, binary_no_code, typed_comes}
-use Rattle.cx_typed_work.specs.Operands.{IsScalarIn, IsValueOfType, IsPlaceOf, IsGivenBy, IsOperandOf}
+use Rattle.cx_typed_work.proofs.Twos.{binary_no_code}
+use Rattle.cx_typed_work.specs.Operands.{IsScalarIn, IsValueOfType, IsPlaceOf}
 use Rattle.cx_typed_work.specs.Scenes.{IsScene}
 use Rattle.cx_typed_work.specs.Works.{CChanges, changes_of, IsRightOf, IsUpdateOf}
 

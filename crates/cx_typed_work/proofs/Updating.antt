@@ -1,21 +1,20 @@
 -- `op=`, `++` and `--` as nodes: their load once the operands are finished, and a step of each stage (ISO C99, 6.5.2.4, 6.5.3.1, 6.5.16.2).
-use Rattle.std.proofs.Common.{◌≡◌, ◌⊎◌, inl, inr, ℕ, Bool, true, false, List, [], ◌∷◌, Option, Some, None, pos, Result, Ok, Err, refl, sym, ap, subst, ◌∙◌}
+use Rattle.std.proofs.Common.{◌≡◌, inl, Bool, true, false, [], ◌∷◌, Some, None, pos, refl, sym, ap, subst}
 use Rattle.cr_base.specs.declared.refusal.Place.{Place}
 use Rattle.cx_core.specs.Conversions.{promoted}
 use Rattle.cx_core.specs.declared.expr.Op2.{Op2}
 use Rattle.cx_core.specs.declared.expr.Op2.TheVariants.{Add, Subtract}
-use Rattle.cx_core.specs.Trees.{CTy, form_of_type, unqualified, CProgram, CExpr, expr, CForm, whole, null, object, code, load, deref, member, address, convert, unary, binary, and, or, cond, assign, assign_by, step, call, call_by, comma, literal, type_of}
+use Rattle.cx_core.specs.Trees.{CTy, unqualified, CExpr, expr, CForm, whole, null, object, code, load, deref, member, address, convert, unary, binary, and, or, cond, assign, assign_by, step, call, call_by, comma, literal, type_of}
 use Rattle.cx_core.specs.Typing.{CHome, IsTyped, width_of}
-use Rattle.cx_mean.specs.Accesses.{CLoaded, loaded}
+use Rattle.cx_mean.specs.Accesses.{loaded}
 use Rattle.cx_mean.specs.Marks.{Marks}
-use Rattle.cx_mean.specs.Nodes.{CDone, CUpdating, CChange, updating, update_loaded, changes, node_updating, update_computed, update_converted, update_stored, typed_value}
-use Rattle.cx_mean.specs.Operands.{CWhy, CValue, scalar, COperand, Frame, scalar_value, united_operands}
-use Rattle.cx_mean.specs.Settings.{CSetting, setting_of}
-use Rattle.cx_mean.specs.Steps.{CDid, did, outcome_of, did_done, did_update, form_step, stage_step}
+use Rattle.cx_mean.specs.Nodes.{CUpdating, CChange, updating, update_loaded, changes, node_updating, update_computed, update_converted, update_stored, typed_value}
+use Rattle.cx_mean.specs.Operands.{COperand, Frame, scalar_value, united_operands}
+use Rattle.cx_mean.specs.Settings.{setting_of}
+use Rattle.cx_mean.specs.Steps.{stage_step}
 use Rattle.cx_mean.specs.Values.{CTyped}
 use Rattle.cx_mean.specs.Work.{CUpdate, CStage, was_loaded, was_computed, was_converted, updates}
 use Rattle.mem_bytes.specs.Access.{and_then}
-use Rattle.mem_bytes.specs.declared.value.Value.{Value}
 use Rattle.mem_bytes.specs.declared.value.Value.TheVariants.{Whole as Number}
 use Rattle.mem_bytes.specs.Memory.{Blocks}
 use Rattle.cx_typed_values.specs.Outcomes.{Comes}
