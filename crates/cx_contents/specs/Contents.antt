@@ -96,12 +96,12 @@ completed_mention (Some index) type scope = with_told_type index type scope
 
 -- ---- the whole
 
--- the name has one type, and the object another: that beside all declarations of the unit
+-- the name, the object and the declaration say one type, and later declarations are compared with another: that beside all of the unit
 abbrev pub with_content_as : CContent → (type whole : CTy) → CPuts → CScope → CScope
 with_content_as one type whole puts scope =
-    completed_mention one.mention whole
+    completed_mention one.mention type
     (completed_thing one.name whole (linked_thing one.linkage one.name scope.things)
-    (with_stored one.is_static whole puts one.object (with_redeclared one.name type scope)))
+    (with_stored one.is_static type puts one.object (with_redeclared one.name type scope)))
 
 abbrev pub with_content : CContent → CTy → CPuts → CScope → CScope
 with_content one type puts scope =

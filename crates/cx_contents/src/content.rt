@@ -100,9 +100,9 @@ fn retell_at(scope: &mut Scope, index: u64, ty: &Ty) -> Result<(), Memory>
     Ok(())
 }
 
-/// An initialiser has ended: the declared name has the type that it gives, the object has that type beside all declarations of the unit,
-/// and what is stored before the program begins is known (ISO C99, 6.2.7p4, 6.7.8p22). Refused only for want of memory, and then nothing
-/// is said but that the types stay.
+/// An initialiser has ended: the declared name, the object and the declaration's mention have the type that it gives, later declarations
+/// are compared with that type beside all declarations of the unit, and what is stored before the program begins is known (ISO C99,
+/// 6.2.7p4, 6.7.8p22). Refused only for want of memory, and then nothing is said but that the types stay.
 pub fn complete(
     scope: &mut Scope,
     one: Content<'_>,
@@ -115,7 +115,7 @@ pub fn complete(
     let made = beside_thing(scope, one.linkage, one.name, ty)?;
     let whole = made.get();
     redeclare(scope, one.name, ty)?;
-    store(scope, one.object, one.is_static, whole, puts)?;
+    store(scope, one.object, one.is_static, ty, puts)?;
     complete_linked(scope, one.linkage, one.name, whole)?;
-    retell(scope, one.mention, whole)
+    retell(scope, one.mention, ty)
 }

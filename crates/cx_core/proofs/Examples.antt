@@ -90,15 +90,15 @@ number_put scope line value holder spot range part = (number_typed scope line va
 
 part_b : IsPartOf s_types s_type b_spot int_type
 unfolding layouts_of
-part_b = record { path = 0 ∷ []; leads = refl }
+part_b = record { path = 0 ∷ []; leads = refl; named = refl }
 
 part_0 : IsPartOf s_types s_type (byte_at 4) int_type
 unfolding layouts_of
-part_0 = record { path = 1 ∷ 0 ∷ []; leads = refl }
+part_0 = record { path = 1 ∷ 0 ∷ []; leads = refl; named = refl }
 
 part_1 : IsPartOf s_types s_type (byte_at 8) int_type
 unfolding layouts_of
-part_1 = record { path = 1 ∷ 1 ∷ []; leads = refl }
+part_1 = record { path = 1 ∷ 1 ∷ []; leads = refl; named = refl }
 
 x_puts_typed : AreTypedPuts (home []) s_type x_puts
 x_puts_typed = (
@@ -107,7 +107,7 @@ x_puts_typed = (
 )
 
 i_puts_typed : (scope : List ℕ) → AreTypedPuts (home scope) int_type i_puts
-i_puts_typed scope = ((number_put scope 4 (pos 0) int_type (byte_at 0) zero_in_int (record { path = []; leads = refl }), tt), (omega arith, tt))
+i_puts_typed scope = ((number_put scope 4 (pos 0) int_type (byte_at 0) zero_in_int (record { path = []; leads = refl; named = refl }), tt), (omega arith, tt))
 
 -- ---- `sum`
 

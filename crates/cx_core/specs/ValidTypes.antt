@@ -1,5 +1,5 @@
 -- Types of a program that C allows (ISO C99, 6.2.5, 6.7.2.1 to 6.7.2.3 and 6.7.5), within the limits of the profile.
-use Rattle.std.specs.Prelude.{◌≡◌, ◌⊎◌, ℕ, zero, suc, ◌+◌, ◌*◌, ◌≤◌, ◌<◌, nat_lt, Bool, true, false, ◌||◌, if◌then◌else◌, List, [], ◌∷◌, length, Option, None, Some, IsSome, IfSome, All, slice_get, option_map}
+use Rattle.std.specs.Prelude.{◌≡◌, ◌⊎◌, ℕ, zero, suc, ◌+◌, ◌*◌, ◌≤◌, ◌<◌, nat_lt, Bool, true, false, ◌||◌, ◌&&◌, if◌then◌else◌, List, [], ◌∷◌, length, Option, None, Some, is_some, IsSome, IfSome, All, slice_get, option_map}
 use Rattle.std.specs.List.{IsDistinct, list_any}
 use Rattle.std.specs.Option.{option_and_then, option_flatten}
 use Rattle.std.specs.Str.{bytes_eq}
@@ -182,10 +182,26 @@ part_at types [] type = Some (record { spot = record { byte = 0; bit = 0; width 
 part_at types (index ∷ path) type =
     option_and_then (λ outer. option_map (within outer) (part_at types path outer.type)) (direct_part types index (form_of_type type))
 
+-- a member has a name; what is no member needs none
+abbrev pub has_name : Option CMember → Bool
+has_name None = true
+has_name (Some one) = is_some one.name
+
+-- each member on the way to a part of an object has a name: bit-fields without one aren't initialised (6.7.8p9)
+abbrev pub is_named_path : CTypes → List ℕ → CTy → Bool
+is_named_path types [] type = true
+is_named_path types (index ∷ path) type =
+    has_name (member_of types (form_of_type type) index)
+    && (elim (direct_part types index (form_of_type type)) as (λ _. Bool) [
+      | None ↦ true
+      | Some part ↦ is_named_path types path part.type
+    ])
+
 -- a part of an object of a type stands there and has this type
 pub record IsPartOf (types : CTypes) (holder : CTy) (spot : Spot) (type : CTy) : Type 0 where
   pub path : List ℕ
   pub leads : part_at types path holder ≡ Some (record { spot = spot; type = type })
+  pub named : is_named_path types path holder ≡ true
 
 -- a type with `const` added; an array passes it on to its elements (6.7.3p8)
 abbrev pub with_const : Bool → CTy → CTy

@@ -38,9 +38,9 @@ content_is : (begun : CBegun) (type : CTy) (puts : CPuts) (scope : CScope) → w
 unfolding with_content
 content_is begun type puts scope =
     let whole = beside_thing type (linked_thing begun.linkage begun.name scope.things) in
-    ap (λ declared. contents.completed_mention begun.mention whole
+    ap (λ declared. contents.completed_mention begun.mention type
     (contents.completed_thing begun.name whole (linked_thing begun.linkage begun.name scope.things)
-    (contents.with_stored begun.is_static whole puts begun.object (record scope { declared = declared }))))
+    (contents.with_stored begun.is_static type puts begun.object (record scope { declared = declared }))))
     (redeclared_is begun.name type scope.declared)
 
 pub content_if : (has_init : Bool) (begun : CBegun) (filled : CFilled) (scope : CScope)
@@ -58,8 +58,8 @@ content_any : (one : CContent) (is_static : Bool) → is_static ≡ false → (t
 content_any one true e type puts other scope = absurd cc
 content_any one false e type puts other scope =
     let whole = beside_thing type (linked_thing one.linkage one.name scope.things) in
-    ap (λ stored. contents.completed_mention one.mention whole (contents.completed_thing one.name whole (linked_thing one.linkage one.name scope.things) stored))
-    (stored_any one.object whole puts other (contents.with_redeclared one.name type scope))
+    ap (λ stored. contents.completed_mention one.mention type (contents.completed_thing one.name whole (linked_thing one.linkage one.name scope.things) stored))
+    (stored_any one.object type puts other (contents.with_redeclared one.name type scope))
 
 pub content_anew : (has_init : Bool) (begun : CBegun) (filled : CFilled) (other : CPuts) (scope : CScope) → begun.is_static ≡ false
     → steps.with_content_if has_init (content_of begun) filled.type other scope ≡ unit.with_content_if has_init begun filled scope

@@ -194,10 +194,13 @@ fn declare_object(scope: &mut Scope, one: Declaring<'_>) -> Result<(), Memory>
         return Err(Memory);
     };
     let number = before.number;
+    let was_defined = before.is_defined;
     let again = declared_again(scope.alloc, one.ty, one.has_init, tentative_of(one), before)?;
     let ty = again.ty.copy(scope.alloc)?;
     scope.things.set(index, again);
-    scope.objects.change(number, ty, None);
+    if !was_defined {
+        scope.objects.change(number, ty, None);
+    }
     Ok(())
 }
 

@@ -2,7 +2,6 @@
 use Rattle.std.specs.Prelude.{◌≡◌, ℕ, ℤ, pos, true, false, List, [], ◌∷◌, None, Some, codes}
 use mathlib.Core.Path.{refl}
 use Rattle.cx_lex.specs.declared.token.Keyword.TheVariants as keyword
-use Rattle.cx_lex.specs.declared.token.Punct.TheVariants as punct
 use Rattle.cx_lex.specs.declared.token.Ty0.TheVariants as ty0
 use Rattle.cx_tree.specs.Trees as t
 use Rattle.cx_tree.specs.Trees.{UnitTree}

@@ -165,12 +165,16 @@ abbrev pub linked_number : ℕ → Option CThing → ℕ
 linked_number new None = new
 linked_number new (Some one) = one.number
 
+-- an object that an initialiser defines keeps the type that it gave (6.7.8p22); before, it has the one beside all declarations of the unit
+abbrev with_retyped : CThing → CTy → CScope → CScope
+with_retyped one type scope = if one.is_defined then scope else with_object_at one.number (retyped (composite type one.type)) scope
+
 -- an object with linkage is declared, for the first time or once more
 abbrev pub with_linked_object : List ℕ → CTy → Linkage → Bool → Option ℕ → Option CThing → CScope → CScope
 with_linked_object name type linkage has_content tentative None scope =
     with_thing (new_thing name linkage false scope.next_object type has_content tentative) (with_new_object name type linkage None scope)
 with_linked_object name type linkage has_content tentative (Some one) scope =
-    with_object_at one.number (retyped (composite type one.type))
+    with_retyped one type
     (with_things (set_thing name (declared_again type has_content tentative one) scope.things) scope)
 
 -- a function is declared, for the first time or once more
@@ -361,12 +365,13 @@ abbrev completed_mention : Option ℕ → CTy → CScope → CScope
 completed_mention None type scope = scope
 completed_mention (Some index) type scope = with_told_type index type scope
 
--- the name has the type that the initialiser gives it, and the object that beside all declarations of the unit
+-- the name, the object and the declaration say the type that the initialiser gives, as a definition of a function says the one that is written;
+-- later declarations are beside that and all of the unit before
 abbrev with_content_as : CBegun → (type whole : CTy) → CPuts → CScope → CScope
 with_content_as begun type whole puts scope =
-    completed_mention begun.mention whole
+    completed_mention begun.mention type
     (completed_thing begun.name whole (linked_thing begun.linkage begun.name scope.things)
-    (with_content_at begun whole puts begun.object (record scope { declared = redeclare_first begun.name type scope.declared })))
+    (with_content_at begun type puts begun.object (record scope { declared = redeclare_first begun.name type scope.declared })))
 
 -- the scope once an initialiser has ended
 unfoldable pub with_content : CBegun → CTy → CPuts → CScope → CScope
@@ -437,7 +442,7 @@ final_puts thing one = if is_some thing.tentative && is_none one.puts then Some 
 
 abbrev final_as : CObject → Option CThing → CObject
 final_as one None = one
-final_as one (Some thing) = record one { type = final_type thing; puts = final_puts thing one }
+final_as one (Some thing) = if thing.is_defined then one else record one { type = final_type thing; puts = final_puts thing one }
 
 abbrev names_object : ℕ → CThing → Bool
 names_object number thing = not thing.is_function && thing.number == number

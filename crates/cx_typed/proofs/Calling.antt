@@ -76,8 +76,11 @@ module _ (opens : List ℕ) (scope middle after : CScope) (line : ℕ) (name : L
 
     -- no literal is made by the name, and the call completes its mention alone
     last_made : AreTypedLiterals opens scope last
-    last_made home serves index one from is =
-        behind.made home (part_of opens home scope middle after last serves first_passes after_kept) index one (subst (λ all. length all ≤ index) (sym first_makes_none) from) is
+    last_made = record {
+      well = λ index one from is. behind.made.well index one (subst (λ all. length all ≤ index) (sym first_makes_none) from) is;
+      typed = λ home serves index one from is.
+          behind.made.typed home (part_of opens home scope middle after last serves first_passes after_kept) index one (subst (λ all. length all ≤ index) (sym first_makes_none) from) is;
+    }
 
     named_call : IsOperandType opens middle.types middle.unit callee → IsUnbroken after after.types (call_node callee given)
         → IsExpr opens (Call of args lines) scope (call_meaning (at_line after (expr_line of)) after.types true callee given) last

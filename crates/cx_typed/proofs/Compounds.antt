@@ -42,7 +42,7 @@ use Rattle.cx_typed.proofs.Walked.{standing_of}
 use Rattle.cx_typed.specs.Constants.{IsOfNumbers}
 use Rattle.cx_typed.specs.Initialised.{CWhole, IsKnownWhole, IsOpened, IsListed, ListGoes}
 use Rattle.cx_typed.specs.Names.{IsLiteralServed}
-use Rattle.cx_typed.specs.Scopes.{object_made, IsMade, Serves, Passes, Keeps, TakesNumbers, AreTypedLiterals}
+use Rattle.cx_typed.specs.Scopes.{object_made, IsMade, Serves, Passes, Keeps, TakesNumbers, AreTypedLiterals, IsWellMade}
 use Rattle.cx_typed.specs.Sound.{AreSound}
 use Rattle.cx_typed.specs.Unbroken.{IsUnbroken}
 use Rattle.cx_typed.specs.Walked.{IsGood, Ends, IsExpr, IsTypeName, ExprGoes, TypeNameGoes}
@@ -61,14 +61,14 @@ small_row types number row is =
     let laid = map_found (row_with found.one.is_union pieces.0) (laid_record found.one.is_union pieces.0) row pieces.2 in
     subst (λ r. nat_le r.laid.size most_bytes ≡ true) laid.2 (small_laid found.one.is_union pieces.0 (nat_le (laid_of found.one.is_union pieces.0).size most_bytes) laid.0 refl laid.1)
 
-within_some : (laid : Laid) → nat_le laid.size most_bytes ≡ true → IsSome (within_most laid)
+pub within_some : (laid : Laid) → nat_le laid.size most_bytes ≡ true → IsSome (within_most laid)
 within_some laid small = by_test (nat_le laid.size most_bytes) small
   where
     by_test : (test : Bool) → test ≡ true → IsSome (if test then Some laid else None)
     by_test true e = refl
     by_test false e = absurd cc
 
-row_complete : (types : CTypes) (number : ℕ) (is_const : Bool) (found : Option CRow) → row_at (layouts_of types) number ≡ found → IsSome found → IsComplete types (ty (record_type number) is_const)
+pub row_complete : (types : CTypes) (number : ℕ) (is_const : Bool) (found : Option CRow) → row_at (layouts_of types) number ≡ found → IsSome found → IsComplete types (ty (record_type number) is_const)
 row_complete types number is_const None e is = absurd cc
 row_complete types number is_const (Some row) e is =
     ap (λ one. is_some (option_and_then within_most (option_map (λ r. r.laid) one))) e ∙ within_some row.laid (small_row types number row e)
@@ -315,12 +315,20 @@ module _ (opens : List ℕ) (tree : ExprTree) (no_name : is_name tree ≡ true �
     }
 
     all_made : AreTypedLiterals opens scope behind
-    all_made home serves number one from is =
-        ⊎_elim
-        (λ same.
-        subst (λ made. IsTypedObject home.program home.mentions (object_made home.unit made)) (sym (is_self opens middle type after listed.stored.passes literal_is refl number one same is)) (literal_typed home serves))
-        (λ more. listed.stored.made home (inner_serves home serves) number one more (is_behind opens middle type after listed.stored.passes literal_is refl number one more is))
-        (self_or_behind opens middle type after listed.stored.passes literal_is refl number (from_middle number from))
+    all_made = record {
+      well = λ number one from is.
+          ⊎_elim
+          (λ same.
+          subst (IsWellMade after.types) (sym (is_self opens middle type after listed.stored.passes literal_is refl number one same is)) (record { complete = λ none. full_complete; no_text = λ none. refl }))
+          (λ more. listed.stored.made.well number one more (is_behind opens middle type after listed.stored.passes literal_is refl number one more is))
+          (self_or_behind opens middle type after listed.stored.passes literal_is refl number (from_middle number from));
+      typed = λ home serves number one from is.
+          ⊎_elim
+          (λ same.
+          subst (λ made. IsTypedObject home.program home.mentions (object_made home.unit made)) (sym (is_self opens middle type after listed.stored.passes literal_is refl number one same is)) (literal_typed home serves))
+          (λ more. listed.stored.made.typed home (inner_serves home serves) number one more (is_behind opens middle type after listed.stored.passes literal_is refl number one more is))
+          (self_or_behind opens middle type after listed.stored.passes literal_is refl number (from_middle number from));
+    }
 
     pub literal_expr : IsExpr opens tree scope (literal_meaning after.in_function (at_line after line) middle.next_object full puts) behind
     literal_expr =
@@ -361,7 +369,7 @@ module _ (of : TypeNameTree) (list : InitialiserListTree) (lines : List ℕ) (se
   list_by false e =
       let whole : CWhole = record { is_static = not middle.in_function; type = type } in
       go_chain _ _ _ _ (begun opens middle type) (IsListed opens whole (whole_target (not middle.in_function) (Some type)) (begun opens middle type) (begun opens middle type)) _
-      (second opens whole (whole_target (not middle.in_function) (Some type)) [] (begun opens middle type) (begun opens middle type) (record { is_static = refl; base = refl })
+      (second opens whole (whole_target (not middle.in_function) (Some type)) [] (begun opens middle type) (begun opens middle type) (record { is_static = refl; base = record { there = refl; named = refl } })
       (stored_none opens whole (begun opens middle type) begun_good (record { known = named.known; object = object_by type (neither e).0 (neither e).1 }))) (λ stored after listed.
       go_here_then _ _ after _ (go_changed _ after (own_line lines) _ _ _ after _ (λ unbroken.
       literal_expr opens (Literal of list lines) (λ is. absurd cc) scope middle type named stored after listed (own_line lines) unbroken)))

@@ -1,5 +1,5 @@
 -- What is stored in an object gives its type and its typed puts (ISO C99, 6.7.8).
-use Rattle.std.proofs.Common.{◌≡◌, ℕ, ◌+◌, ◌<◌, max, Bool, true, List, [], ◌∷◌, length, Option, None, Some, is_some, refl, sym, subst, arith}
+use Rattle.std.proofs.Common.{◌≡◌, ℕ, ◌+◌, ◌<◌, max, Bool, true, List, [], ◌∷◌, Option, None, Some, is_some, refl, sym, subst, arith}
 use Rattle.cr_base.specs.declared.layout.Laid.{Laid}
 use Rattle.std.specs.Option.{option_and_then}
 use Rattle.cx_core.specs.Layouts.{whole_extent, within_most, layouts_of, elements}

@@ -17,7 +17,7 @@ use Rattle.cx_rules.specs.Types.{size_of, is_pointer, same_type, is_character_ar
 use Rattle.cx_tree.specs.Trees.{ExprTree}
 use Rattle.cx_typed.proofs.Fitting.{fitted_is}
 use Rattle.cx_typed.proofs.Fixed.{outside_of, initial_fixed}
-use Rattle.cx_typed.proofs.Paths.{part_on, type_known}
+use Rattle.cx_typed.proofs.Paths.{part_on, named_on, type_known}
 use Rattle.cx_typed.proofs.Promoted.{not_not}
 use Rattle.cx_typed.proofs.Numbered.{numbers_by}
 use Rattle.cx_typed.proofs.Scopes.{grows_not, part_of, passes_on, stays_itself}
@@ -45,7 +45,11 @@ module _ (opens : List ℕ) (whole : CWhole) (before start after : CScope) where
     passes = passes_on opens before start after held.passes passes;
     object = whole_on passes held.object;
     parts = each_more (IsStored start.types whole.type) (IsStored after.types whole.type) stored
-        (λ one is. record { part = part_on opens start.types after.types passes.grows whole.type one.type one.path is.part; no_array = is.no_array }) held.parts;
+        (λ one is. record {
+          part = part_on opens start.types after.types passes.grows whole.type one.type one.path is.part;
+          named = named_on opens start.types after.types passes.grows one.path whole.type one.type is.part is.named;
+          no_array = is.no_array;
+        }) held.parts;
     typed = λ home serves. held.typed home (part_of opens home before before start after serves (stays_itself opens before) (passes_keep opens _ _ start after passes));
     made = made_on opens before start after held.passes passes held.made made;
   }
@@ -183,8 +187,8 @@ module _ (opens : List ℕ) (whole : CWhole) (before start after : CScope) (tree
           let assignable : is_assignable after.types at.type (value_of value) ≡ true = not_not unbroken.k12 in
           let holds = one_holds after.types value false unbroken.k10 in
           stored_more opens whole before after (Some (inside base at)) (value_at (inside base at) ∷ []) stored behind
-          (record { part = placed.part; no_array = assigned_result after.types at.type (value_of value) assignable }, tt)
-          (λ home serves. (value_typed is_static same (inside base at).path at.type placed.part assignable (not_not unbroken.k17) holds home serves, tt))
+          (record { part = placed.part.there; named = placed.part.named; no_array = assigned_result after.types at.type (value_of value) assignable }, tt)
+          (λ home serves. (value_typed is_static same (inside base at).path at.type placed.part.there assignable (not_not unbroken.k17) holds home serves, tt))
 
       pub value_some : (base at : Option CAt) → IsPlaced after.types whole.type (target_of base) at → IsUnbroken after after.types (given_node (value_facts after (target_of base) value at))
           → 0 < length (with_more (from_whole base at) (stored_value after.types value (from_whole base at)) stored)
@@ -284,11 +288,11 @@ module _ (opens : List ℕ) (whole : CWhole) (before start : CScope) (stored : L
 
     bytes_of : (path : List ℕ) (type : CTy) → IsPart start.types whole.type (record { path = path; type = type }) → is_character_array (form_of_type type) ≡ true → AreBytes (record { path = path; type = type })
     bytes_of path (ty (array element count) is_const) part is =
-        let held = type_known opens start.types start.unit front.good.sound path whole.type (ty (array element count) is_const) front.object part in
+        let held = type_known opens start.types start.unit front.good.sound path whole.type (ty (array element count) is_const) front.object part.there in
         let first = first_element start.types element count is (count_some start.types element count held.known.type_in.1.length) in
         record {
           stores = stored_more opens whole before numbered (Some (record { path = path; type = ty (array element count) is_const })) _ stored text_behind
-              (bytes_parts start.types (at_line start line) (record { path = path; type = ty (array element count) is_const }) element count is whole.type is_const part bytes 0)
+              (bytes_parts start.types (at_line start line) (record { path = path; type = ty (array element count) is_const }) element count is whole.type is_const part.there part.named bytes 0)
               (λ home serves. bytes_typed start.types (at_line start line) (record { path = path; type = ty (array element count) is_const }) element count is home whole.is_static bytes 0);
           some_are = some_bytes start.types (at_line start line) (record { path = path; type = ty (array element count) is_const }) element count bytes some first;
         }

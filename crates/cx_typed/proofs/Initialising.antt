@@ -16,13 +16,13 @@ use Rattle.cx_tree.specs.Trees.{ExprTree, Text, InitialiserTree, Single, Braced,
 use Rattle.cx_typed.proofs.Given.{stored_on, stored_outside, value_stores, value_some, value_placed, numbered, text_given}
 use Rattle.cx_typed.proofs.Goes.{go_gives, go_here_then, go_chain, go_settled, go_changed}
 use Rattle.cx_typed.proofs.Named.{text_goes, joined_some}
-use Rattle.cx_typed.proofs.Paths.{part_on, placed_on, opened_at_on, placed_whole, first_placed, next_placed, landed_placed, element_placed, member_placed, first_opened, inner_some, element_opened, member_opened}
+use Rattle.cx_typed.proofs.Paths.{is_part_on, placed_on, opened_at_on, placed_whole, first_placed, next_placed, landed_placed, element_placed, member_placed, first_opened, inner_some, element_opened, member_opened}
 use Rattle.cx_typed.proofs.Promoted.{not_not}
 use Rattle.cx_typed.proofs.Same.{both}
 use Rattle.cx_typed.proofs.Scopes.{grows_not, grows_on, stays_itself}
 use Rattle.cx_typed.proofs.Walked.{makes_nothing}
 use Rattle.cx_typed.specs.Growth.{Grows}
-use Rattle.cx_typed.specs.Initialised.{CWhole, IsKnownWhole, IsPart, AreStored, IsFilling, IsDesignated, IsTarget, IsOpened, IsOpenedAt, IsListed, IsEntered, IsGiven, IsStep, IsLed, IsInitialised, InitialiserGoes, NothingToFill, ListGoes, EntriesGo, EntryGoes, GivenGoes, DesignatorGoes, DesignatorsGo}
+use Rattle.cx_typed.specs.Initialised.{CWhole, IsKnownWhole, IsPart, IsPlaced, AreStored, IsFilling, IsDesignated, IsTarget, IsOpened, IsOpenedAt, IsListed, IsEntered, IsGiven, IsStep, IsLed, IsInitialised, InitialiserGoes, NothingToFill, ListGoes, EntriesGo, EntryGoes, GivenGoes, DesignatorGoes, DesignatorsGo}
 use Rattle.cx_typed.specs.Walked.{IsGood, Ends, IsExpr, ExprGoes}
 
 -- ---- rules of the walk
@@ -36,7 +36,7 @@ go_either A false one other scope Post first second = second refl
 
 base_on : (opens : List ℕ) (before after : CTypes) → Grows opens before after → (whole : CTy) (base : Option CAt) → IfSome base (IsPart before whole) → IfSome base (IsPart after whole)
 base_on opens before after grows whole None held = tt
-base_on opens before after grows whole (Some one) held = part_on opens before after grows whole one.type one.path held
+base_on opens before after grows whole (Some one) held = is_part_on opens before after grows whole one held
 
 target_on : (opens : List ℕ) (before after : CTypes) → Grows opens before after → (whole : CWhole) (target : CTarget) → IsTarget before whole target → IsTarget after whole target
 target_on opens before after grows whole target held = record { is_static = held.is_static; base = base_on opens before after grows whole.type target.base held.base }
@@ -54,7 +54,7 @@ module _ (opens : List ℕ) (whole : CWhole) (target : CTarget) (at : Option CAt
           goes = expr.passes.grows;
           filling = record {
             stored = value_stores opens whole before start after tree value expr filling.stored held.stored target.is_static goal.is_static target.base where_is placed unbroken;
-            next = next_placed after.types whole.type target.is_static target.base where_is (base_on opens start.types after.types expr.passes.grows whole.type target.base goal.base);
+            next = next_placed after.types whole.type target.is_static target.base where_is (base_on opens start.types after.types expr.passes.grows whole.type target.base goal.base) placed;
           };
           some = value_some opens whole before start after tree value expr filling.stored held.stored target.is_static goal.is_static target.base where_is placed unbroken;
           placed = inner_some after.types (landed_at after.types (of_type (value_type value))) at
@@ -72,7 +72,7 @@ module _ (opens : List ℕ) (whole : CWhole) (target : CTarget) (at : Option CAt
           goes = grows_not opens start.types;
           filling = record {
             stored = given.stores;
-            next = next_placed start.types whole.type target.is_static target.base where_is goal.base;
+            next = next_placed start.types whole.type target.is_static target.base where_is goal.base placed;
           };
           some = given.some_are;
           placed = inner_some start.types (landed_at start.types of_text) at given.there;
@@ -90,11 +90,11 @@ given_goes value first opens whole target at filling before start goal held =
 -- ---- a list in braces for a part
 
 list_given_is : (opens : List ℕ) (whole : CWhole) (target : CTarget) (at : Option CAt) (filling : CFilling) (before start after : CScope) (stored : List CStored) → IsTarget after.types whole target
-    → IsListed opens whole (target_at target at) before start stored after → IsSome at → Ends (s_list_given target at filling stored) after (IsGiven opens whole target before start at)
-list_given_is opens whole target at filling before start after stored goal listed there =
+    → IsPlaced after.types whole.type target at → IsListed opens whole (target_at target at) before start stored after → IsSome at → Ends (s_list_given target at filling stored) after (IsGiven opens whole target before start at)
+list_given_is opens whole target at filling before start after stored goal placed listed there =
     go_here_then _ _ after _ (go_gives _ after _ (record {
       goes = listed.goes;
-      filling = record { stored = listed.stored; next = next_placed after.types whole.type target.is_static target.base at goal.base };
+      filling = record { stored = listed.stored; next = next_placed after.types whole.type target.is_static target.base at goal.base placed };
       some = listed.some;
       placed = there;
     }))
@@ -108,7 +108,8 @@ pub given_list_goes : (list : InitialiserListTree) → ListGoes list → GivenGo
 given_list_goes list first opens whole target at filling before start goal held =
     go_chain _ _ _ _ start (IsListed opens whole (target_at target at) before start) _
     (first opens whole (target_at target at) filling.stored before start (record { is_static = goal.is_static; base = held.at_is.part }) held.stored) (λ stored after listed.
-    list_given_is opens whole target at filling before start after stored (target_on opens start.types after.types listed.goes whole target goal) listed (from_some target.base at listed.based))
+    list_given_is opens whole target at filling before start after stored (target_on opens start.types after.types listed.goes whole target goal)
+    (placed_on opens start.types after.types listed.goes whole.type target at held.at_is) listed (from_some target.base at listed.based))
 
 -- ---- designators (6.7.8p6, p7)
 
@@ -294,6 +295,10 @@ stored_none opens whole scope good held = record {
   made = makes_nothing opens scope scope refl;
 }
 
+-- the object is a part of itself
+whole_part : (types : CTypes) (type : CTy) → IsPart types type (whole_of type)
+whole_part types type = record { there = refl; named = refl }
+
 only_more : (at : CAt) (more : List CStored) → with_more (Some at) more [] ≡ more
 only_more at [] = refl
 only_more at (first ∷ more) = refl
@@ -308,7 +313,7 @@ module _ (opens : List ℕ) (whole : CWhole) (scope : CScope) (good : IsGood ope
   whole_value_goes : (tree : ExprTree) (line : ℕ) (value : COperand) (after : CScope) → IsExpr opens tree scope value after
       → Ends (s_whole_given line target value) after (λ filling last. IsInitialised opens whole scope filling.stored last)
   whole_value_goes tree line value after expr =
-      let placed = placed_whole after.types whole.type whole.is_static (Some base) refl in
+      let placed = placed_whole after.types whole.type whole.is_static (Some base) (whole_part after.types whole.type) in
       go_here_then _ _ after _ (go_settled _ after line _ _ after _ (λ unbroken. record {
         stored = value_stores opens whole scope scope after tree value expr [] (stored_none opens whole scope good held) whole.is_static refl (Some base) (Some base) placed unbroken;
         some = omega arith;
@@ -316,7 +321,7 @@ module _ (opens : List ℕ) (whole : CWhole) (scope : CScope) (good : IsGood ope
 
   whole_text_goes : (line : ℕ) (parts : List (List ℕ)) → Ends (s_whole_text line target parts) scope (λ filling last. IsInitialised opens whole scope filling.stored last)
   whole_text_goes line parts =
-      let placed = placed_whole scope.types whole.type whole.is_static (Some base) refl in
+      let placed = placed_whole scope.types whole.type whole.is_static (Some base) (whole_part scope.types whole.type) in
       go_here_then _ _ scope _ (go_either _ (base_is_text (Some base)) _ _ scope _
       (λ is.
       let given = text_given opens whole scope scope [] (stored_none opens whole scope good held) line (joined_bytes parts) (joined_some parts) whole.is_static (Some base) (Some base) placed is in
@@ -342,7 +347,7 @@ single_goes value first opens whole scope good held =
 pub braced_goes : (list : InitialiserListTree) → ListGoes list → InitialiserGoes (Braced list)
 braced_goes list first opens whole scope good held = record {
   ends = λ fine.
-      let made = (first opens whole (whole_target whole.is_static (Some whole.type)) [] scope scope (record { is_static = refl; base = refl }) (stored_none opens whole scope good held)).ends fine in
+      let made = (first opens whole (whole_target whole.is_static (Some whole.type)) [] scope scope (record { is_static = refl; base = whole_part scope.types whole.type }) (stored_none opens whole scope good held)).ends fine in
       record { stored = made.stored; some = made.some };
 }
 

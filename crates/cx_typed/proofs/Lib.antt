@@ -27,6 +27,7 @@ pub mod Lexed
 pub mod Listed
 pub mod Members
 pub mod Named
+pub mod NamedPaths
 pub mod Names
 pub mod Numbered
 pub mod OfNumbers

@@ -3,7 +3,7 @@ use Rattle.std.proofs.Common.{◌≡◌, ◌⊎◌, inl, inr, ⊎_elim, ℕ, ◌
 use Rattle.std.proofs.lemmas.Bool.Decides.{nat_tests}
 use Rattle.cx_core.specs.Layouts.{row_at, passes, layouts_of}
 use Rattle.cx_core.specs.Trees.{CTy, ty, CTyForm, void, basic, enum_type, pointer, array, record_type, function, form_of_type, CTypes}
-use Rattle.cx_core.specs.ValidTypes.{CPart, direct_part, part_at, within}
+use Rattle.cx_core.specs.ValidTypes.{CPart, member_of, direct_part, part_at, within, has_name, is_named_path}
 use Rattle.cx_layout.proofs.Place.{stands_apart}
 use Rattle.cx_layout.specs.Calls.{record_at}
 use Rattle.cx_layout.specs.Places.{first_bit, end_bit}
@@ -11,6 +11,8 @@ use Rattle.cx_rules.specs.Initial.{CStored, part_type, type_by, takes_away, come
 use Rattle.cx_typed.proofs.Placed.{then_found, map_found, some_same, first_of, within_first, times_more, inside, HaveWholeBits, IsElementPart, element_part, IsMemberPart, member_part, row_here, stands, laid_out, member_ends}
 use Rattle.cx_typed.proofs.Members.{row_found}
 use Rattle.cx_typed.proofs.Same.{number_is}
+use Rattle.cx_typed.proofs.Stays.{both, together}
+use Rattle.cx_typed.specs.Initialised.{is_named_by}
 
 -- ---- an object, and what it is once its initialiser has ended
 
@@ -104,6 +106,32 @@ module _ (types : CTypes) where
   part_in_whole (index ∷ path) type other found part like same is there =
       let held = step_of path index type other found part like is there in
       ap (λ p. p.type) (sym held.whole) ∙ part_type_is path held.outer.type found held.inner held.found_is held.there
+
+  -- ---- named members on the way
+
+  like_member : (type other : CTy) (index : ℕ) → IsLike type other → member_of types (form_of_type other) index ≡ member_of types (form_of_type type) index
+  like_member (ty (array element length) is_const) other index like = ap (λ t. member_of types (form_of_type t) index) like.1
+  like_member (ty void is_const) other index like = ap (λ t. member_of types (form_of_type t) index) like
+  like_member (ty (basic which) is_const) other index like = ap (λ t. member_of types (form_of_type t) index) like
+  like_member (ty (enum_type number) is_const) other index like = ap (λ t. member_of types (form_of_type t) index) like
+  like_member (ty (pointer to) is_const) other index like = ap (λ t. member_of types (form_of_type t) index) like
+  like_member (ty (record_type number) is_const) other index like = ap (λ t. member_of types (form_of_type t) index) like
+  like_member (ty (function result params variadic) is_const) other index like = ap (λ t. member_of types (form_of_type t) index) like
+
+  abbrev is_named_rest : List ℕ → Option CPart → Bool
+  is_named_rest path None = true
+  is_named_rest path (Some part) = is_named_path types path part.type
+
+  -- a path over named members leads over them in the whole object, too
+  pub named_in_whole : (path : List ℕ) (type other found : CTy) (part : CPart) → IsLike type other → type_by types (Some type) path ≡ Some found → part_at types path other ≡ Some part
+      → is_named_by types (Some type) path ≡ true → is_named_path types path other ≡ true
+  named_in_whole [] type other found part like is there named = refl
+  named_in_whole (index ∷ path) type other found part like is there named =
+      let held = step_of path index type other found part like is there in
+      let rest : is_named_by types (Some held.outer.type) path ≡ true = sym (ap (λ inner. is_named_by types inner path) held.part_is) ∙ (both named).1 in
+      together (ap has_name (like_member type other index like) ∙ (both named).0)
+      (ap (is_named_rest path) held.direct
+      ∙ named_in_whole path held.outer.type held.outer.type found held.inner (like_itself held.outer.type) held.found_is held.there rest)
 
 -- ---- places in order
 

@@ -4,21 +4,23 @@ use Rattle.std.proofs.lemmas.Bool.Decides.{nat_tests}
 use Rattle.std.specs.Prelude.{IsSome, IfSome}
 use Rattle.std.specs.Option.{option_and_then}
 use Rattle.cx_core.specs.Layouts.{extent, layouts_of}
-use Rattle.cx_core.specs.Trees.{CTy, ty, void, basic, enum_type, pointer, array, record_type, function, CMember, CRecord, CTypes}
-use Rattle.cx_core.specs.ValidTypes.{IsMemberIn}
+use Rattle.cx_core.specs.Trees.{CTy, ty, void, basic, enum_type, pointer, array, record_type, function, form_of_type, CMember, CRecord, CTypes}
+use Rattle.cx_core.specs.ValidTypes.{member_of, has_name, IsMemberIn}
 use Rattle.cx_layout.specs.Calls.{record_at}
 use Rattle.cx_rules.specs.Initial.{CAt, whole_of, members_of, most_elements, has_element, part_type, first_part, first_named, one_step, first_path, first_at, type_by, at_path, at_within, following, landed_at, landing, CKind, element_at, member_at, members_by, called_from}
 use Rattle.cx_rules.specs.Pieces.{CTarget, from_whole, next_of}
 use Rattle.cx_rules.specs.Types.{is_array, record_of, size_of}
 use Rattle.cx_typed.proofs.Growing.{map_gives, extent_grows}
 use Rattle.cx_typed.proofs.Members.{all_at}
+use Rattle.cx_typed.proofs.NamedPaths.{IsNamedIn, HaveNames, named_behind, named_tail, first_path_named, following_named, landing_named, called_is_named}
 use Rattle.cx_typed.proofs.Ordered.{type_none}
 use Rattle.cx_typed.proofs.Parts.{complete_object}
 use Rattle.cx_typed.proofs.Placed.{map_found, some_same}
 use Rattle.cx_typed.proofs.Puts.{whole_there}
+use Rattle.cx_typed.proofs.Stays.{both, together, member_stays, name_stays}
 use Rattle.cx_typed.proofs.Texts.{type_behind}
 use Rattle.cx_typed.specs.Growth.{Gives, Grows, IsSettled}
-use Rattle.cx_typed.specs.Initialised.{IsKnownWhole, IsPart, IsPlaced, IsOpened, IsOpenedAt}
+use Rattle.cx_typed.specs.Initialised.{IsKnownWhole, is_named_by, IsPart, IsPlaced, IsOpened, IsOpenedAt}
 use Rattle.cx_typed.specs.Sound.{AreSound}
 
 -- ---- parts stay while types grow
@@ -66,6 +68,27 @@ module _ (opens : List ℕ) (before after : CTypes) (grows : Grows opens before 
   pub part_on : (whole type : CTy) (path : List ℕ) → type_by before (Some whole) path ≡ Some type → type_by after (Some whole) path ≡ Some type
   part_on whole type path is = types_give path (Some whole) (Some whole) (λ x is. is) type is
 
+  member_was : (found : Option CMember) (inner : CTy) → option_map (λ one. one.type) found ≡ Some inner → IsSome found
+  member_was None inner is = absurd cc
+  member_was (Some one) inner is = refl
+
+  name_on : (type : CTy) (index : ℕ) (inner : CTy) → part_type before type index ≡ Some inner → has_name (member_of before (form_of_type type) index) ≡ true → has_name (member_of after (form_of_type type) index) ≡ true
+  name_on (ty (record_type number) is_const) index inner there is =
+      name_stays opens before after grows (member_of before (record_type number) index) (member_of after (record_type number) index) (member_stays opens before after grows (record_type number) index)
+      (member_was (slice_get (members_of (record_at before number)) index) inner there) is
+  name_on (ty form is_const) index inner there is = is
+
+  pub named_on : (path : List ℕ) (whole type : CTy) → type_by before (Some whole) path ≡ Some type → is_named_by before (Some whole) path ≡ true → is_named_by after (Some whole) path ≡ true
+  named_on [] whole type there is = refl
+  named_on (index ∷ path) whole type there is =
+      let inner = type_none before path (part_type before whole index) type there in
+      let rest : is_named_by before (Some inner.0) path ≡ true = sym (ap (λ found. is_named_by before found path) inner.1) ∙ (both is).1 in
+      together (name_on whole index inner.0 inner.1 (both is).0)
+      (ap (λ found. is_named_by after found path) (part_gives whole index inner.0 inner.1) ∙ named_on path inner.0 type inner.2 rest)
+
+  pub is_part_on : (whole : CTy) (at : CAt) → IsPart before whole at → IsPart after whole at
+  is_part_on whole at held = record { there = part_on whole at.type at.path held.there; named = named_on at.path whole at.type held.there held.named }
+
   pub opened_on : (type : CTy) → IsOpened before type → IsOpened after type
   opened_on (ty (record_type number) is_const) held = by_record (record_at before number) (grows.records number) held
     where
@@ -84,7 +107,7 @@ module _ (opens : List ℕ) (before after : CTypes) (grows : Grows opens before 
     where
       if_part : (found : Option CAt) → IfSome found (IsPart before whole) → IfSome found (IsPart after whole)
       if_part None held = tt
-      if_part (Some one) held = part_on whole one.type one.path held
+      if_part (Some one) held = is_part_on whole one held
 
   pub opened_at_on : (at : Option CAt) → IsOpenedAt before at → IsOpenedAt after at
   opened_at_on None held = tt
@@ -152,9 +175,13 @@ module _ (types : CTypes) (whole : CTy) (is_static : Bool) where
   IsBase base = IfSome base (IsPart types whole)
 
   -- a part of the part
-  placed_path : (base at : CAt) → IsPart types whole base → type_by types (Some base.type) at.path ≡ Some at.type → IsPlaced types whole (target_of (Some base)) (Some at)
-  placed_path base at held is = record {
-    part = type_behind types (Some whole) base.path at.path ∙ (ap (λ found. type_by types found at.path) held ∙ is);
+  placed_path : (base at : CAt) → IsPart types whole base → type_by types (Some base.type) at.path ≡ Some at.type → is_named_by types (Some base.type) at.path ≡ true
+      → IsPlaced types whole (target_of (Some base)) (Some at)
+  placed_path base at held is named = record {
+    part = record {
+      there = type_behind types (Some whole) base.path at.path ∙ (ap (λ found. type_by types found at.path) held.there ∙ is);
+      named = named_behind types (Some whole) base.path at.path held.named (ap (λ found. is_named_by types found at.path) held.there ∙ named);
+    };
     based = λ there. refl;
   }
 
@@ -166,74 +193,98 @@ module _ (types : CTypes) (whole : CTy) (is_static : Bool) where
   -- where a list begins, and the whole that it is for
   pub placed_whole : (base : Option CAt) → IsBase base → IsPlaced types whole (target_of base) (option_map (λ one. whole_of one.type) base)
   placed_whole None held = placed_none None
-  placed_whole (Some base) held = placed_path base (whole_of base.type) held refl
+  placed_whole (Some base) held = placed_path base (whole_of base.type) held refl refl
 
-  found_placed : (base : CAt) (path : List ℕ) (found : Option CTy) → IsPart types whole base → type_by types (Some base.type) path ≡ found
+  found_placed : (base : CAt) (path : List ℕ) (found : Option CTy) → IsPart types whole base → is_named_by types (Some base.type) path ≡ true → type_by types (Some base.type) path ≡ found
       → IsPlaced types whole (target_of (Some base)) (option_map (λ type. record { path = path; type = type }) found)
-  found_placed base path None held is = placed_none (Some base)
-  found_placed base path (Some type) held is = placed_path base (record { path = path; type = type }) held is
+  found_placed base path None held named is = placed_none (Some base)
+  found_placed base path (Some type) held named is = placed_path base (record { path = path; type = type }) held is named
 
-  at_path_placed : (base : CAt) (path : List ℕ) → IsPart types whole base → IsPlaced types whole (target_of (Some base)) (at_path types base.type path)
-  at_path_placed base path held = found_placed base path (type_by types (Some base.type) path) held refl
+  at_path_placed : (base : CAt) (path : List ℕ) → IsPart types whole base → is_named_by types (Some base.type) path ≡ true → IsPlaced types whole (target_of (Some base)) (at_path types base.type path)
+  at_path_placed base path held named = found_placed base path (type_by types (Some base.type) path) held named refl
 
-  then_path_placed : (base : CAt) (path : Option (List ℕ)) → IsPart types whole base → IsPlaced types whole (target_of (Some base)) (option_and_then (at_path types base.type) path)
-  then_path_placed base None held = placed_none (Some base)
-  then_path_placed base (Some path) held = at_path_placed base path held
+  then_path_placed : (base : CAt) (path : Option (List ℕ)) → IsPart types whole base → HaveNames types (Some base.type) path → IsPlaced types whole (target_of (Some base)) (option_and_then (at_path types base.type) path)
+  then_path_placed base None held named = placed_none (Some base)
+  then_path_placed base (Some path) held named = at_path_placed base path held named
 
   pub first_placed : (base : Option CAt) → IsBase base → IsPlaced types whole (target_of base) (option_and_then (λ one. first_at types one.type) base)
   first_placed None held = placed_none None
-  first_placed (Some base) held = then_path_placed base (first_path types base.type) held
+  first_placed (Some base) held = then_path_placed base (first_path types base.type) held (first_path_named types base.type)
 
-  pub next_placed : (base at : Option CAt) → IsBase base → IsPlaced types whole (target_of base) (next_of types base at)
-  next_placed None at held = placed_none None
-  next_placed (Some base) None held = placed_none (Some base)
-  next_placed (Some base) (Some at) held = then_path_placed base (following types base.type at.path) held
+  named_inside : (base at : CAt) → IsPart types whole base → IsPlaced types whole (target_of (Some base)) (Some at) → is_named_by types (Some base.type) at.path ≡ true
+  named_inside base at held placed = sym (ap (λ found. is_named_by types found at.path) held.there) ∙ named_tail types (Some whole) base.path at.path placed.part.named
+
+  pub next_placed : (base at : Option CAt) → IsBase base → IsPlaced types whole (target_of base) at → IsPlaced types whole (target_of base) (next_of types base at)
+  next_placed None at held placed = placed_none None
+  next_placed (Some base) None held placed = placed_none (Some base)
+  next_placed (Some base) (Some at) held placed =
+      then_path_placed base (following types base.type at.path) held (following_named types (Some base.type) at.path (named_inside base at held placed))
 
   -- ---- within another place
 
-  within_found : (base : Option CAt) (at : CAt) (path : List ℕ) (found : Option CTy) → IsPlaced types whole (target_of base) (Some at) → type_by types (Some at.type) path ≡ found
+  within_found : (base : Option CAt) (at : CAt) (path : List ℕ) (found : Option CTy) → IsPlaced types whole (target_of base) (Some at) → is_named_by types (Some at.type) path ≡ true
+      → type_by types (Some at.type) path ≡ found
       → IsPlaced types whole (target_of base) (option_map (λ type. record { path = at.path ++ path; type = type }) found)
-  within_found base at path None held is = placed_none base
-  within_found None at path (Some type) held is = absurd (let h : IsSome {T = CAt} None = held.based refl in cc)
-  within_found (Some base) at path (Some type) held is = record {
-    part =
-        ap (type_by types (Some whole)) (sym (append_assoc base.path at.path path))
-        ∙ (type_behind types (Some whole) (base.path ++ at.path) path ∙ (ap (λ found. type_by types found path) held.part ∙ is));
+  within_found base at path None held named is = placed_none base
+  within_found None at path (Some type) held named is = absurd (let h : IsSome {T = CAt} None = held.based refl in cc)
+  within_found (Some base) at path (Some type) held named is = record {
+    part = record {
+      there = ap (type_by types (Some whole)) (sym (append_assoc base.path at.path path))
+          ∙ (type_behind types (Some whole) (base.path ++ at.path) path ∙ (ap (λ found. type_by types found path) held.part.there ∙ is));
+      named = ap (is_named_by types (Some whole)) (sym (append_assoc base.path at.path path))
+          ∙ named_behind types (Some whole) (base.path ++ at.path) path held.part.named (ap (λ found. is_named_by types found path) held.part.there ∙ named);
+    };
     based = λ there. refl;
   }
 
-  pub within_placed : (base : Option CAt) (at : CAt) (path : List ℕ) → IsPlaced types whole (target_of base) (Some at) → IsPlaced types whole (target_of base) (at_within types at path)
-  within_placed base at path held = within_found base at path (type_by types (Some at.type) path) held refl
+  within_placed : (base : Option CAt) (at : CAt) (path : List ℕ) → IsPlaced types whole (target_of base) (Some at) → is_named_by types (Some at.type) path ≡ true
+      → IsPlaced types whole (target_of base) (at_within types at path)
+  within_placed base at path held named = within_found base at path (type_by types (Some at.type) path) held named refl
 
-  then_within : (base : Option CAt) (at : CAt) (path : Option (List ℕ)) → IsPlaced types whole (target_of base) (Some at) → IsPlaced types whole (target_of base) (option_and_then (at_within types at) path)
-  then_within base at None held = placed_none base
-  then_within base at (Some path) held = within_placed base at path held
+  then_within : (base : Option CAt) (at : CAt) (path : Option (List ℕ)) → IsPlaced types whole (target_of base) (Some at) → HaveNames types (Some at.type) path
+      → IsPlaced types whole (target_of base) (option_and_then (at_within types at) path)
+  then_within base at None held named = placed_none base
+  then_within base at (Some path) held named = within_placed base at path held named
 
   -- where a value lands
   pub landed_placed : (kind : CKind) (base at : Option CAt) → IsPlaced types whole (target_of base) at → IsPlaced types whole (target_of base) (option_and_then (landed_at types kind) at)
   landed_placed kind base None held = placed_none base
-  landed_placed kind base (Some at) held = then_within base at (landing types kind at.type) held
+  landed_placed kind base (Some at) held = then_within base at (landing types kind at.type) held (landing_named types kind at.type)
 
   -- ---- designators
 
-  if_placed : (base : Option CAt) (test : Bool) (at : Option CAt) → IsPlaced types whole (target_of base) at → IsPlaced types whole (target_of base) (if test then at else None)
-  if_placed base true at held = held
+  if_placed : (base : Option CAt) (test : Bool) (at : Option CAt) → (test ≡ true → IsPlaced types whole (target_of base) at) → IsPlaced types whole (target_of base) (if test then at else None)
+  if_placed base true at held = held refl
   if_placed base false at held = placed_none base
+
+  element_needs_none : (type : CTy) (index : ℕ) → is_array type ≡ true → is_named_by types (Some type) (index ∷ []) ≡ true
+  element_needs_none (ty (array element length) is_const) index is = refl
+  element_needs_none (ty (record_type number) is_const) index is = absurd cc
+  element_needs_none (ty form is_const) index is = refl
 
   pub element_placed : (base at : Option CAt) (index : Option ℤ) → IsPlaced types whole (target_of base) at → IsPlaced types whole (target_of base) (element_at types at index)
   element_placed base None index held = placed_none base
   element_placed base (Some at) None held = placed_none base
-  element_placed base (Some at) (Some (pos index)) held = if_placed base (is_array at.type) (at_within types at (index ∷ [])) (within_placed base at (index ∷ []) held)
+  element_placed base (Some at) (Some (pos index)) held = if_placed base (is_array at.type) (at_within types at (index ∷ [])) (λ is. within_placed base at (index ∷ []) held (element_needs_none at.type index is))
   element_placed base (Some at) (Some (negsuc n)) held = placed_none base
 
-  then_member : (base : Option CAt) (at : CAt) (index : Option ℕ) → IsPlaced types whole (target_of base) (Some at)
+  member_called : (type : CTy) (name : List ℕ) → IfSome (called_from 0 name (members_by types (record_of type))) (λ index. is_named_by types (Some type) (index ∷ []) ≡ true)
+  member_called (ty (record_type number) is_const) name =
+      if_called (called_from 0 name (members_of (record_at types number))) (called_is_named (members_of (record_at types number)) name (members_of (record_at types number)) 0 refl)
+    where
+      if_called : (index : Option ℕ) → IfSome index (IsNamedIn (members_of (record_at types number))) → IfSome index (λ one. is_named_by types (Some (ty (record_type number) is_const)) (one ∷ []) ≡ true)
+      if_called None held = tt
+      if_called (Some index) held = together held refl
+  member_called (ty form is_const) name = tt
+
+  then_member : (base : Option CAt) (at : CAt) (index : Option ℕ) → IsPlaced types whole (target_of base) (Some at) → IfSome index (λ one. is_named_by types (Some at.type) (one ∷ []) ≡ true)
       → IsPlaced types whole (target_of base) (option_and_then (λ number. at_within types at (number ∷ [])) index)
-  then_member base at None held = placed_none base
-  then_member base at (Some index) held = within_placed base at (index ∷ []) held
+  then_member base at None held named = placed_none base
+  then_member base at (Some index) held named = within_placed base at (index ∷ []) held named
 
   pub member_placed : (base at : Option CAt) (name : List ℕ) → IsPlaced types whole (target_of base) at → IsPlaced types whole (target_of base) (member_at types at name)
   member_placed base None name held = placed_none base
-  member_placed base (Some at) name held = then_member base at (called_from 0 name (members_by types (record_of at.type))) held
+  member_placed base (Some at) name held = then_member base at (called_from 0 name (members_by types (record_of at.type))) held (member_called at.type name)
 
 -- ---- a part that is there stands in an object whose type is completed
 

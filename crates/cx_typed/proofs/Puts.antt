@@ -8,11 +8,11 @@ use Rattle.cx_core.specs.Typing.{CHome, ArePuts, AreInOrder, AreConstantPuts, Is
 use Rattle.cx_core.specs.ValidTypes.{CPart, part_at, IsBitFieldOf, IsMemberIn, IsResultForm}
 use Rattle.cx_rules.specs.Initial.{CStored, type_by, completed_type, put_at, puts_from, puts_of, kept, in_order}
 use Rattle.cx_typed.proofs.Members.{all_at}
-use Rattle.cx_typed.proofs.Ordered.{like_completed, part_in_whole, ordered}
+use Rattle.cx_typed.proofs.Ordered.{like_completed, part_in_whole, named_in_whole, ordered}
 use Rattle.cx_typed.proofs.Placed.{HaveWholeBits, first_of, some_same}
 use Rattle.cx_typed.proofs.Scopes.{within}
 use Rattle.cx_typed.proofs.Sorted.{IsBefore, AllBefore, kept_each, sorted_each, kept_before}
-use Rattle.cx_typed.proofs.Stays.{part_stays}
+use Rattle.cx_typed.proofs.Stays.{part_stays, named_stays}
 use Rattle.cx_typed.specs.Growth.{Grows}
 use Rattle.cx_typed.specs.Initialised.{IsStored, EachStored}
 use Rattle.cx_typed.specs.Sound.{AreSound}
@@ -116,7 +116,12 @@ module _ (types : CTypes) (type : CTy) (stored : List CStored) where
               (
                 held.0.0,
                 record {
-                  part = record { path = one.path; leads = part_stays opens types home.program.types grows one.path whole part e };
+                  part = record {
+                    path = one.path;
+                    leads = part_stays opens types home.program.types grows one.path whole part e;
+                    named = named_stays opens types home.program.types grows one.path whole part e
+                        (named_in_whole types one.path type whole one.type part (like_completed type stored) each.0.part e each.0.named);
+                  };
                   no_array = subst (λ t. IsResultForm (form_of_type t)) (sym same) each.0.no_array;
                   value_is = held.0.1 ∙ ap unqualified (sym same);
                 },

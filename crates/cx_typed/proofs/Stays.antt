@@ -1,5 +1,6 @@
 -- What is known of two types, of members and of parts stays while the types of a unit grow.
-use Rattle.std.proofs.Common.{◌≡◌, ℕ, ◌*◌, ◌==◌, nat_lt, Bool, true, false, ◌||◌, ◌&&◌, if◌then◌else◌, List, [], ◌∷◌, Option, None, Some, option_map, slice_get, refl, ap, ◌∙◌}
+use Rattle.std.proofs.Common.{◌≡◌, ℕ, ◌*◌, ◌==◌, nat_lt, Bool, true, false, ◌||◌, ◌&&◌, if◌then◌else◌, List, [], ◌∷◌, Option, None, Some, option_map, slice_get, refl, sym, ap, ◌∙◌}
+use Rattle.std.specs.Prelude.{IsSome}
 use Rattle.cr_base.specs.declared.layout.Laid.{Laid}
 use Rattle.cr_base.specs.declared.layout.Spot.{Spot}
 use Rattle.cx_core.specs.declared.ty.Basic.{Basic}
@@ -8,20 +9,21 @@ use Rattle.cx_core.specs.Compatible.{agree, forms_agree, params_agree, lists_agr
 use Rattle.cx_core.specs.Conversions.{basic_of}
 use Rattle.cx_core.specs.Layouts.{CRow, row_at, extent, layouts_of}
 use Rattle.cx_core.specs.Trees.{CTy, ty, CTyForm, void, basic, enum_type, pointer, array, record_type, function, CParams, unlisted, listed, CTys, no_types, more_types, CMember, CRecord, CTypes}
-use Rattle.cx_core.specs.ValidTypes.{CPart, member_of, spot_of, direct_part, part_at, within, IsPartOf, IsMemberOf}
+use Rattle.cx_core.specs.ValidTypes.{CPart, member_of, spot_of, direct_part, part_at, within, has_name, is_named_path, IsPartOf, IsMemberOf}
 use Rattle.cx_layout.specs.Calls.{record_at}
 use Rattle.cx_rules.specs.Types.{compatible}
 use Rattle.cx_typed.proofs.Growing.{then_gives, map_gives, layouts_grow, extent_grows, basic_grows}
+use Rattle.cx_typed.proofs.Placed.{then_found, map_found}
 use Rattle.cx_typed.specs.Growth.{Gives, Grows, is_open, IsSettled, IsSettledForm, AreSettledParams, AreSettled}
 
 -- ---- tests
 
-both : {a b : Bool} → (a && b) ≡ true → (a ≡ true) × (b ≡ true)
+pub both : {a b : Bool} → (a && b) ≡ true → (a ≡ true) × (b ≡ true)
 both {a = true} {b = true} is = (refl, refl)
 both {a = true} {b = false} is = absurd cc
 both {a = false} {b = b} is = absurd cc
 
-together : {a b : Bool} → a ≡ true → b ≡ true → (a && b) ≡ true
+pub together : {a b : Bool} → a ≡ true → b ≡ true → (a && b) ≡ true
 together {a = true} {b = b} first second = second
 together {a = false} {b = b} first second = absurd cc
 
@@ -160,8 +162,41 @@ module _ (opens : List ℕ) (before after : CTypes) (grows : Grows opens before 
       (direct_part before index form) (direct_part after index form) (direct_stays index form)
       (λ outer. map_gives (within outer) (part_at before path outer.type) (part_at after path outer.type) (part_stays path outer.type))
 
+  -- ---- named members on the way to a part
+
+  pub name_stays : (few many : Option CMember) → Gives few many → IsSome few → has_name few ≡ true → has_name many ≡ true
+  name_stays None many gives there is = absurd cc
+  name_stays (Some one) many gives there is = ap has_name (gives one refl) ∙ is
+
+  part_member : (one : Option CMember) (spot : Option Spot) (part : CPart) → part_as one spot ≡ Some part → IsSome one
+  part_member None spot part is = absurd cc
+  part_member (Some one) spot part is = refl
+
+  direct_named : (index : ℕ) (form : CTyForm) (part : CPart) → direct_part before index form ≡ Some part → has_name (member_of before form index) ≡ true → has_name (member_of after form index) ≡ true
+  direct_named index (record_type number) part there is =
+      name_stays (member_of before (record_type number) index) (member_of after (record_type number) index) (member_stays (record_type number) index)
+      (part_member (member_of before (record_type number) index) (spot_of before (record_type number) index) part there) is
+  direct_named index form part there is = is
+
+  abbrev is_named_rest : CTypes → List ℕ → Option CPart → Bool
+  is_named_rest types path None = true
+  is_named_rest types path (Some part) = is_named_path types path part.type
+
+  pub named_stays : (path : List ℕ) (type : CTy) (part : CPart) → part_at before path type ≡ Some part → is_named_path before path type ≡ true → is_named_path after path type ≡ true
+  named_stays [] type part there is = refl
+  named_stays (index ∷ path) (ty form is_const) part there is =
+      let outer = then_found (λ outer. option_map (within outer) (part_at before path outer.type)) (direct_part before index form) part there in
+      let inner = map_found (within outer.0) (part_at before path outer.0.type) part outer.2 in
+      let rest : is_named_path before path outer.0.type ≡ true = sym (ap (is_named_rest before path) outer.1) ∙ (both is).1 in
+      together (direct_named index form outer.0 outer.1 (both is).0)
+      (ap (is_named_rest after path) (direct_stays index form outer.0 outer.1) ∙ named_stays path outer.0.type inner.0 inner.1 rest)
+
   pub is_part_stays : (holder : CTy) (spot : Spot) (type : CTy) → IsPartOf before holder spot type → IsPartOf after holder spot type
-  is_part_stays holder spot type held = record { path = held.path; leads = part_stays held.path holder _ held.leads }
+  is_part_stays holder spot type held = record {
+    path = held.path;
+    leads = part_stays held.path holder _ held.leads;
+    named = named_stays held.path holder _ held.leads held.named;
+  }
 
   pub is_member_stays : (holder : CTy) (spot : Spot) (type : CTy) → IsMemberOf before holder spot type → IsMemberOf after holder spot type
   is_member_stays (ty form is_const) spot type held = record {

@@ -19,11 +19,12 @@ use Rattle.cx_rules.specs.Types.{is_character_form, exceeds}
 use Rattle.cx_typed.proofs.Names.{text_fits}
 use Rattle.cx_typed.proofs.Promoted.{neither}
 use Rattle.cx_typed.proofs.Puts.{whole_bits, in_place, are_puts, constant_puts}
+use Rattle.cx_typed.proofs.NamedPaths.{named_behind}
 use Rattle.cx_typed.proofs.Numbered.{only_last}
 use Rattle.cx_typed.proofs.Sorted.{each_more}
-use Rattle.cx_typed.specs.Initialised.{IsStored, IsTypedStored, EachStored}
+use Rattle.cx_typed.specs.Initialised.{is_named_by, IsStored, IsTypedStored, EachStored}
 use Rattle.cx_typed.specs.Sound.{AreSound}
-use Rattle.cx_typed.specs.Scopes.{object_made, AreTypedLiterals}
+use Rattle.cx_typed.specs.Scopes.{object_made, AreTypedLiterals, IsWellMade}
 use Rattle.cx_typed.specs.Unbroken.{IsUnbroken}
 
 -- ---- paths
@@ -112,7 +113,7 @@ module _ (types : CTypes) (at : TextPlace) (where_is : CAt) (element : CTy) (len
   if_stored P true one others held more = (held refl, more)
   if_stored P false one others held more = tt
 
-  module _ (whole : CTy) (is_const : Bool) (part : type_by types (Some whole) where_is.path ≡ Some (ty (array element length_is) is_const)) where
+  module _ (whole : CTy) (is_const : Bool) (part : type_by types (Some whole) where_is.path ≡ Some (ty (array element length_is) is_const)) (named : is_named_by types (Some whole) where_is.path ≡ true) where
     element_is : (index : ℕ) → has_element types element length_is index ≡ true → type_by types (Some whole) (where_is.path ++ index ∷ []) ≡ Some element
     element_is index is =
         type_behind types (Some whole) where_is.path (index ∷ []) ∙ ap (λ found. type_by types found (index ∷ [])) part ∙ by_test (has_element types element length_is index) is
@@ -121,11 +122,15 @@ module _ (types : CTypes) (at : TextPlace) (where_is : CAt) (element : CTy) (len
         by_test true e = refl
         by_test false e = absurd cc
 
+    -- an element needs no name
+    element_named : (index : ℕ) → is_named_by types (Some whole) (where_is.path ++ index ∷ []) ≡ true
+    element_named index = named_behind types (Some whole) where_is.path (index ∷ []) named (ap (λ found. is_named_by types found (index ∷ [])) part)
+
     pub bytes_parts : (bytes : List ℕ) (index : ℕ) → EachStored (IsStored types whole) (bytes_from types at where_is element length_is index bytes)
     bytes_parts [] index = tt
     bytes_parts (byte ∷ bytes) index =
         if_stored (IsStored types whole) (has_element types element length_is index) (byte_at index byte) (bytes_from types at where_is element length_is (index + 1) bytes)
-        (λ is. record { part = element_is index is; no_array = character_result element is_character }) (bytes_parts bytes (index + 1))
+        (λ is. record { part = element_is index is; named = element_named index; no_array = character_result element is_character }) (bytes_parts bytes (index + 1))
 
   pub bytes_typed : (home : CHome) (is_static : Bool) (bytes : List ℕ) (index : ℕ) → EachStored (IsTypedStored home is_static) (bytes_from types at where_is element length_is index bytes)
   bytes_typed home is_static [] index = tt
@@ -140,22 +145,25 @@ text_complete count some fits types unit = (tt, record { plain = refl; complete 
 
 pub text_made : (opens : List ℕ) (scope : CScope) (line : ℕ) (bytes : List ℕ) → AreSound opens scope.types scope.unit → 0 < length bytes
     → IsUnbroken scope scope.types (literal_node (text_type bytes)) → AreTypedLiterals opens scope (with_text line bytes scope)
-text_made opens scope line bytes sound some unbroken home serves number one from is =
-    subst (λ made. IsTypedObject home.program home.mentions (object_made home.unit made)) (sym (only_last scope.literals (made_text scope line bytes) number one from is)) (record {
-      type_in = text_complete (length bytes) some fits home.program.types home.unit;
-      object = tt;
-      named = λ linked. absurd cc;
-      text = λ is_text. record { unnamed = refl; no_linkage = refl; static = refl; array = refl };
-      static = record {
-        complete = text_fits (length bytes) some fits;
-        typed = (
-          are_puts scope.types (text_type bytes) stored opens (home_of home.program home.mentions home.unit) serves.grows parts
-              (each_more (IsTypedStored home true) _ stored (λ one held. (held.outside refl, held.type_is)) values),
-          in_place scope.types (text_type bytes) stored (whole_bits opens scope.types scope.unit sound) parts,
-        );
-        constant = constant_puts scope.types (text_type bytes) stored home.program (each_more (IsTypedStored home true) _ stored (λ one held. held.constant refl) values);
-      };
-    })
+text_made opens scope line bytes sound some unbroken = record {
+  well = λ number one from is. subst (IsWellMade scope.types) (sym (only_last scope.literals (made_text scope line bytes) number one from is)) (record { complete = λ none. absurd cc; no_text = λ none. absurd cc });
+  typed = λ home serves number one from is.
+      subst (λ made. IsTypedObject home.program home.mentions (object_made home.unit made)) (sym (only_last scope.literals (made_text scope line bytes) number one from is)) (record {
+        type_in = text_complete (length bytes) some fits home.program.types home.unit;
+        object = tt;
+        named = λ linked. absurd cc;
+        text = λ is_text. record { unnamed = refl; no_linkage = refl; static = refl; array = refl };
+        static = record {
+          complete = text_fits (length bytes) some fits;
+          typed = (
+            are_puts scope.types (text_type bytes) stored opens (home_of home.program home.mentions home.unit) serves.grows parts
+                (each_more (IsTypedStored home true) _ stored (λ one held. (held.outside refl, held.type_is)) (values home)),
+            in_place scope.types (text_type bytes) stored (whole_bits opens scope.types scope.unit sound) parts,
+          );
+          constant = constant_puts scope.types (text_type bytes) stored home.program (each_more (IsTypedStored home true) _ stored (λ one held. held.constant refl) (values home));
+        };
+      });
+}
   where
     fits : exceeds (elements (length bytes) (Some (laid_bytes 1))) ≡ false
     fits = (neither unbroken.m3).0
@@ -164,7 +172,7 @@ text_made opens scope line bytes sound some unbroken home serves number one from
     stored = bytes_from scope.types (at_line scope line) (whole_of (text_type bytes)) char_type (Some (length bytes)) 0 bytes
 
     parts : EachStored (IsStored scope.types (text_type bytes)) stored
-    parts = bytes_parts scope.types (at_line scope line) (whole_of (text_type bytes)) char_type (Some (length bytes)) refl (text_type bytes) false refl bytes 0
+    parts = bytes_parts scope.types (at_line scope line) (whole_of (text_type bytes)) char_type (Some (length bytes)) refl (text_type bytes) false refl refl bytes 0
 
-    values : EachStored (IsTypedStored home true) stored
-    values = bytes_typed scope.types (at_line scope line) (whole_of (text_type bytes)) char_type (Some (length bytes)) refl home true bytes 0
+    values : (home : CHome) → EachStored (IsTypedStored home true) stored
+    values home = bytes_typed scope.types (at_line scope line) (whole_of (text_type bytes)) char_type (Some (length bytes)) refl home true bytes 0

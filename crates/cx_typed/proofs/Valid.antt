@@ -16,23 +16,23 @@ use Rattle.cx_typed.specs.Spelled.{IsSpelled, AreSpelled, IsSpelledOption, IsSpe
 
 -- ---- tokens
 
-abbrev AreFit : List Token → Type 0
+abbrev pub AreFit : List Token → Type 0
 AreFit [] = Unit {0}
 AreFit (one ∷ others) = IsFitKind one.kind × AreFit others
 
-abbrev EachFits : List (List Token) → Type 0
+abbrev pub EachFits : List (List Token) → Type 0
 EachFits [] = Unit {0}
 EachFits (part ∷ parts) = AreFit part × EachFits parts
 
-all_fit : (tokens : List Token) → All (λ one. IsFitKind one.kind) tokens → AreFit tokens
+pub all_fit : (tokens : List Token) → All (λ one. IsFitKind one.kind) tokens → AreFit tokens
 all_fit [] held = tt
 all_fit (one ∷ others) held = (All-head (λ token. IsFitKind token.kind) one others held, all_fit others (All-tail (λ token. IsFitKind token.kind) one others held))
 
-front : (first second : List Token) → AreFit (first ++ second) → AreFit first
+pub front : (first second : List Token) → AreFit (first ++ second) → AreFit first
 front [] second held = tt
 front (one ∷ first) second held = (held.0, front first second held.1)
 
-back : (first second : List Token) → AreFit (first ++ second) → AreFit second
+pub back : (first second : List Token) → AreFit (first ++ second) → AreFit second
 back [] second held = held
 back (one ∷ first) second held = back first second held.1
 
@@ -40,7 +40,7 @@ behind_fit : (closing : List TokenKind) (parts : List (List Token)) (lines : Lis
 behind_fit closing [] lines held = tt
 behind_fit closing (part ∷ parts) lines held = (front part _ held.1, behind_fit closing parts _ (back part _ held.1))
 
-listed_fit : (closing : List TokenKind) (parts : List (List Token)) (lines : List ℕ) → AreFit (listed closing parts lines) → EachFits parts
+pub listed_fit : (closing : List TokenKind) (parts : List (List Token)) (lines : List ℕ) → AreFit (listed closing parts lines) → EachFits parts
 listed_fit closing [] lines held = tt
 listed_fit closing (part ∷ parts) lines held = (front part _ held, behind_fit closing parts lines (back part _ held))
 
@@ -57,7 +57,7 @@ some_params (more_params first others) some = tt
 -- ---- trees
 
 mutual
-  expr_fits : (tree : ExprTree) → IsValidExpr tree → AreFit (expr_tokens tree) → IsSpelled tree
+  pub expr_fits : (tree : ExprTree) → IsValidExpr tree → AreFit (expr_tokens tree) → IsSpelled tree
   expr_fits (Name name lines) valid held = tt
   expr_fits (Number value type lines) valid held = held.0
   expr_fits (Letter value lines) valid held = held.0
@@ -115,7 +115,7 @@ mutual
   spec_fits (Enum name (some_enumerator_list list) last_comma lines) valid held =
       enumerators_fit list valid.listed.each (listed_fit (brace last_comma) (enumerators_tokens list) (drop 1 (behind_tag name (drop 1 lines))) (back (tag_tokens name (drop 1 lines)) _ held.1).1)
 
-  specs_fit : (trees : SpecTrees) → AreValidSpecs trees → AreFit (specs_tokens trees) → AreSpelledSpecs trees
+  pub specs_fit : (trees : SpecTrees) → AreValidSpecs trees → AreFit (specs_tokens trees) → AreSpelledSpecs trees
   specs_fit no_specs valid held = tt
   specs_fit (more_specs first others) valid held = (spec_fits first valid.0 (front (spec_tokens first) _ held), specs_fit others valid.1 (back (spec_tokens first) _ held))
 
@@ -142,7 +142,7 @@ mutual
   enumerator_fits : (tree : EnumeratorTree) → IsValidEnumerator tree → AreFit (enumerator_tokens tree) → IsSpelledEnumerator tree
   enumerator_fits (Enumerator name value lines) valid held = option_fits conditional_level (mark lines 1 punct.Equal) value valid.part held.1
 
-  declarator_fits : (tree : DeclaratorTree) → IsValidDeclarator tree → AreFit (declarator_tokens tree) → IsSpelledDeclarator tree
+  pub declarator_fits : (tree : DeclaratorTree) → IsValidDeclarator tree → AreFit (declarator_tokens tree) → IsSpelledDeclarator tree
   declarator_fits Missing valid held = tt
   declarator_fits (Identifier name lines) valid held = tt
   declarator_fits (Group inner lines) valid held = declarator_fits inner valid.second (front (declarator_tokens inner) _ held.1)
@@ -173,7 +173,7 @@ mutual
   param_fits (Param specs declarator lines) valid held =
       (specs_fit specs valid.specs.each (front (specs_tokens specs) _ held), declarator_fits declarator valid.declarator (back (specs_tokens specs) _ held))
 
-  init_fits : (tree : InitialiserTree) → IsValidInitialiser tree → AreFit (initialiser_tokens tree) → IsSpelledInit tree
+  pub init_fits : (tree : InitialiserTree) → IsValidInitialiser tree → AreFit (initialiser_tokens tree) → IsSpelledInit tree
   init_fits (Single value) valid held = expr_fits value valid.valid held
   init_fits (Braced list) valid held = list_fits list valid held
 

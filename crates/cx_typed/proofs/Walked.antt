@@ -7,22 +7,28 @@ use Rattle.cx_rules.specs.declared.kinds.OperandKind.TheVariants.{Value, Place, 
 use Rattle.cx_rules.specs.Nodes.{CNode}
 use Rattle.cx_rules.specs.Operands.{COperand, value_of}
 use Rattle.cx_rules.specs.Pieces.{at_line, is_name}
-use Rattle.cx_rules.specs.Scope.{CScope}
+use Rattle.cx_rules.specs.Scope.{CMade, CScope}
 use Rattle.cx_tree.specs.Trees.{ExprTree}
-use Rattle.cx_typed.proofs.Growing.{some_stays, basic_grows, type_stays}
+use Rattle.cx_typed.proofs.Growing.{some_stays, basic_grows, type_stays, complete_stays}
 use Rattle.cx_typed.proofs.Numbered.{was_or_new, not_there, statics_stay}
 use Rattle.cx_typed.proofs.Scopes.{part_of, passes_on, stays_itself}
 use Rattle.cx_typed.specs.Constants.{IsOfNumbers, IsTypedConstant}
 use Rattle.cx_typed.specs.Growth.{Grows, IsSettled, IsSettledForm}
 use Rattle.cx_typed.specs.Nodes.{EachOf, CStanding, MeansTyped}
 use Rattle.cx_typed.specs.Operands.{IsKnownType, IsOperandTypeBy, IsOperandType}
-use Rattle.cx_typed.specs.Scopes.{Passes, Keeps, AreTypedLiterals}
+use Rattle.cx_typed.specs.Scopes.{Passes, Keeps, IsWellMade, AreTypedLiterals}
 use Rattle.cx_typed.specs.Unbroken.{IsUnbroken}
 use Rattle.cx_typed.specs.Walked.{IsGood, IsExpr, AreExprs}
 
 -- no literal is made
 pub makes_nothing : (opens : List ℕ) (before after : CScope) → after.literals ≡ before.literals → AreTypedLiterals opens before after
-makes_nothing opens before after same home serves number one from is = absurd (not_there before.literals number one from (ap (λ all. slice_get all number) (sym same) ∙ is))
+makes_nothing opens before after same = record {
+  well = λ number one from is. absurd (not_there before.literals number one from (ap (λ all. slice_get all number) (sym same) ∙ is));
+  typed = λ home serves number one from is. absurd (not_there before.literals number one from (ap (λ all. slice_get all number) (sym same) ∙ is));
+}
+
+pub well_stays : (opens : List ℕ) (before after : CTypes) → Grows opens before after → (one : CMade) → IsWellMade before one → IsWellMade after one
+well_stays opens before after grows one held = record { complete = λ is. complete_stays opens before after grows one.type (held.complete is); no_text = held.no_text }
 
 -- where a node stands
 abbrev pub standing_of : List ℕ → CScope → ℕ → CStanding
@@ -76,11 +82,18 @@ module _ (opens : List ℕ) where
 
   pub made_on : (before middle after : CScope) → Passes opens before middle → Passes opens middle after → AreTypedLiterals opens before middle → AreTypedLiterals opens middle after
       → AreTypedLiterals opens before after
-  made_on before middle after one other first second home serves number made from is =
-      ⊎_elim
-      (λ was. first home (part_of opens home before before middle after serves (stays_itself opens before) (passes_keep _ _ middle after other)) number made from was)
-      (λ new. second home (part_of opens home before middle after after serves one (passes_keep _ _ after after (stays_itself opens after))) number made new is)
-      (was_or_new middle.literals after.literals other.literals number made is)
+  made_on before middle after one other first second = record {
+    well = λ number made from is.
+        ⊎_elim
+        (λ was. well_stays opens middle.types after.types other.grows made (first.well number made from was))
+        (λ new. second.well number made new is)
+        (was_or_new middle.literals after.literals other.literals number made is);
+    typed = λ home serves number made from is.
+        ⊎_elim
+        (λ was. first.typed home (part_of opens home before before middle after serves (stays_itself opens before) (passes_keep _ _ middle after other)) number made from was)
+        (λ new. second.typed home (part_of opens home before middle after after serves one (passes_keep _ _ after after (stays_itself opens after))) number made new is)
+        (was_or_new middle.literals after.literals other.literals number made is);
+  }
 
   -- ---- expressions one behind the other
 

@@ -1,11 +1,11 @@
 -- What initialisers store where the walk over them finds no broken node (ISO C99, 6.7.8).
-use Rattle.std.specs.Prelude.{◌≡◌, ◌⊎◌, ℕ, ◌<◌, Bool, true, false, List, [], ◌∷◌, length, Option, None, Some, IsSome, IfSome}
+use Rattle.std.specs.Prelude.{◌≡◌, ◌⊎◌, ℕ, ◌<◌, Bool, true, false, ◌&&◌, List, [], ◌∷◌, length, Option, None, Some, IsSome, IfSome}
 use Rattle.cx_core.specs.Linked.{home_of}
 use Rattle.cx_core.specs.Trees.{CTy, CTyForm, record_type, form_of_type, unqualified, CTypes, type_of}
 use Rattle.cx_core.specs.Typing.{CHome, IsTyped, IsConstant, AreTypedPuts, AreConstantPuts}
-use Rattle.cx_core.specs.ValidTypes.{IsObjectForm, IsResultForm}
+use Rattle.cx_core.specs.ValidTypes.{member_of, has_name, IsObjectForm, IsResultForm}
 use Rattle.cx_layout.specs.Calls.{record_at}
-use Rattle.cx_rules.specs.Initial.{CAt, CStored, type_by, completed_type}
+use Rattle.cx_rules.specs.Initial.{CAt, CStored, part_type, type_by, completed_type}
 use Rattle.cx_rules.specs.Pieces.{CTarget, whole_target, CFilling, from_whole, filled_object}
 use Rattle.cx_rules.specs.Readings.{Seen, seen_gives, seen_chain, seen_here, seen_becomes, seen_look}
 use Rattle.cx_rules.specs.Scope.{CScope}
@@ -29,15 +29,23 @@ pub record IsKnownWhole (opens : List ℕ) (types : CTypes) (unit : ℕ) (type :
   pub known : IsKnownType opens types unit type
   pub object : IsObjectForm (form_of_type type)
 
--- a path leads to a part of this type
-abbrev pub IsPart : CTypes → CTy → CAt → Type 0
-IsPart types whole at = type_by types (Some whole) at.path ≡ Some at.type
+-- each member on the way to a part has a name; the length of an array may still be open (6.7.8p9)
+abbrev pub is_named_by : CTypes → Option CTy → List ℕ → Bool
+is_named_by types found [] = true
+is_named_by types None (index ∷ path) = true
+is_named_by types (Some type) (index ∷ path) = has_name (member_of types (form_of_type type) index) && is_named_by types (part_type types type index) path
+
+-- a path leads to a part of this type, over named members alone
+pub record IsPart (types : CTypes) (whole : CTy) (at : CAt) : Type 0 where
+  pub there : type_by types (Some whole) at.path ≡ Some at.type
+  pub named : is_named_by types (Some whole) at.path ≡ true
 
 -- ---- what is stored
 
 -- a value that is stored is for a part of the object that is no array
 pub record IsStored (types : CTypes) (whole : CTy) (one : CStored) : Type 0 where
   pub part : type_by types (Some whole) one.path ≡ Some one.type
+  pub named : is_named_by types (Some whole) one.path ≡ true
   pub no_array : IsResultForm (form_of_type one.type)
 
 -- it is typed, of the type of that part; in an object that lives as long as the program it is a constant, and typed outside of functions, too

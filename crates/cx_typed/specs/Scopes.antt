@@ -5,8 +5,9 @@ use Rattle.cx_core.specs.declared.program.Linkage.{Linkage}
 use Rattle.cx_core.specs.declared.program.Linkage.TheVariants.{External, Internal, Nothing}
 use Rattle.cx_core.specs.Compatible.{AreCompatible}
 use Rattle.cx_core.specs.Linked.{IsTypedObject}
-use Rattle.cx_core.specs.Trees.{CTy, form_of_type, CPuts, CObject, CFun, CMention}
+use Rattle.cx_core.specs.Trees.{CTy, form_of_type, CTypes, CPuts, CObject, CFun, CMention}
 use Rattle.cx_core.specs.Typing.{CHome, types_of_home, object_with, CCallee, callee_with, IsThere, IsNamed, IsLiteral, IsStaticObject}
+use Rattle.cx_core.specs.ValidTypes.{IsComplete}
 use Rattle.cr_base.specs.declared.refusal.Place.{Place as TextPlace}
 use Rattle.cx_rules.specs.Initial.{text_type}
 use Rattle.cx_rules.specs.Meanings.{trailing_types}
@@ -127,11 +128,16 @@ pub record Passes (opens : List ℕ) (before after : CScope) : Type 0 where
   pub rest_is : rest_of after ≡ rest_of before
   pub numbers : TakesNumbers before after
 
+-- a literal whose life begins where it is reached is a compound one of a complete type (6.4.5p5, 6.5.2.5p1, p6)
+pub record IsWellMade (types : CTypes) (one : CMade) : Type 0 where
+  pub complete : one.fixed ≡ None → IsComplete types one.type
+  pub no_text : one.fixed ≡ None → one.is_text ≡ false
+
 -- the literals that were made since are typed objects in each program that serves the stretch
-abbrev pub AreTypedLiterals : List ℕ → CScope → CScope → Type 0
-AreTypedLiterals opens before after =
-    (home : CHome) → Serves home opens before after → (number : ℕ) (one : CMade) → length before.literals ≤ number → slice_get after.literals number ≡ Some one
-    → IsTypedObject home.program home.mentions (object_made home.unit one)
+pub record AreTypedLiterals (opens : List ℕ) (before after : CScope) : Type 0 where
+  pub well : (number : ℕ) (one : CMade) → length before.literals ≤ number → slice_get after.literals number ≡ Some one → IsWellMade after.types one
+  pub typed : (home : CHome) → Serves home opens before after → (number : ℕ) (one : CMade) → length before.literals ≤ number → slice_get after.literals number ≡ Some one
+      → IsTypedObject home.program home.mentions (object_made home.unit one)
 
 -- what was named and made from two numbers on stays: a called function's mention, and a literal's object, are completed behind what stands in them
 pub record Keeps (opens : List ℕ) (mentioned made : ℕ) (before after : CScope) : Type 0 where

@@ -1,5 +1,5 @@
 -- A function whose body has ended (ISO C99, 6.9.1).
-use Rattle.std.proofs.Common.{◌≡◌, ◌⊎◌, inl, inr, ℕ, zero, suc, ◌+◌, ◌-◌, Bool, true, false, ◌||◌, List, [], ◌∷◌, ◌++◌, map, length, drop, Some, slice_get, refl, sym, ap, ◌∙◌, subst, length-append, append_assoc, arith}
+use Rattle.std.proofs.Common.{◌≡◌, ◌⊎◌, inl, inr, ℕ, zero, suc, ◌+◌, ◌-◌, Bool, true, false, ◌||◌, List, [], ◌∷◌, ◌++◌, map, length, drop, Option, Some, slice_get, refl, sym, ap, ◌∙◌, subst, length-append, append_assoc, arith}
 use Rattle.std.specs.Prelude.{IsSome, IfSome}
 use Rattle.std.specs.List.{Contains, list_any}
 use Rattle.cx_core.specs.declared.program.Linkage.{Linkage}
@@ -25,6 +25,7 @@ use Rattle.cx_typed_units.proofs.Begun.{IsBegunAs}
 use Rattle.cx_typed_units.proofs.Declared.{function_held, one_more_held}
 use Rattle.cx_typed_units.proofs.ObjectNumbers.{got_last}
 use Rattle.cx_typed_units.proofs.Stretches.{Steps, steps_on, thing_on, backs_first, holds_earlier}
+use Rattle.cx_typed_units.specs.Account.{account_of, IsAccounted}
 use Rattle.cx_typed_units.specs.Stretches.{IsOrderly, Leads, Backs, IsHeldAt, HoldsAll, IsFilled, AreTypedThere, AreTypedUpTo}
 
 behind_front : (front behind : List CDeclared) → drop (length (front ++ behind) - length behind) (front ++ behind) ≡ behind
@@ -236,10 +237,10 @@ module _ (opens : List ℕ) (start scope : CScope) (at_start : IsAtFileScope ope
     pub end_held : (home : CHome) → Backs home opens (new_scope end.unit) end → IsFunctionForm (form_of_type type) → IsHeldAt home end.declared
     end_held home backs form other meant is = behind_held home (backs_behind home (backs_inside home backs)) form other meant (ap (ordinary other) (sym end_declared) ∙ is)
 
-    pub end_typed : AreTypedUpTo opens inside → ((home : CHome) → HoldsAll home opens inner → IsTypedFunction home.program home.mentions fun) → IsFunctionForm (form_of_type type) → AreTypedUpTo opens end
-    end_typed held own form home all =
+    pub end_typed : (pending : Option (List ℕ)) → IsAccounted opens pending (account_of inside) → AreTypedUpTo opens inside → ((home : CHome) → HoldsAll home opens inner → IsTypedFunction home.program home.mentions fun) → IsFunctionForm (form_of_type type) → AreTypedUpTo opens end
+    end_typed pending account held own form home all =
         let inner_all : HoldsAll home opens inner = record { backs = backs_inner home all.backs; objects_inside = all.objects_inside; literals_inside = all.literals_inside } in
-        let was = leads.typed held home inner_all in
+        let was = leads.typed pending account held home inner_all in
         record {
           held = end_held home all.backs form;
           literals = was.literals;

@@ -1,11 +1,12 @@
 -- Function definitions (ISO C99, 6.9.1).
-use Rattle.std.proofs.Common.{◌≡◌, ℕ, nat_lt, ◌≤◌, Bool, true, false, not, ◌||◌, List, [], ◌∷◌, length, Option, None, Some, refl, sym, ap, ◌∙◌, subst}
+use Rattle.std.proofs.Common.{◌≡◌, ℕ, nat_lt, ◌≤◌, Bool, true, false, not, ◌||◌, List, [], ◌∷◌, length, Option, None, Some, refl, sym, ap, ◌∙◌, subst, map, suc, ◌++◌, append_assoc}
 use Rattle.std.specs.Prelude.{IsSome, IfSome}
 use Rattle.std.specs.List.{list_any}
 use denote.Enum.Bare.{same_true}
 use Rattle.cx_core.specs.declared.program.Linkage.TheVariants.{External}
-use Rattle.cx_core.specs.Linked.{IsTypedFunction}
+use Rattle.cx_core.specs.Linked.{IsTypedFunction, block_objects}
 use Rattle.cx_core.specs.ValidTypes.{IsComplete}
+use Rattle.cx_core.specs.Statements.{objects_in}
 use Rattle.cx_core.specs.Trees.{CTy, ty, CTyForm, function, form_of_type, CFun, CStmt, stmt, block, defines}
 use Rattle.cx_core.specs.Typing.{CHome}
 use Rattle.cx_lex.specs.contracts.token.Keyword.{the_type}
@@ -37,24 +38,29 @@ use Rattle.cx_typed.specs.Spelled.{IsSpelledDeclarator}
 use Rattle.cx_typed.specs.Walked.{Ends}
 use Rattle.cx_typed_files.proofs.Bodies.{inside_held, param_there, inside_typed, end_good, end_orderly, end_held, end_typed}
 use Rattle.cx_typed_files.proofs.DefinedFunctions.{function_typed}
+use Rattle.cx_typed_files.proofs.FileDeclarations.{unit_on}
 use Rattle.cx_typed_files.proofs.FileSteps.{backs_start, file_on}
 use Rattle.cx_typed_files.proofs.FunctionTypes.{IsCode, code_of, ones_by, AreCompleteOnes, complete_by, result_is}
-use Rattle.cx_typed_files.proofs.Heads.{IsHead, behind, begun, form, linked, number, mention, inside, head_is, inside_good, inside_orderly, inside_accounted, entity_by, same_objects, thing_defined, mention_at}
+use Rattle.cx_typed_files.proofs.Heads.{IsHead, behind, begun, form, linked, number, mention, inside, head_is, inside_good, inside_orderly, inside_accounted, entity_by, same_objects, thing_defined, mention_at, numbers_from}
 use Rattle.cx_typed_files.proofs.OwnShapes.{IsOwnStep, HeadOf, head_goes}
+use Rattle.cx_typed_files.proofs.OwnParams.{AreFrom}
 use Rattle.cx_typed_files.proofs.ParamAccounts.{AreKnownOnes, body_accounted}
 use Rattle.cx_typed_files.specs.FileScope.{IsAtFileScope}
 use Rattle.cx_typed_files.specs.FileUnits.{IsSpelledBody, DefinitionsGo}
 use Rattle.cx_typed_units.proofs.Begun.{IsBegunAs, function_form}
 use Rattle.cx_typed_units.proofs.Declarations.{IsShaped, shaped, AreSpecified, specified_by}
+use Rattle.cx_typed_units.proofs.Covering.{covers_through}
 use Rattle.cx_typed_units.proofs.Fine.{unclashed, says_no_less}
 use Rattle.cx_typed_units.proofs.RestTrees.{kept_declarator_walk}
 use Rattle.cx_typed_units.proofs.SpelledStatements.{spelled_statements}
+use Rattle.cx_typed_units.proofs.Once.{once_none, once_first, once_both, plain_once}
 use Rattle.cx_typed_units.proofs.Stretches.{steps_of, found_kept, backs_first, backs_from}
 use Rattle.cx_typed_units.specs.Account.{account_of, IsToldAs, IsAccounted}
 use Rattle.cx_typed_units.specs.Fills.{Fills}
 use Rattle.cx_typed_units.specs.Rest.{CRest}
 use Rattle.cx_typed_units.specs.Statements.{IsPlace, AreItems}
-use Rattle.cx_typed_units.specs.Stretches.{IsThing, IsSameThing, Backs, HoldsAll}
+use Rattle.cx_typed_units.specs.Once.{AreOnce}
+use Rattle.cx_typed_units.specs.Stretches.{IsThing, IsSameThing, AreCovered, Backs, HoldsAll}
 
 -- ---- storage classes of definitions (6.9.1p4)
 
@@ -161,7 +167,7 @@ head_walk_goes opens specs typedef missing tree spelled start at known =
       steps = shape.steps;
       head = record {
         at_start = at;
-        at = file_on opens start scope at held.0.leads held.0.shape_is.good held.0.none held.0.body_is;
+        at = file_on opens start scope at held.0.leads held.0.shape_is.good held.0.none held.0.body_is held.0.shape_is.passes.numbers.grows;
         leads = held.0.leads;
         objects_same = held.2;
         literals_same = held.0.shape_is.makes_none;
@@ -207,6 +213,20 @@ is_variadic_of type = is_variadic (form_of_type type)
 thing_at : (P : CThing → Type 0) (found : Option CThing) → IsSome found × IfSome found P → (one : CThing) × (found ≡ Some one) × P one
 thing_at P None held = absurd (let h : false ≡ true = held.0 in cc)
 thing_at P (Some one) held = (one, refl, held.1)
+
+params_once : (low : ℕ) (params : List CParam) (high : ℕ) → AreFrom low params high → AreOnce low high (map (λ (param : CParam). param.object) params)
+params_once low [] high held = once_none low high held
+params_once low (one ∷ others) high held = once_first low one.object high (map (λ (param : CParam). param.object) others) held.0 (params_once (suc one.object) others high held.1)
+
+objects_of : (xs ys : List CFun) → block_objects (xs ++ ys) ≡ block_objects xs ++ block_objects ys
+objects_of [] ys = refl
+objects_of (one ∷ xs) ys =
+    ap (λ rest. one.params ++ objects_in one.body ++ rest) (objects_of xs ys) ∙ sym (append_assoc (one.params ++ objects_in one.body) (block_objects xs) (block_objects ys))
+
+one_more_once : (a b c : ℕ) (functions : List CFun) (fun : CFun) → AreOnce a b (block_objects functions) → AreOnce b c (fun.params ++ objects_in fun.body) → AreOnce a c (block_objects (functions ++ fun ∷ []))
+one_more_once a b c functions fun first second =
+    subst (AreOnce a c) (sym (objects_of functions (fun ∷ [])))
+    (once_both a b c (block_objects functions) ((fun.params ++ objects_in fun.body) ++ []) first (plain_once b c (fun.params ++ objects_in fun.body) second))
 
 module _ (opens : List ℕ) (specs : CSpecs) (start : CScope) (head : CHead) (found : CScope) (headed : IsHeaded opens specs start head found)
     (items : ItemTrees) (lines : List ℕ) where
@@ -296,10 +316,11 @@ module _ (opens : List ℕ) (specs : CSpecs) (start : CScope) (head : CHead) (fo
     all_grow = grows_on opens scope.types start_inside.types inner.types began.leads.declares.grows done.leads.declares.grows
 
     fills : Fills opens inner.types headed.written late_thing.0.type
-    fills now grows counts other held =
-        says_no_less opens scope headed.head.at.good headed.head.at.orderly Definition specs headed.name headed.line headed.written true headed.head.known
-        (unclashed scope headed.name (is_typedef specs) headed.written one.linkage true headed.head.apart) now (grows_on opens scope.types inner.types now all_grow grows) counts other
-        (early_thing.2.fills now (grows_on opens start_inside.types inner.types now done.leads.declares.grows grows) counts other (late_thing.2.fills now grows counts other held))
+    fills now grows =
+        covers_through now late_thing.0.type early_thing.0.type headed.written (late_thing.2.fills now grows)
+        (covers_through now early_thing.0.type one.type headed.written (early_thing.2.fills now (grows_on opens start_inside.types inner.types now done.leads.declares.grows grows))
+        (says_no_less opens scope headed.head.at.good headed.head.at.orderly Definition specs headed.name headed.line headed.written true headed.head.known
+        (unclashed scope headed.name (is_typedef specs) headed.written one.linkage true headed.head.apart) now (grows_on opens scope.types inner.types now all_grow grows)))
 
     told : one.linkage ≡ External → IsToldAs inner.mentions headed.name External (λ mention. (mention.type ≡ headed.written) × (mention.does ≡ defines))
     told external = record {
@@ -326,14 +347,31 @@ module _ (opens : List ℕ) (specs : CSpecs) (start : CScope) (head : CHead) (fo
         (λ index x is. param_there opens start scope headed.head.at_start headed.head.at (steps_of opens start scope headed.head.leads) headed.name (number opens start scope specs headed.line headed.name headed.written headed.steps headed.head) one.type one.linkage declared began (same_objects opens start scope specs headed.line headed.name headed.written headed.steps headed.head) (own_within headed.steps) params headed.head.own.things home backs_start_inside index x is)
         (λ objects contains. inside_held opens start scope headed.head.at_start headed.head.at (steps_of opens start scope headed.head.leads) headed.name (number opens start scope specs headed.line headed.name headed.written headed.steps headed.head) one.type one.linkage declared began (same_objects opens start scope specs headed.line headed.name headed.written headed.steps headed.head) (own_within headed.steps) params headed.head.own.things (record home { scope = objects }) (backs_scope home opens objects (new_scope start_inside.unit) start_inside backs_start_inside) code_form contains)
 
+    last_unit : last.unit ≡ start.unit
+    last_unit = done.leads.declares.unit_is ∙ (unit_is ∙ headed.head.leads.declares.unit_is)
+
+    -- the objects of its parameters and of its blocks are behind those of the functions before
+    last_once : AreOnce 0 last.next_object (block_objects last.functions)
+    last_once =
+        let same : inner.functions ≡ start.functions = done.leads.functions_are ∙ (began.leads.functions_are ∙ headed.head.leads.functions_are) in
+        let own = once_both start.next_object start_inside.next_object inner.next_object fun.params (objects_in fun.body)
+        (params_once start.next_object params start_inside.next_object (numbers_from opens start scope specs headed.line headed.name headed.written headed.steps headed.head)) done.numbers in
+        one_more_once 0 start.next_object inner.next_object inner.functions fun (subst (λ functions. AreOnce 0 start.next_object (block_objects functions)) (sym same) headed.head.at_start.blocks) own
+
+    last_covered : AreCovered opens last
+    last_covered =
+        done.leads.covered (inside_orderly opens start scope specs headed.line headed.name headed.written headed.steps headed.head) (began.leads.covered headed.head.at.orderly headed.head.at.covered)
+
     last_at : IsAtFileScope opens last
     last_at = record {
       good = end_good opens start scope headed.head.at_start headed.head.at (steps_of opens start scope headed.head.leads) headed.name (number opens start scope specs headed.line headed.name headed.written headed.steps headed.head) one.type one.linkage declared began (same_objects opens start scope specs headed.line headed.name headed.written headed.steps headed.head) (own_within headed.steps) params headed.head.own.things inner done.leads done.good fun;
       orderly = end_orderly opens start scope headed.head.at_start headed.head.at (steps_of opens start scope headed.head.leads) headed.name (number opens start scope specs headed.line headed.name headed.written headed.steps headed.head) one.type one.linkage declared began (same_objects opens start scope specs headed.line headed.name headed.written headed.steps headed.head) (own_within headed.steps) params headed.head.own.things inner done.leads done.good fun (inside_orderly opens start scope specs headed.line headed.name headed.written headed.steps headed.head);
       accounted = last_accounted;
-      typed = end_typed opens start scope headed.head.at_start headed.head.at (steps_of opens start scope headed.head.leads) headed.name (number opens start scope specs headed.line headed.name headed.written headed.steps headed.head) one.type one.linkage declared began (same_objects opens start scope specs headed.line headed.name headed.written headed.steps headed.head) (own_within headed.steps) params headed.head.own.things inner done.leads done.good fun (inside_typed opens start scope headed.head.at_start headed.head.at (steps_of opens start scope headed.head.leads) headed.name (number opens start scope specs headed.line headed.name headed.written headed.steps headed.head) one.type one.linkage declared began (same_objects opens start scope specs headed.line headed.name headed.written headed.steps headed.head) (own_within headed.steps) params headed.head.own.things code_form headed.head.at.typed) own_typed code_form;
+      typed = end_typed opens start scope headed.head.at_start headed.head.at (steps_of opens start scope headed.head.leads) headed.name (number opens start scope specs headed.line headed.name headed.written headed.steps headed.head) one.type one.linkage declared began (same_objects opens start scope specs headed.line headed.name headed.written headed.steps headed.head) (own_within headed.steps) params headed.head.own.things inner done.leads done.good fun (Some headed.name) accounted (inside_typed opens start scope headed.head.at_start headed.head.at (steps_of opens start scope headed.head.leads) headed.name (number opens start scope specs headed.line headed.name headed.written headed.steps headed.head) one.type one.linkage declared began (same_objects opens start scope specs headed.line headed.name headed.written headed.steps headed.head) (own_within headed.steps) params headed.head.own.things code_form headed.head.at.typed) own_typed code_form;
+      covered = last_covered;
       outside = refl;
       no_label = refl;
+      blocks = last_once;
       held = λ home backs. end_held opens start scope headed.head.at_start headed.head.at (steps_of opens start scope headed.head.leads) headed.name (number opens start scope specs headed.line headed.name headed.written headed.steps headed.head) one.type one.linkage declared began (same_objects opens start scope specs headed.line headed.name headed.written headed.steps headed.head) (own_within headed.steps) params headed.head.own.things inner done.leads done.good fun home backs code_form;
     }
 
@@ -345,20 +383,20 @@ record IsBodied (opens : List ℕ) (where_is : CWhere) (items : ItemTrees) (line
   done : AreItems opens where_is (labels_of_items items) inside all inner
 
 body_goes : (opens : List ℕ) (specs : CSpecs) (start : CScope) (head : CHead) (found : CScope) → IsHeaded opens specs start head found
-    → (tree : StmtTree) → IsSpelledBody tree → Ends (seen_chain CStmt Done (s_function_body head tree) (λ body. s_body_ends head body)) found (λ done after. IsAtFileScope opens after)
+    → (tree : StmtTree) → IsSpelledBody tree → Ends (seen_chain CStmt Done (s_function_body head tree) (λ body. s_body_ends head body)) found (λ done after. IsAtFileScope opens after × (after.unit ≡ start.unit))
 body_goes opens specs start head found headed (Block items lines) spelled =
     let one : CDeclaring = declaring headed.scope Definition specs headed.name headed.line headed.written true in
     let own : CHead = record { before = headed.scope; declaring = one; number = head_number headed.scope one; written = headed.written; params = own_params headed.steps } in
-    subst (λ h. Ends (seen_chain CStmt Done (s_function_body h (Block items lines)) (λ body. s_body_ends h body)) found (λ done after. IsAtFileScope opens after)) (sym headed.head_is)
-    (subst (λ from. Ends (seen_chain CStmt Done (s_function_body own (Block items lines)) (λ body. s_body_ends own body)) from (λ done after. IsAtFileScope opens after))
+    subst (λ h. Ends (seen_chain CStmt Done (s_function_body h (Block items lines)) (λ body. s_body_ends h body)) found (λ done after. IsAtFileScope opens after × (after.unit ≡ start.unit))) (sym headed.head_is)
+    (subst (λ from. Ends (seen_chain CStmt Done (s_function_body own (Block items lines)) (λ body. s_body_ends own body)) from (λ done after. IsAtFileScope opens after × (after.unit ≡ start.unit)))
     (sym (headed.inside_is ∙ head_is opens start headed.scope specs headed.line headed.name headed.written headed.steps headed.head))
     (go_chain _ _ _ _ (inside opens start headed.scope specs headed.line headed.name headed.written headed.steps headed.head) (IsBodied opens (where_in own (Block items lines)) items (own_line lines) (inside opens start headed.scope specs headed.line headed.name headed.written headed.steps headed.head)) _
     (go_chain _ _ _ _ (inside opens start headed.scope specs headed.line headed.name headed.written headed.steps headed.head) (AreItems opens (where_in own (Block items lines)) (labels_of_items items) (inside opens start headed.scope specs headed.line headed.name headed.written headed.steps headed.head)) _
     (spelled_statements.items items spelled opens (where_in own (Block items lines)) (inside opens start headed.scope specs headed.line headed.name headed.written headed.steps headed.head) (stands opens specs start head found headed items lines))
     (λ all inner done. go_here_then _ _ inner _ (go_gives _ inner _ (record { all = all; body_is = refl; done = done }))))
     (λ body inner bodied.
-    subst (λ b. Ends (s_body_ends own b) inner (λ done after. IsAtFileScope opens after)) (sym bodied.body_is)
-    (go_here_then _ _ inner _ (go_becomes _ inner _ (last_at opens specs start head found headed items lines bodied.all inner bodied.done))))))
+    subst (λ b. Ends (s_body_ends own b) inner (λ done after. IsAtFileScope opens after × (after.unit ≡ start.unit))) (sym bodied.body_is)
+    (go_here_then _ _ inner _ (go_becomes _ inner _ (last_at opens specs start head found headed items lines bodied.all inner bodied.done, last_unit opens specs start head found headed items lines bodied.all inner bodied.done))))))
 body_goes opens specs start head found headed (Label name inner lines) spelled = absurd spelled
 body_goes opens specs start head found headed (Case value inner lines) spelled = absurd spelled
 body_goes opens specs start head found headed (Default inner lines) spelled = absurd spelled
@@ -378,9 +416,9 @@ definitions_go d spelled opens scope at =
     go_chain _ _ _ _ scope (AreSpecified opens scope) _ (specified_by opens false d.specs scope (spelled_trees.specifiers d.specs spelled.0) at.good) (λ all middle held.
     go_chain _ _ _ _ middle (λ done later. (later ≡ middle) × (is_typedef all ≡ false)) _
     (go_here_then _ _ middle _ (go_settled _ middle _ _ _ middle _ (λ unbroken. (refl, no_typedef all.storage (neither {a = nat_lt 1 (length all.storage)} unbroken.k4).1)))) (λ done later is.
-    let start_at = file_on opens scope middle at held.leads held.specs_are.good held.none held.body_is in
+    let start_at = file_on opens scope middle at held.leads held.specs_are.good held.none held.body_is held.specs_are.passes.numbers.grows in
     subst (λ from. Ends (seen_chain CHead Done (s_head_walk all (specs_line d.specs) d.declarator) (λ head. seen_chain CStmt Done (s_function_body head d.body) (λ body. s_body_ends head body))) from
-    (λ done after. IsAtFileScope opens after)) (sym is.0)
-    (go_chain _ _ _ _ middle (IsHeaded opens all middle) _
+    (λ done after. IsAtFileScope opens after × (after.unit ≡ scope.unit))) (sym is.0)
+    (unit_on opens scope middle held.leads.declares.unit_is (go_chain _ _ _ _ middle (IsHeaded opens all middle) _
     (head_walk_goes opens all is.1 (specs_line d.specs) d.declarator spelled.1 middle start_at (specified opens middle.types middle.unit all held.specs_are.known)) (λ head inside headed.
-    body_goes opens all middle head inside headed d.body spelled.2))))
+    body_goes opens all middle head inside headed d.body spelled.2)))))

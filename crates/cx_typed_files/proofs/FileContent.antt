@@ -1,10 +1,10 @@
 -- An object with linkage, behind its initialiser (ISO C99, 6.7.8, 6.9.2p1).
-use Rattle.std.proofs.Common.{◌≡◌, ◌⊎◌, inl, inr, ℕ, ◌+◌, ◌==◌, Bool, true, false, ◌||◌, if◌then◌else◌, List, [], ◌∷◌, ◌++◌, map, length, None, Some, is_some, slice_get, bytes_eq, refl, sym, ap, ◌∙◌, subst, arith}
+use Rattle.std.proofs.Common.{◌≡◌, ◌⊎◌, inl, inr, ℕ, ◌==◌, Bool, true, false, not, ◌&&◌, ◌||◌, if◌then◌else◌, List, [], ◌∷◌, ◌++◌, map, length, None, Some, is_some, slice_get, bytes_eq, refl, sym, ap, ◌∙◌, subst, arith}
 use Rattle.std.proofs.lemmas.Bool.Decides.{nat_tests}
 use Rattle.std.proofs.lemmas.Slice.Eq.{bytes_eq-Decides}
 use Rattle.std.specs.Prelude.{IsSome, IfSome}
 use Rattle.cx_core.specs.declared.program.Linkage.{Linkage}
-use Rattle.cx_core.specs.declared.program.Linkage.TheVariants.{External, Nothing}
+use Rattle.cx_core.specs.declared.program.Linkage.TheVariants.{External}
 use Rattle.cx_core.specs.Linked.{home_of, IsStatic}
 use Rattle.cx_core.specs.Trees.{CTy, form_of_type, CPuts, CObject, CMention, defines}
 use Rattle.cx_core.specs.Typing.{CHome}
@@ -25,9 +25,8 @@ use Rattle.cx_typed_units.proofs.Blocks.{serves_of, all_on}
 use Rattle.cx_typed_units.proofs.Declared.{object_held, one_more_held}
 use Rattle.cx_typed_units.proofs.Entities.{composite_function, agree_function, GoesWith}
 use Rattle.cx_typed_units.proofs.FilledObjects.{AreFilled}
-use Rattle.cx_typed_units.proofs.Joins.{fills_itself, fills_first, fills_second, composite_known}
+use Rattle.cx_typed_units.proofs.Joins.{fills_first, fills_second, composite_known}
 use Rattle.cx_typed_units.proofs.Named.{set_thing, found_set, has_name}
-use Rattle.cx_typed_units.proofs.ObjectAccounts.{object_composite}
 use Rattle.cx_typed_units.proofs.ObjectNumbers.{numbered_of, changed_numbered}
 use Rattle.cx_typed_units.proofs.Owned.{stored_in}
 use Rattle.cx_typed_units.proofs.Redeclared.{redeclare_first, IsRetyped, redeclared_front, redeclared_means, redeclared_tags}
@@ -40,7 +39,8 @@ use Rattle.cx_typed_units.proofs.ThingLists.{set_declared}
 use Rattle.cx_typed_units.proofs.ThingSteps.{with_set_thing, set_thing_leads}
 use Rattle.cx_typed_units.specs.Account.{CAccount, account_of, is_declaring, does_by, IsToldAs, IsObjectNamed, IsKnownObject, IsObjectThing, IsAccounted}
 use Rattle.cx_typed_units.specs.Rest.{CRest, is_defining}
-use Rattle.cx_typed_units.specs.Stretches.{IsSameThing, IsThing, IsThingOf, IsKnownThing, IsOrderly, Backs, IsHeldAt, AreIn, IsFilled, AreTypedUpTo}
+use Rattle.cx_typed_units.specs.Fills.{Fills}
+use Rattle.cx_typed_units.specs.Stretches.{IsSameThing, IsThing, IsThingOf, IsKnownThing, IsOrderly, IsCovered, AreCovered, Backs, IsHeldAt, AreIn, IsFilled, AreTypedUpTo}
 
 same_value : {X : Type 0} {x y : X} → Some x ≡ Some y → x ≡ y
 same_value is = cc
@@ -50,6 +50,7 @@ pub record IsToldWhole (scope later : CScope) (mentions : List CMention) (name :
   pub others : (index : ℕ) (one : CMention) → slice_get later.mentions index ≡ Some one → (one.name ≡ name → ⊥) → slice_get mentions index ≡ Some one
   pub used : (index : ℕ) (one : CMention) → slice_get later.mentions index ≡ Some one → is_defining one.does ≡ false → slice_get mentions index ≡ Some one
   pub early : (index : ℕ) (one : CMention) → slice_get scope.mentions index ≡ Some one → slice_get mentions index ≡ Some one
+  pub said : (index : ℕ) (one : CMention) → slice_get mentions index ≡ Some one → (slice_get later.mentions index ≡ Some one) ⊎ ((one.name ≡ name) × (one.type ≡ whole) × (one.linkage ≡ linkage))
   pub own : linkage ≡ External → IsToldAs mentions name External (λ one. (one.type ≡ whole) × (one.does ≡ defines))
 
 -- the thing that is declared, between its declarator and its initialiser
@@ -62,7 +63,7 @@ module _ (opens : List ℕ) (scope : CScope) (orderly : IsOrderly opens scope) (
     (begun : IsBegunAs opens scope name (an_object number type is_register linkage) middle) (thing : CThing) (own : IsOwnThing opens name number type linkage middle thing)
     (passes : Passes opens middle later) (stays : StaysTo middle later) (made : AreTypedLiterals opens middle later) (good : IsGood opens later)
     (full : CTy) (known : IsKnownType opens later.types later.unit full) (object : IsObjectForm (form_of_type full)) (goes : GoesWith later.types full linkage thing) (puts : CPuts)
-    (mentions : List CMention) (told : IsToldWhole scope later mentions name linkage (composite full thing.type)) where
+    (mentions : List CMention) (told : IsToldWhole scope later mentions name linkage full) where
   abbrev pub whole : CTy
   whole = composite full thing.type
 
@@ -70,7 +71,7 @@ module _ (opens : List ℕ) (scope : CScope) (orderly : IsOrderly opens scope) (
   new = record thing { type = whole }
 
   abbrev change : CObject → CObject
-  change one = if one.object == number then stored_in true whole puts one else one
+  change one = if one.object == number then stored_in true full puts one else one
 
   abbrev pub behind : CScope
   behind = record later { declared = redeclare_first name full later.declared; objects = map change later.objects; things = set_thing name new later.things; mentions = mentions }
@@ -100,7 +101,7 @@ module _ (opens : List ℕ) (scope : CScope) (orderly : IsOrderly opens scope) (
   whole_known = composite_known opens later.types later.unit full thing.type known thing_known.known goes.agrees
 
   new_same : IsSameThing opens later.types thing new
-  new_same = record { number_is = refl; linkage_is = refl; function_is = refl; fills = fills_second opens later.types later.unit full thing.type known thing_known.known goes.agrees; defined = λ is. is }
+  new_same = record { number_is = refl; linkage_is = refl; function_is = refl; fills = fills_second opens later.types later.unit full thing.type known thing_known.known goes.agrees; defined = λ is. is; tentative = λ is. is }
 
   thing_name : thing.name ≡ name
   thing_name = has_name name later.things thing there
@@ -116,11 +117,11 @@ module _ (opens : List ℕ) (scope : CScope) (orderly : IsOrderly opens scope) (
   thing_steps = set_thing_leads opens later name thing new there thing_name new_same whole_known new_form
 
   abbrev with_objects : CScope
-  with_objects = with_object_at number (stored_in true whole puts) with_thing
+  with_objects = with_object_at number (stored_in true full puts) with_thing
 
   object_steps : Steps opens with_thing with_objects
   object_steps =
-      changed_leads opens with_thing number (stored_in true whole puts) (λ one. refl) (λ one. refl) (λ one is. refl)
+      changed_leads opens with_thing number (stored_in true full puts) (λ one. refl) (λ one. refl) (λ one is. refl)
       (λ index one at same. thing_known.own is_object index one at (same ∙ sym own.is_thing.number_is))
 
   both_steps : Steps opens scope with_objects
@@ -188,6 +189,19 @@ module _ (opens : List ℕ) (scope : CScope) (orderly : IsOrderly opens scope) (
     numbers = all_orderly.numbers;
   }
 
+  covered_by : AreCovered opens with_objects → (index : ℕ) (one : CMention) → (slice_get later.mentions index ≡ Some one) ⊎ ((one.name ≡ name) × (one.type ≡ full) × (one.linkage ≡ linkage))
+      → IsCovered opens later.types (set_thing name new later.things) one
+  covered_by held index one (inl at) = held index one at
+  covered_by held index one (inr is) = record {
+    thing = new;
+    there = ap (λ n. thing_named n (set_thing name new later.things)) is.0 ∙ new_there;
+    fills = subst (λ type. Fills opens later.types type whole) (sym is.1) (fills_first opens later.types later.unit full thing.type known thing_known.known goes.agrees);
+    defined = λ defining. record {
+      linkage_is = own.is_thing.linkage_is ∙ sym is.2;
+      defined = ap (λ b. b || (not thing.is_function && is_some thing.tentative)) own.defined;
+    };
+  }
+
   pub behind_steps : Steps opens scope behind
   behind_steps = record {
     declares = record {
@@ -207,6 +221,7 @@ module _ (opens : List ℕ) (scope : CScope) (orderly : IsOrderly opens scope) (
     objects = both_steps.objects;
     things = both_steps.things;
     orderly = λ held. behind_orderly;
+    covered = λ early held index one at. covered_by (both_steps.covered early held) index one (told.said index one at);
     statics = both_steps.statics;
   }
 
@@ -230,7 +245,7 @@ module _ (opens : List ℕ) (scope : CScope) (orderly : IsOrderly opens scope) (
     was : IsObjectThing opens (Some name) few name thing
     was = held.object_things name thing there is_object
 
-    number_kept : (one : CObject) (same : Bool) → (if same then stored_in true whole puts one else one).object ≡ one.object
+    number_kept : (one : CObject) (same : Bool) → (if same then stored_in true full puts one else one).object ≡ one.object
     number_kept one true = refl
     number_kept one false = refl
 
@@ -241,7 +256,7 @@ module _ (opens : List ℕ) (scope : CScope) (orderly : IsOrderly opens scope) (
 
     stays_by : (index : ℕ) (one : CObject) (same : Bool) → (one.object == number) ≡ same → slice_get later.objects index ≡ Some one → (one.name ≡ Some name → ⊥) → slice_get (map change later.objects) index ≡ Some one
     stays_by index one true e at apart = absurd (apart (ap (λ (x : CObject). x.name) (sym (at_number index one at e)) ∙ was.named))
-    stays_by index one false e at apart = mapped_at change later.objects index one at ∙ ap (λ b. Some (if b then stored_in true whole puts one else one)) e
+    stays_by index one false e at apart = mapped_at change later.objects index one at ∙ ap (λ b. Some (if b then stored_in true full puts one else one)) e
 
     itself : (one other : ℕ) → one ≡ other → (one == other) ≡ true
     itself one other same = grind (arith, nat_tests)
@@ -252,35 +267,35 @@ module _ (opens : List ℕ) (scope : CScope) (orderly : IsOrderly opens scope) (
     abbrev many : CAccount
     many = declared_account few later.next_object later.next_function mentions (map change later.objects) (set_thing name new later.things)
 
-    known_by : (index : ℕ) (before one : CObject) (same : Bool) → slice_get later.objects index ≡ Some before → (if same then stored_in true whole puts before else before) ≡ one
+    known_by : (index : ℕ) (before one : CObject) (same : Bool) → slice_get later.objects index ≡ Some before → (if same then stored_in true full puts before else before) ≡ one
         → (slice_get later.objects index ≡ Some one) ⊎ IsKnownObject opens many one
     known_by index before one true at is =
         let known_before = held.objects index before at in
         inr (subst (IsKnownObject opens many) is (record {
           here = known_before.here;
-          known = whole_known;
-          object = object_composite full thing.type object;
+          known = known;
+          object = object;
           no_text = known_before.no_text;
-          named = λ is_linked_so. named_onward later.things (set_thing name new later.things) name new declared_so (stored_in true whole puts before) (named_stored before (known_before.named is_linked_so));
+          named = λ is_linked_so. named_onward later.things (set_thing name new later.things) name new declared_so (stored_in true full puts before) (named_stored before (known_before.named is_linked_so));
         }))
       where
-        named_stored : (before : CObject) → IsObjectNamed later.things before → IsObjectNamed later.things (stored_in true whole puts before)
+        named_stored : (before : CObject) → IsObjectNamed later.things before → IsObjectNamed later.things (stored_in true full puts before)
         named_stored before held = record { name = held.name; named = held.named; thing = held.thing; there = held.there; number_is = held.number_is; object_is = held.object_is }
     known_by index before one false at is = inl (at ∙ ap (λ x. Some x) is)
 
-    told_own : new.linkage ≡ External → IsToldAs mentions name External (λ one. (one.type ≡ whole) × (one.does ≡ defines))
+    told_own : new.linkage ≡ External → IsToldAs mentions name External (λ one. (one.type ≡ full) × (one.does ≡ defines))
     told_own external = told.own (sym own.is_thing.linkage_is ∙ external)
 
     own_object : IsObjectThing opens None many name new
     own_object = record {
       index = was.index;
-      one = stored_in true whole puts was.one;
-      at = mapped_at change later.objects was.index was.one was.at ∙ ap (λ b. Some (if b then stored_in true whole puts was.one else was.one)) (itself was.one.object number (was.number_is ∙ own.is_thing.number_is));
+      one = stored_in true full puts was.one;
+      at = mapped_at change later.objects was.index was.one was.at ∙ ap (λ b. Some (if b then stored_in true full puts was.one else was.one)) (itself was.one.object number (was.number_is ∙ own.is_thing.number_is));
       number_is = was.number_is;
       linkage_is = was.linkage_is;
       named = was.named;
-      type_is = λ is. refl;
-      fills = fills_itself opens later.types later.unit whole;
+      type_is = λ is. absurd (let h : true ≡ false = sym own.defined ∙ is in cc);
+      fills = fills_first opens later.types later.unit full thing.type known thing_known.known goes.agrees;
       defined = λ is. own.defined;
       filled = λ apart is. refl;
       internal = λ is. ap (λ b. b || is_some thing.tentative) own.defined;
@@ -356,15 +371,8 @@ module _ (opens : List ℕ) (scope : CScope) (orderly : IsOrderly opens scope) (
   module _ (own_static : (home : CHome) → Serves home opens middle later → IsStatic (home_of home.program home.mentions home.unit) full puts)
       (filled_middle : (home : CHome) → AreFilled home scope.objects → AreFilled home middle.objects) where
     object_filled : (home : CHome) → Serves home opens middle later → (index : ℕ) (before : CObject) (same : Bool) → (before.object == number) ≡ same → slice_get later.objects index ≡ Some before
-        → IfSome before.puts (IsFilled home before) → IfSome (if same then stored_in true whole puts before else before).puts (IsFilled home (if same then stored_in true whole puts before else before))
-    object_filled home serves index before true e at was = record {
-      type = full;
-      same = λ nothing. absurd (
-          let h : is_linked before.linkage ≡ true = thing_known.own is_object index before at (number_is before.object number e ∙ sym own.is_thing.number_is) in
-          let k : is_linked Nothing ≡ true = subst (λ l. is_linked l ≡ true) nothing h in
-          let c : false ≡ true = k in cc);
-      static = own_static home serves;
-    }
+        → IfSome before.puts (IsFilled home before) → IfSome (if same then stored_in true full puts before else before).puts (IsFilled home (if same then stored_in true full puts before else before))
+    object_filled home serves index before true e at was = own_static home serves
     object_filled home serves index before false e at was = was
 
     pub content_typed : AreTypedUpTo opens scope → AreTypedUpTo opens behind
@@ -374,7 +382,7 @@ module _ (opens : List ℕ) (scope : CScope) (orderly : IsOrderly opens scope) (
         record {
           held = held_behind home all.backs was.held;
           literals = literals_typed home middle later passes.literals (λ index one is. was.literals index one (subst (λ made. slice_get made index ≡ Some one) begun.literals_are is))
-              (λ index one from is. made home serves index one from is);
+              (λ index one from is. made.typed home serves index one from is);
           objects = λ index one is.
               let before = got_mapped change later.objects index one is in
               subst (λ (x : CObject). IfSome x.puts (IsFilled home x)) before.2

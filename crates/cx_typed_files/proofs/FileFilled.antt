@@ -1,5 +1,5 @@
 -- The walk over declarators with initialisers outside of functions (ISO C99, 6.7.8, 6.9.2p1).
-use Rattle.std.proofs.Common.{◌≡◌, ℕ, nat_lt, ◌<◌, Bool, true, false, not, ◌&&◌, ◌||◌, if◌then◌else◌, List, [], ◌∷◌, ◌++◌, map, length, ◌==◌, Option, None, Some, slice_get, slice_set, refl, sym, ap, ◌∙◌, subst, arith}
+use Rattle.std.proofs.Common.{◌≡◌, ◌⊎◌, inl, inr, ℕ, nat_lt, ◌<◌, Bool, true, false, not, ◌&&◌, ◌||◌, if◌then◌else◌, List, [], ◌∷◌, ◌++◌, map, length, ◌==◌, Option, None, Some, slice_get, slice_set, refl, sym, ap, ◌∙◌, subst, arith}
 use Rattle.std.specs.Prelude.{IsSome, IfSome}
 use Rattle.cx_core.specs.declared.program.Linkage.{Linkage}
 use Rattle.cx_core.specs.declared.program.Linkage.TheVariants.{External, Internal, Nothing}
@@ -37,7 +37,7 @@ use Rattle.cx_typed.specs.Unbroken.{IsUnbroken}
 use Rattle.cx_typed.specs.Walked.{Ends}
 use Rattle.cx_typed_files.proofs.DeclaredThing.{thing_defined, IsTold, is_told}
 use Rattle.cx_typed_files.proofs.FileContent.{IsToldWhole, IsOwnThing, behind_steps, behind_good, content_accounted, held_behind, content_typed}
-use Rattle.cx_typed_files.proofs.FileSteps.{IsFileStep, backs_before, file_linked}
+use Rattle.cx_typed_files.proofs.FileSteps.{IsFileStep, backs_before, file_linked, functions_once}
 use Rattle.cx_typed_files.specs.FileScope.{IsAtFileScope}
 use Rattle.cx_typed_units.proofs.Begun.{IsBegunAs}
 use Rattle.cx_typed_units.proofs.DeclarationAccounts.{IsAccountable, declaration_accounted}
@@ -48,11 +48,11 @@ use Rattle.cx_typed_units.proofs.FirstInternal.{first_internal}
 use Rattle.cx_typed_units.proofs.Named.{set_thing}
 use Rattle.cx_typed_units.proofs.Owned.{stored_in, completed_void, go_known}
 use Rattle.cx_typed_units.proofs.Redeclared.{redeclare_first}
-use Rattle.cx_typed_units.proofs.RestNodes.{StaysTo}
+use Rattle.cx_typed_units.proofs.RestNodes.{StaysTo, got_set}
 use Rattle.cx_typed_units.proofs.Rests.{rest_leads}
 use Rattle.cx_typed_units.proofs.RestTrees.{kept_initialiser_walk}
 use Rattle.cx_typed_units.proofs.Stretches.{passes_declare}
-use Rattle.cx_typed_units.proofs.Unfilled.{complete_object, size_said, old_objects}
+use Rattle.cx_typed_units.proofs.Unfilled.{complete_object, size_said, old_objects, next_grows}
 use Rattle.cx_typed_units.specs.Account.{account_of, IsAccounted}
 use Rattle.cx_typed_units.specs.Rest.{CRest, is_defining}
 use Rattle.cx_typed_units.specs.Stretches.{IsThing}
@@ -94,9 +94,9 @@ begun_with typedef is_fun linkage begun own next mentioned static = record begun
 
 abbrev content_form : Linkage → List ℕ → (number mentioned : ℕ) → CTy → CPuts → CScope → Option CThing → CScope
 content_form linkage name number mentioned type puts later found =
-    told_by linkage mentioned (beside_thing type found)
+    told_by linkage mentioned type
     (completed_thing name (beside_thing type found) found
-    (with_object_at number (stored_in true (beside_thing type found) puts) (record later { declared = redeclare_first name type later.declared })))
+    (with_object_at number (stored_in true type puts) (record later { declared = redeclare_first name type later.declared })))
 
 content_is : (linkage : Linkage) → is_linked linkage ≡ true → (begun : CBegun) (own next mentioned : ℕ) (static : Bool) (type : CTy) (puts : CPuts) (later : CScope)
     → with_content (begun_with false false linkage begun own next mentioned static) type puts later ≡ content_form linkage begun.name own mentioned type puts later (thing_named begun.name later.things)
@@ -172,6 +172,10 @@ module _ (scope middle later : CScope) (name : List ℕ) (whole : CTy) (mention 
   own_is : (index : ℕ) (one : CMention) → slice_get later.mentions index ≡ Some one → index ≡ length scope.mentions → one ≡ mention
   own_is index one at same = same_value (sym at ∙ (ap (slice_get later.mentions) same ∙ mention_at))
 
+  said_by : (index : ℕ) (one : CMention) → (slice_get later.mentions index ≡ Some one) ⊎ (told ≡ one) → (slice_get later.mentions index ≡ Some one) ⊎ ((one.name ≡ name) × (one.type ≡ whole) × (one.linkage ≡ External))
+  said_by index one (inl at) = inl at
+  said_by index one (inr is) = inr (ap (λ (x : CMention). x.name) (sym is) ∙ named, ap (λ (x : CMention). x.type) (sym is), ap (λ (x : CMention). x.linkage) (sym is) ∙ linked)
+
   pub external_whole : IsToldWhole scope later told_list name External whole
   external_whole = record {
     others = λ index one at apart. other_at index one at (λ same. apart (ap (λ (x : CMention). x.name) (own_is index one at same) ∙ named));
@@ -180,6 +184,7 @@ module _ (scope middle later : CScope) (name : List ℕ) (whole : CTy) (mention 
         let k : is_defining mention.does ≡ true = ap is_defining does in
         let c : true ≡ false = sym k ∙ h in cc);
     early = λ index one at. other_at index one (middle_early index one at) (λ same. let h : index < length scope.mentions = within scope.mentions index one at in omega (arith, h, same));
+    said = λ index one at. said_by index one (got_set later.mentions (length scope.mentions) told index one at);
     own = λ external. record {
       index = length scope.mentions;
       one = told;
@@ -196,6 +201,7 @@ internal_whole scope later name linkage whole none early = record {
   others = λ index one at apart. at;
   used = λ index one at is. at;
   early = early;
+  said = λ index one at. inl at;
   own = λ external. absurd (none external);
 }
 
@@ -312,7 +318,7 @@ module _ (opens : List ℕ) (specs : CSpecs) (line : ℕ) (written : CTy) (name 
 
     filled_middle : (home : CHome) → AreFilled home scope.objects → AreFilled home middle.objects
     filled_middle home was =
-        declared_filled home opens scope at.orderly one (λ t f l. absurd (let h : true ≡ false = sym linked ∙ l in cc)) was (old_objects opens scope at.good at.orderly one fine)
+        declared_filled home opens None scope at.accounted one (λ t f l. absurd (let h : true ≡ false = sym linked ∙ l in cc)) was (old_objects opens scope at.good at.orderly one fine)
 
     able : IsAccountable None scope one
     able = record {
@@ -337,10 +343,10 @@ module _ (opens : List ℕ) (specs : CSpecs) (line : ℕ) (written : CTy) (name 
     early_kept index x is = held.initialised.stored.passes.mentions index x (begun_so.leads.declares.mentions index x is)
 
     -- behind it, whichever mentions there are
-    behind_at : (mentions : List CMention) → IsToldWhole scope later mentions name one.linkage (composite full thing.type)
+    behind_at : (mentions : List CMention) → IsToldWhole scope later mentions name one.linkage full
         → IsFileStep opens scope (record later {
           declared = redeclare_first name full later.declared;
-          objects = map (λ x. if x.object == number then stored_in true (composite full thing.type) puts x else x) later.objects;
+          objects = map (λ x. if x.object == number then stored_in true full puts x else x) later.objects;
           things = set_thing name (record thing { type = composite full thing.type }) later.things;
           mentions = mentions;
         })
@@ -357,8 +363,11 @@ module _ (opens : List ℕ) (specs : CSpecs) (line : ℕ) (written : CTy) (name 
                 held.initialised.stored.good full full_known.known full_known.object full_goes puts mentions told accounted_later;
             typed = content_typed opens scope at.orderly name number one.type reg one.linkage linked middle later begun_so thing own_thing held.initialised.stored.passes held.stays held.initialised.stored.made
                 held.initialised.stored.good full full_known.known full_known.object full_goes puts mentions told own_static filled_middle at.typed;
+            covered = steps.covered at.orderly at.covered;
             outside = steps.in_function_is ∙ at.outside;
             no_label = ap {A = CRest} (λ rest. rest.body) held.stays.rest_is ∙ (begun_so.body_is ∙ at.no_label);
+            blocks = functions_once scope.next_object later.next_object scope.functions later.functions
+                (let h = next_grows scope one in let k = held.initialised.stored.passes.numbers.grows in omega (arith, h, k)) steps.functions_are at.blocks;
             held = λ home backs.
                 held_behind opens scope at.orderly name number one.type reg one.linkage linked middle later begun_so thing own_thing held.initialised.stored.passes held.stays held.initialised.stored.made held.initialised.stored.good
                 full full_known.known full_known.object full_goes puts mentions told home backs (at.held home (backs_before opens home scope _ steps backs));
@@ -370,23 +379,23 @@ module _ (opens : List ℕ) (specs : CSpecs) (line : ℕ) (written : CTy) (name 
     content_at : (linkage : Linkage) → one.linkage ≡ linkage → is_linked linkage ≡ true → IsFileStep opens scope (content_form linkage name number (length scope.mentions) full puts later (Some thing))
     content_at External e is_linked_so =
         let told = is_told scope one kind.typedef kind.object linked e in
-        let mention_is = mention_at scope middle later name (composite full thing.type) told.mention told.mentions_are told.name_is (told.linkage_is ∙ e) (does_of told) early_kept
+        let mention_is = mention_at scope middle later name full told.mention told.mentions_are told.name_is (told.linkage_is ∙ e) (does_of told) early_kept
         (λ index x is. held.initialised.stored.passes.mentions index x is) in
         subst (λ found. IsFileStep opens scope (record later {
           declared = redeclare_first name full later.declared;
-          objects = map (λ x. if x.object == number then stored_in true (composite full thing.type) puts x else x) later.objects;
+          objects = map (λ x. if x.object == number then stored_in true full puts x else x) later.objects;
           things = set_thing name (record thing { type = composite full thing.type }) later.things;
-          mentions = set_told (length scope.mentions) later.mentions (composite full thing.type) found;
+          mentions = set_told (length scope.mentions) later.mentions full found;
         })) (sym mention_is)
-        (behind_at (slice_set later.mentions (length scope.mentions) (record told.mention { type = composite full thing.type }))
-        (subst (λ l. IsToldWhole scope later (slice_set later.mentions (length scope.mentions) (record told.mention { type = composite full thing.type })) name l (composite full thing.type)) (sym e)
-        (external_whole scope middle later name (composite full thing.type) told.mention told.mentions_are told.name_is (told.linkage_is ∙ e) (does_of told) early_kept
+        (behind_at (slice_set later.mentions (length scope.mentions) (record told.mention { type = full }))
+        (subst (λ l. IsToldWhole scope later (slice_set later.mentions (length scope.mentions) (record told.mention { type = full })) name l full) (sym e)
+        (external_whole scope middle later name full told.mention told.mentions_are told.name_is (told.linkage_is ∙ e) (does_of told) early_kept
         (λ index x is. held.initialised.stored.passes.mentions index x is))))
       where
         does_of : (told : IsTold scope one kind.typedef kind.object linked) → told.mention.does ≡ defines
         does_of told = told.does_is ∙ ap (λ b. does_by (not b && (is_outside one.where_stands && (one.has_init || not (has_storage keyword.Extern one.specs))))) kind.object
     content_at Internal e is_linked_so =
-        behind_at later.mentions (internal_whole scope later name one.linkage (composite full thing.type) (λ external. let h : Internal ≡ External = sym e ∙ external in cc) early_kept)
+        behind_at later.mentions (internal_whole scope later name one.linkage full (λ external. let h : Internal ≡ External = sym e ∙ external in cc) early_kept)
     content_at Nothing e is_linked_so = absurd cc
 
     filled_ends : IsFileStep opens scope (with_content begun full puts later)

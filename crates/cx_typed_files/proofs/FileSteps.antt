@@ -1,8 +1,9 @@
 -- Steps between external declarations (ISO C99, 6.9).
-use Rattle.std.proofs.Common.{◌≡◌, ℕ, Bool, true, false, ◌&&◌, ◌||◌, if◌then◌else◌, List, Option, None, Some, refl, ◌∙◌, subst, arith}
+use Rattle.std.proofs.Common.{◌≡◌, ℕ, Bool, true, false, ◌&&◌, ◌||◌, if◌then◌else◌, List, Option, None, Some, refl, ◌∙◌, subst, arith, sym, ◌≤◌}
 use Rattle.cx_core.specs.declared.program.Linkage.{Linkage}
 use Rattle.cx_core.specs.declared.program.Linkage.TheVariants.{External, Internal, Nothing}
-use Rattle.cx_core.specs.Trees.{CTy}
+use Rattle.cx_core.specs.Linked.{block_objects}
+use Rattle.cx_core.specs.Trees.{CTy, CFun}
 use Rattle.cx_core.specs.Typing.{CHome}
 use Rattle.cx_lex.specs.declared.token.Keyword.TheVariants as keyword
 use Rattle.cx_rules.specs.declared.kinds.SpecsPlace.TheVariants.{File}
@@ -15,8 +16,14 @@ use Rattle.cx_typed.specs.Growth.{Grows}
 use Rattle.cx_typed.specs.Walked.{IsGood}
 use Rattle.cx_typed_files.specs.FileScope.{IsAtFileScope}
 use Rattle.cx_typed_units.proofs.Blocks.{all_on}
+use Rattle.cx_typed_units.proofs.Once.{once_sooner}
 use Rattle.cx_typed_units.proofs.Stretches.{Steps, backs_earlier, backs_first}
+use Rattle.cx_typed_units.specs.Once.{AreOnce}
 use Rattle.cx_typed_units.specs.Stretches.{DeclaresNone, Leads, Backs}
+
+-- objects of the same functions, at a later place
+pub functions_once : (few many : ℕ) (before after : List CFun) → few ≤ many → after ≡ before → AreOnce 0 few (block_objects before) → AreOnce 0 many (block_objects after)
+functions_once few many before after more same held = once_sooner 0 few many (block_objects after) more (subst (λ functions. AreOnce 0 few (block_objects functions)) (sym same) held)
 
 -- what an external declaration does to a scope
 pub record IsFileStep (opens : List ℕ) (before after : CScope) : Type 0 where
@@ -50,14 +57,17 @@ module _ (opens : List ℕ) where
   }
 
   -- behind specifiers, declarators and initialisers
-  pub file_on : (before after : CScope) → IsAtFileScope opens before → Leads opens before after → IsGood opens after → DeclaresNone before after → after.body ≡ before.body → IsAtFileScope opens after
-  file_on before after at leads good none body_is = record {
+  pub file_on : (before after : CScope) → IsAtFileScope opens before → Leads opens before after → IsGood opens after → DeclaresNone before after → after.body ≡ before.body
+      → before.next_object ≤ after.next_object → IsAtFileScope opens after
+  file_on before after at leads good none body_is more = record {
     good = good;
     orderly = leads.orderly at.orderly;
     accounted = leads.keeps None at.accounted;
-    typed = leads.typed at.typed;
+    typed = leads.typed None at.accounted at.typed;
+    covered = leads.covered at.orderly at.covered;
     outside = leads.in_function_is ∙ at.outside;
     no_label = body_is ∙ at.no_label;
+    blocks = functions_once before.next_object after.next_object before.functions after.functions more leads.functions_are at.blocks;
     held = λ home backs.
         all_on home before after none
         (at.held home (backs_start home after.unit before.unit before leads.declares.unit_is (backs_first opens home (new_scope after.unit) before after backs leads)));

@@ -16,11 +16,11 @@ use Rattle.cx_typed.proofs.Goes.{go_gives, go_becomes, go_here_then, go_chain, g
 use Rattle.cx_typed.specs.Operands.{IsKnownType}
 use Rattle.cx_typed.specs.Unbroken.{IsUnbroken}
 use Rattle.cx_typed.specs.Walked.{Ends}
-use Rattle.cx_typed_files.proofs.FileSteps.{IsFileStep, backs_before, backs_between, file_linked}
+use Rattle.cx_typed_files.proofs.FileSteps.{IsFileStep, backs_before, backs_between, file_linked, functions_once}
 use Rattle.cx_typed_files.specs.FileScope.{IsAtFileScope}
 use Rattle.cx_typed_units.proofs.Fine.{begun_is, unclashed, fine_is}
 use Rattle.cx_typed_units.proofs.FirstInternal.{first_internal}
-use Rattle.cx_typed_units.proofs.Unfilled.{complete_object, size_said, unlinked_is, held_after, made_leads}
+use Rattle.cx_typed_units.proofs.Unfilled.{complete_object, size_said, unlinked_is, held_after, made_leads, next_grows}
 
 module _ (opens : List ℕ) (specs : CSpecs) (line : ℕ) (written : CTy) (name : List ℕ) (scope : CScope) (at : IsAtFileScope opens scope) (known : IsKnownType opens scope.types scope.unit written)
     (few : nat_lt 1 (length specs.storage) ≡ false) where
@@ -53,9 +53,11 @@ module _ (opens : List ℕ) (specs : CSpecs) (line : ℕ) (written : CTy) (name 
           good = begun.good;
           orderly = begun.leads.orderly at.orderly;
           accounted = leads.keeps None at.accounted;
-          typed = leads.typed at.typed;
+          typed = leads.typed None at.accounted at.typed;
+          covered = begun.leads.covered at.orderly at.covered;
           outside = begun.leads.in_function_is ∙ at.outside;
           no_label = begun.body_is ∙ at.no_label;
+          blocks = functions_once scope.next_object behind.next_object scope.functions behind.functions (next_grows scope one) begun.leads.functions_are at.blocks;
           held = λ home backs.
               held_after opens scope at.good at.orderly one fine (is_typedef specs) (is_function one.type) (is_linked one.linkage) refl refl refl home (backs_between opens home scope behind begun.leads backs)
               (λ t f l. absurd (let h : true ≡ false = sym (file_linked specs written (ordinary name scope.declared) t) ∙ l in cc)) (at.held home (backs_before opens home scope behind begun.leads backs));

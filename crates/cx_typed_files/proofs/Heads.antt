@@ -1,5 +1,6 @@
 -- The head of a function definition (ISO C99, 6.9.1).
-use Rattle.std.proofs.Common.{◌≡◌, ◌⊎◌, inl, inr, ℕ, zero, suc, ◌+◌, ◌<◌, ◌≤◌, Bool, true, false, not, ◌&&◌, if◌then◌else◌, List, [], ◌∷◌, ◌++◌, map, length, Option, None, Some, slice_get, bytes_eq, refl, sym, ap, ◌∙◌, subst, arith}
+use Rattle.std.proofs.Common.{◌≡◌, ◌⊎◌, inl, inr, ℕ, zero, suc, ◌<◌, ◌≤◌, Bool, true, false, not, ◌&&◌, ◌||◌, if◌then◌else◌, List, [], ◌∷◌, ◌++◌, map, length, Option, None, Some, is_some, slice_get, bytes_eq, refl, sym, ap, ◌∙◌, subst, arith}
+use Rattle.std.specs.Prelude.{IsSome, IfSome}
 use Rattle.cx_core.specs.declared.program.Linkage.{Linkage}
 use Rattle.cx_core.specs.declared.program.Linkage.TheVariants.{External, Nothing}
 use Rattle.cx_core.specs.Trees.{CTy, ty, void, basic, enum_type, pointer, array, record_type, function, CTypes, CObject, CMention, defines}
@@ -17,15 +18,17 @@ use Rattle.cx_typed_files.proofs.OwnParams.{AreFrom, IsParamMeant}
 use Rattle.cx_typed_files.proofs.OwnShapes.{IsOwnStep}
 use Rattle.cx_typed_files.proofs.ParamAccounts.{AreKnownOnes, params_accounted}
 use Rattle.cx_typed_files.specs.FileScope.{IsAtFileScope}
-use Rattle.cx_typed_units.proofs.Begun.{IsBegunAs, function_entity, named_as}
+use Rattle.cx_typed_units.proofs.Begun.{IsBegunAs, IsEntity, function_entity, named_as}
 use Rattle.cx_typed_units.proofs.DeclarationAccounts.{found_goes}
 use Rattle.cx_typed_units.proofs.Entities.{declared_again, new_thing, linked_function, linked_number, GoesWith, agree_function}
-use Rattle.cx_typed_units.proofs.Fine.{IsFine, either_false, unclashed, fine_is, form_is}
+use Rattle.cx_typed_units.proofs.Fine.{IsFine, either_false, unclashed, fine_is, form_is, says_no_less}
+use Rattle.cx_typed_units.proofs.Joins.{fills_through}
 use Rattle.cx_typed_units.proofs.FunctionAccounts.{new_function_accounted, function_again_accounted}
 use Rattle.cx_typed_units.proofs.Named.{found_last, found_set, has_name}
 use Rattle.cx_typed_units.proofs.Stretches.{Steps, steps_on, thing_on, steps_of}
 use Rattle.cx_typed_units.specs.Account.{account_of, IsAccounted}
-use Rattle.cx_typed_units.specs.Stretches.{IsThingOf, IsKnownThing, IsOrderly, Leads}
+use Rattle.cx_typed_units.specs.Fills.{Fills}
+use Rattle.cx_typed_units.specs.Stretches.{IsThing, IsCovered, IsThingOf, IsKnownThing, IsOrderly, Leads}
 
 -- ---- what a definition asks of declarations before
 
@@ -148,10 +151,50 @@ module _ (opens : List ℕ) (start scope : CScope) (specs : CSpecs) (line : ℕ)
   abbrev pub behind : CScope
   behind = with_declared name (a_function number one.type one.linkage) (with_mention mention (entity_by (thing_named name scope.things)))
 
+  entity : IsEntity opens scope name (a_function number one.type one.linkage) (entity_by (thing_named name scope.things))
+  entity = function_entity opens scope name one.type fine.known head.at.orderly one.linkage linked (fine.goes linked) form true
+
+  -- it has a body
+  itself : bytes_eq name name ≡ true
+  itself = (bytes_eq-Decides name name).1 refl
+
+  thing_by : (found : Option CThing) → thing_named name scope.things ≡ found → (thing : CThing) × (thing_named name (entity_by found).things ≡ Some thing) × (thing.is_defined ≡ true)
+  thing_by None there =
+      let new = new_thing name one.linkage true scope.next_function one.type true None in
+      (new, found_last name scope.things new there itself, refl)
+  thing_by (Some old) there =
+      let again = declared_again one.type true None old in
+      let old_name = has_name name scope.things old there in (
+        again,
+        found_set name name again scope.things old (ap (λ n. bytes_eq n name) old_name) there ∙ ap (λ b. Some (if b then again else old)) (ap (λ n. bytes_eq n name) old_name ∙ itself),
+        refl,
+      )
+
+  pub thing_defined : (thing : CThing) → thing_named name behind.things ≡ Some thing → thing.is_defined ≡ true
+  thing_defined thing there =
+      let found = thing_by (thing_named name scope.things) refl in
+      let same : Some found.0 ≡ Some thing = sym found.1 ∙ there in
+      let is : found.0 ≡ thing = cc in
+      ap (λ (x : CThing). x.is_defined) (sym is) ∙ found.2
+
+  -- the unit says no less of the function than what is written
+  mention_covered : (found : Option CThing) → thing_named name (entity_by (thing_named name scope.things)).things ≡ found
+      → IsSome found × IfSome found (IsThing opens (entity_by (thing_named name scope.things)).types number one.type one.linkage true)
+      → IsCovered opens (entity_by (thing_named name scope.things)).types (entity_by (thing_named name scope.things)).things mention
+  mention_covered None there held = absurd (let h : false ≡ true = held.0 in cc)
+  mention_covered (Some thing) there held = record {
+    thing = thing;
+    there = there;
+    fills = fills_through opens (entity_by (thing_named name scope.things)).types scope.unit written one.type thing.type
+        (subst (λ types. Fills opens types written one.type) (sym entity.types_are)
+        (says_no_less opens scope head.at.good head.at.orderly Definition specs name line written true head.known (unclashed scope name (is_typedef specs) written one.linkage true head.apart))) held.1.fills;
+    defined = λ is. record { linkage_is = held.1.linkage_is; defined = ap (λ b. b || (not thing.is_function && is_some thing.tentative)) (thing_defined thing there) };
+  }
+
   pub begun : IsBegunAs opens scope name (a_function number one.type one.linkage) behind
   begun =
       named_as opens scope head.at.good name (a_function number one.type one.linkage) refl (entity_by (thing_named name scope.things))
-      (function_entity opens scope name one.type fine.known head.at.orderly one.linkage linked (fine.goes linked) form true) true mention
+      entity true mention (λ is. mention_covered (thing_named name (entity_by (thing_named name scope.things)).things) refl entity.linked.1)
 
   account_at : (found : Option CThing) → thing_named name scope.things ≡ found → IsAccounted opens (Some name) (account_of (with_mention mention (entity_by found)))
   account_at None there =
@@ -214,7 +257,7 @@ module _ (opens : List ℕ) (start scope : CScope) (specs : CSpecs) (line : ℕ)
   early_literal : (index : ℕ) (x : CMade) → slice_get behind.literals index ≡ Some x → x.object < start.next_object
   early_literal index x is = head.at_start.accounted.literals_below index x (subst (λ literals. slice_get literals index ≡ Some x) (begun.literals_are ∙ head.literals_same) is)
 
-  numbers_from : AreFrom start.next_object (own_params steps) behind.next_object
+  pub numbers_from : AreFrom start.next_object (own_params steps) behind.next_object
   numbers_from = subst (AreFrom start.next_object (own_params steps)) (sym (entity_next (thing_named name scope.things))) head.own.numbers
 
   pub inside_accounted : AreKnownOnes opens behind.types behind.unit (own_params steps) → IsAccounted opens (Some name) (account_of inside)
@@ -300,28 +343,6 @@ module _ (opens : List ℕ) (start scope : CScope) (specs : CSpecs) (line : ℕ)
 
   pub same_objects : behind.objects ≡ scope.objects
   same_objects = entity_objects (thing_named name scope.things)
-
-  itself : bytes_eq name name ≡ true
-  itself = (bytes_eq-Decides name name).1 refl
-
-  thing_by : (found : Option CThing) → thing_named name scope.things ≡ found → (thing : CThing) × (thing_named name (entity_by found).things ≡ Some thing) × (thing.is_defined ≡ true)
-  thing_by None there =
-      let new = new_thing name one.linkage true scope.next_function one.type true None in
-      (new, found_last name scope.things new there itself, refl)
-  thing_by (Some old) there =
-      let again = declared_again one.type true None old in
-      let old_name = has_name name scope.things old there in (
-        again,
-        found_set name name again scope.things old (ap (λ n. bytes_eq n name) old_name) there ∙ ap (λ b. Some (if b then again else old)) (ap (λ n. bytes_eq n name) old_name ∙ itself),
-        refl,
-      )
-
-  pub thing_defined : (thing : CThing) → thing_named name behind.things ≡ Some thing → thing.is_defined ≡ true
-  thing_defined thing there =
-      let found = thing_by (thing_named name scope.things) refl in
-      let same : Some found.0 ≡ Some thing = sym found.1 ∙ there in
-      let is : found.0 ≡ thing = cc in
-      ap (λ (x : CThing). x.is_defined) (sym is) ∙ found.2
 
   pub mention_at : slice_get behind.mentions (length (entity_by (thing_named name scope.things)).mentions) ≡ Some mention
   mention_at = pushed_at (entity_by (thing_named name scope.things)).mentions mention

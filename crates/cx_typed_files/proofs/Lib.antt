@@ -1,7 +1,17 @@
 pub mod Bodies
+pub mod Covered
 pub mod DeclaredThing
 pub mod DefinedFunctions
+pub mod Defining
 pub mod Definitions
+pub mod EndComplete
+pub mod EndFunctions
+pub mod EndHeld
+pub mod EndLists
+pub mod EndMentions
+pub mod EndNames
+pub mod EndObjects
+pub mod EndTyped
 pub mod Externals
 pub mod FileContent
 pub mod FileDeclarations
@@ -13,3 +23,7 @@ pub mod Heads
 pub mod OwnParams
 pub mod OwnShapes
 pub mod ParamAccounts
+pub mod UnbrokenUnits
+pub mod UnitEnd
+pub mod UnitTyped
+pub mod ValidUnits

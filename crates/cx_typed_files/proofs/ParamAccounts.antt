@@ -1,5 +1,5 @@
 -- What a unit keeps account of stays right where parameters become objects, and where a function has its body (ISO C99, 6.9.1).
-use Rattle.std.proofs.Common.{◌≡◌, ◌⊎◌, inl, inr, ℕ, suc, ◌+◌, ◌<◌, ◌≤◌, Bool, true, false, List, [], ◌∷◌, ◌++◌, map, length, Option, None, Some, slice_get, bytes_eq, refl, sym, ap, ◌∙◌, subst, append_assoc, arith}
+use Rattle.std.proofs.Common.{◌≡◌, ◌⊎◌, inl, inr, ℕ, suc, ◌<◌, ◌≤◌, Bool, true, false, List, [], ◌∷◌, ◌++◌, map, length, Option, None, Some, slice_get, bytes_eq, refl, sym, ap, ◌∙◌, subst, append_assoc, arith}
 use Rattle.std.proofs.lemmas.Slice.Eq.{bytes_eq-Decides}
 use Rattle.cx_core.specs.declared.program.Linkage.TheVariants.{External, Nothing}
 use Rattle.cx_core.specs.Trees.{form_of_type, CTypes, CObject, CFun, defines}
@@ -78,8 +78,10 @@ module _ (opens : List ℕ) (pending : Option (List ℕ)) (few : CAccount) (held
     apart = λ first second one other at there same. apart_by first second one other there same (got_last few.objects new first one at);
     objects_below = λ index one at. below_by index one (got_last few.objects new index one at);
     literals_below = held.literals_below;
+    literals = held.literals;
     objects = λ index one at. known_by index one (got_last few.objects new index one at);
     listed = held.listed;
+    things_differ = held.things_differ;
     object_things = λ name one there is. thing_later name one (held.object_things name one there is);
     function_things = λ name one there is.
         let was = held.function_things name one there is in
@@ -239,10 +241,12 @@ module _ (opens : List ℕ) (few : CAccount) (new : CFun) (held : IsAccounted op
     apart = held.apart;
     objects_below = held.objects_below;
     literals_below = held.literals_below;
+    literals = held.literals;
     objects = λ index one at. (
         let was = held.objects index one at in
         record { here = was.here; known = was.known; object = was.object; no_text = was.no_text; named = was.named });
     listed = held.listed;
+    things_differ = held.things_differ;
     object_things = λ name one at is. object_thing name one is at (held.object_things name one at is);
     function_things = λ name one at is.
         let was = held.function_things name one at is in

@@ -1,5 +1,5 @@
 -- Definitions of functions, and all of a unit (ISO C99, 6.9).
-use Rattle.std.specs.Prelude.{ℕ, List, [], ◌∷◌}
+use Rattle.std.specs.Prelude.{◌≡◌, ℕ, List, [], ◌∷◌}
 use Rattle.cx_rules.specs.Readings.{Seen, seen_gives, seen_chain, seen_here, seen_becomes, seen_look}
 use Rattle.cx_rules.specs.Scope.{CScope}
 use Rattle.cx_rules.specs.UnitWalk as unit
@@ -20,7 +20,7 @@ IsSpelledDefinition d = AreSpelledSpecs d.specs × IsSpelledDeclarator d.declara
 -- a definition that breaks no rule leaves what is known between external declarations as it is (6.9.1)
 abbrev pub DefinitionsGo : Type 0
 DefinitionsGo = (d : DefinitionTree) → IsSpelledDefinition d → (opens : List ℕ) (scope : CScope) → IsAtFileScope opens scope
-    → Ends (unit.definition_walk Seen seen_gives seen_chain seen_here seen_becomes seen_look d) scope (λ done after. IsAtFileScope opens after)
+    → Ends (unit.definition_walk Seen seen_gives seen_chain seen_here seen_becomes seen_look d) scope (λ done after. IsAtFileScope opens after × (after.unit ≡ scope.unit))
 
 -- ---- all external declarations
 
@@ -35,4 +35,4 @@ AreSpelledExternals (first ∷ others) = IsSpelledExternal first × AreSpelledEx
 -- so do all of a unit (6.9)
 abbrev pub ExternalsGo : Type 0
 ExternalsGo = (parts : List ExternalTree) → AreSpelledExternals parts → (opens : List ℕ) (scope : CScope) → IsAtFileScope opens scope
-    → Ends (unit.externals_walk Seen seen_gives seen_chain seen_here seen_becomes seen_look parts) scope (λ done after. IsAtFileScope opens after)
+    → Ends (unit.externals_walk Seen seen_gives seen_chain seen_here seen_becomes seen_look parts) scope (λ done after. IsAtFileScope opens after × (after.unit ≡ scope.unit))

@@ -1,2 +1,5 @@
+pub mod Covered
+pub mod Defining
 pub mod FileScope
 pub mod FileUnits
+pub mod UnbrokenUnits

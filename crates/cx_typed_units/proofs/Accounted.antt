@@ -1,13 +1,13 @@
 -- What a unit keeps account of stays right while it goes on (ISO C99, 6.2.2, 6.7).
-use Rattle.std.proofs.Common.{◌≡◌, ◌⊎◌, inl, inr, ⊎_elim, ℕ, zero, suc, ◌+◌, ◌<◌, ◌≤◌, Bool, true, false, List, [], ◌∷◌, ◌++◌, length, Option, None, Some, slice_get, refl, sym, ap, ◌∙◌, subst, arith}
+use Rattle.std.proofs.Common.{◌≡◌, ◌⊎◌, inl, inr, ℕ, zero, suc, ◌<◌, ◌≤◌, List, length, Option, Some, slice_get, refl, sym, ap, subst, arith}
 use Rattle.cx_core.specs.declared.program.Linkage.{Linkage}
 use Rattle.cx_core.specs.Trees.{CTypes, CObject, CFun, CMention}
 use Rattle.cx_rules.specs.Scope.{CMade, CThing, CScope}
 use Rattle.cx_typed.proofs.Numbered.{was_or_new}
 use Rattle.cx_typed.proofs.Scopes.{grows_on}
-use Rattle.cx_typed.proofs.Walked.{known_stays}
+use Rattle.cx_typed.proofs.Walked.{known_stays, well_stays}
 use Rattle.cx_typed.specs.Growth.{Gives, Grows}
-use Rattle.cx_typed.specs.Scopes.{TakesNumbers}
+use Rattle.cx_typed.specs.Scopes.{TakesNumbers, IsWellMade, AreTypedLiterals}
 use Rattle.cx_typed_units.proofs.RestNodes.{StaysTo}
 use Rattle.cx_typed_units.specs.Account.{CAccount, account_of, IsToldAs, IsKnownObject, IsObjectThing, IsDefinedBy, IsFunctionThing, IsKnownFun, IsAccounted}
 use Rattle.cx_typed_units.specs.Rest.{CRest}
@@ -108,7 +108,9 @@ grown_account few types next_object next_function literals mentions = record few
 
 module _ (opens : List ℕ) (pending : Option (List ℕ)) (few : CAccount) (types : CTypes) (next_object next_function : ℕ) (literals : List CMade) (mentions : List CMention)
     (grows : Grows opens few.types types) (more : few.next_object ≤ next_object) (more_functions : few.next_function ≤ next_function)
-    (told : (number : ℕ) → Gives (slice_get few.mentions number) (slice_get mentions number)) (made : AreApart few.objects literals next_object) where
+    (told : (number : ℕ) → Gives (slice_get few.mentions number) (slice_get mentions number)) (made : AreApart few.objects literals next_object)
+    (kept : (number : ℕ) → Gives (slice_get few.literals number) (slice_get literals number))
+    (well : (number : ℕ) (one : CMade) → length few.literals ≤ number → slice_get literals number ≡ Some one → IsWellMade types one) where
   abbrev many : CAccount
   many = grown_account few types next_object next_function literals mentions
 
@@ -130,7 +132,7 @@ module _ (opens : List ℕ) (pending : Option (List ℕ)) (few : CAccount) (type
     linkage_is = held.linkage_is;
     named = held.named;
     type_is = held.type_is;
-    fills = λ now growth counts other is. held.fills now (grows_on opens few.types types now grows growth) counts other is;
+    fills = λ now growth. held.fills now (grows_on opens few.types types now grows growth);
     defined = held.defined;
     filled = held.filled;
     internal = held.internal;
@@ -146,7 +148,7 @@ module _ (opens : List ℕ) (pending : Option (List ℕ)) (few : CAccount) (type
     number_is = held.number_is;
     named = held.named;
     linkage_is = held.linkage_is;
-    fills = λ now growth counts other is. held.fills now (grows_on opens few.types types now grows growth) counts other is;
+    fills = λ now growth. held.fills now (grows_on opens few.types types now grows growth);
   }
 
   function_later : (name : List ℕ) (thing : CThing) → IsFunctionThing opens pending few name thing → IsFunctionThing opens pending many name thing
@@ -168,6 +170,11 @@ module _ (opens : List ℕ) (pending : Option (List ℕ)) (few : CAccount) (type
     told = λ external. told_later few.mentions mentions told one.name _ _ (held.told external);
   }
 
+  well_by : (index : ℕ) (one : CMade) → slice_get literals index ≡ Some one → (slice_get few.literals index ≡ Some one) ⊎ (length few.literals ≤ index)
+      → (slice_get few.literals index ≡ Some one → IsWellMade few.types one) → IsWellMade types one
+  well_by index one at (inl was) held = well_stays opens few.types types grows one (held was)
+  well_by index one at (inr new) held = well index one new at
+
   pub grown_accounted : IsAccounted opens pending few → IsAccounted opens pending many
   grown_accounted held = record {
     objects_differ = held.objects_differ;
@@ -175,8 +182,10 @@ module _ (opens : List ℕ) (pending : Option (List ℕ)) (few : CAccount) (type
     apart = made.apart;
     objects_below = λ index one at. let h : one.object < few.next_object = held.objects_below index one at in omega (arith, h, more);
     literals_below = made.below;
+    literals = λ index one at. well_by index one at (was_or_new few.literals literals kept index one at) (held.literals index one);
     objects = λ index one at. object_later one (held.objects index one at);
     listed = held.listed;
+    things_differ = held.things_differ;
     object_things = λ name one there is. thing_later name one (held.object_things name one there is);
     function_things = λ name one there is. function_later name one (held.function_things name one there is);
     functions_differ = held.functions_differ;
@@ -190,8 +199,8 @@ apart_of opens pending account held = record { differ = held.literals_differ; ap
 
 -- behind an expression, a type or an initialiser
 pub rest_accounted : (opens : List ℕ) (pending : Option (List ℕ)) (before after : CScope) → Continues opens before after → StaysTo before after → TakesNumbers before after
-    → IsAccounted opens pending (account_of before) → IsAccounted opens pending (account_of after)
-rest_accounted opens pending before after declares stays numbers held =
+    → AreTypedLiterals opens before after → IsAccounted opens pending (account_of before) → IsAccounted opens pending (account_of after)
+rest_accounted opens pending before after declares stays numbers made held =
     subst (λ (rest : CRest). IsAccounted opens pending (record {
       unit = rest.unit;
       types = after.types;
@@ -204,4 +213,4 @@ rest_accounted opens pending before after declares stays numbers held =
       things = rest.things;
     })) (sym stays.rest_is)
     (grown_accounted opens pending (account_of before) after.types after.next_object before.next_function after.literals after.mentions declares.grows stays.more (omega arith) declares.mentions
-    (still_apart before after numbers declares.literals before.objects held.objects_below (apart_of opens pending (account_of before) held)) held)
+    (still_apart before after numbers declares.literals before.objects held.objects_below (apart_of opens pending (account_of before) held)) declares.literals made.well held)

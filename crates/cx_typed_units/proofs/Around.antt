@@ -1,8 +1,8 @@
 -- Scopes inside of others, and labels, in stretches of statements (ISO C99, 6.2.1p4).
-use Rattle.std.proofs.Common.{◌≡◌, ℕ, ◌-◌, ◌+◌, ◌<◌, true, false, List, [], ◌∷◌, ◌++◌, length, drop, Some, slice_get, refl, sym, ap, ◌∙◌, subst, length-append, arith}
+use Rattle.std.proofs.Common.{◌≡◌, ℕ, ◌-◌, ◌+◌, ◌<◌, true, false, List, [], ◌∷◌, ◌++◌, length, drop, Option, Some, slice_get, refl, sym, ap, ◌∙◌, subst, length-append, arith}
 use Rattle.cx_core.specs.Statements.{CBody, with_objects}
 use Rattle.cx_core.specs.Typing.{CHome}
-use Rattle.cx_rules.specs.Scope.{CMeant, CTag, CLabels, CDeclared, CThing, CScope, entered, left, ordinary, tag}
+use Rattle.cx_rules.specs.Scope.{CLabels, CDeclared, CThing, CScope, entered, left, ordinary, tag}
 use Rattle.cx_rules.specs.UnitWalk.{CWhere}
 use Rattle.cx_typed.proofs.Growing.{complete_stays}
 use Rattle.cx_typed.proofs.Tags.{meant_stays, tag_stays}
@@ -12,9 +12,10 @@ use Rattle.cx_typed.specs.Operands.{IsKnownType}
 use Rattle.cx_typed.specs.Walked.{IsGood}
 use Rattle.cx_typed_units.proofs.Stretches.{Steps, thing_on, leads_by, holds_earlier}
 use Rattle.cx_typed_units.specs.Statements.{IsPlace, StandsIn}
-use Rattle.cx_typed_units.specs.Stretches.{IsKnownThing, IsOrderly, Leads, DeclaresNone, Backs, HoldsAll, AreTypedThere, AreTypedUpTo}
+use Rattle.cx_typed_units.specs.Account.{account_of, IsAccounted}
+use Rattle.cx_typed_units.specs.Stretches.{IsKnownThing, IsOrderly, Leads, DeclaresNone, Backs, HoldsAll, AreTypedUpTo}
 
-behind_front : (front behind : List CDeclared) → drop (length (front ++ behind) - length behind) (front ++ behind) ≡ behind
+pub behind_front : (front behind : List CDeclared) → drop (length (front ++ behind) - length behind) (front ++ behind) ≡ behind
 behind_front front behind = dropped front behind (length (front ++ behind) - length behind) (count front behind)
   where
     count : (front behind : List CDeclared) → length (front ++ behind) - length behind ≡ length front
@@ -134,6 +135,7 @@ module _ (opens : List ℕ) (before : CScope) (good : IsGood opens before) (inne
     objects = leads.objects;
     things = leads.things;
     orderly = back_orderly;
+    covered = λ orderly held. leads.covered (orderly_entered opens before orderly) held;
     statics = leads.statics;
   }
 
@@ -154,10 +156,10 @@ module _ (opens : List ℕ) (before : CScope) (good : IsGood opens before) (inne
     literals_inside = all.literals_inside;
   }
 
-  back_typed : AreTypedUpTo opens before → AreTypedUpTo opens back
-  back_typed held home all =
+  back_typed : (pending : Option (List ℕ)) → IsAccounted opens pending (account_of before) → AreTypedUpTo opens before → AreTypedUpTo opens back
+  back_typed pending account held home all =
       let was = held home (holds_earlier opens home before back all back_steps) in
-      let inside = leads.typed (typed_entered opens before held) home (holds_inner home all) in
+      let inside = leads.typed pending account (typed_entered opens before held) home (holds_inner home all) in
       record {
         held = λ name meant is. was.held name meant (ap (ordinary name) (sym back_declared) ∙ is);
         literals = inside.literals;
@@ -224,9 +226,10 @@ module _ (opens : List ℕ) where
     objects = leads.objects;
     things = leads.things;
     orderly = λ held. orderly_labels opens labels after (leads.orderly held);
+    covered = leads.covered;
     statics = leads.statics;
     keeps = leads.keeps;
-    typed = λ held. typed_labels opens labels after (leads.typed held);
+    typed = λ pending account held. typed_labels opens labels after (leads.typed pending account held);
   }
 
   pub leads_from_labels : (labels : CLabels) (before after : CScope) → Leads opens (with_labels labels before) after → Leads opens before after
@@ -246,9 +249,10 @@ module _ (opens : List ℕ) where
     objects = leads.objects;
     things = leads.things;
     orderly = λ held. leads.orderly (orderly_labels opens labels before held);
+    covered = λ orderly held. leads.covered (orderly_labels opens labels before orderly) held;
     statics = leads.statics;
     keeps = leads.keeps;
-    typed = λ held. leads.typed (typed_labels opens labels before held);
+    typed = λ pending account held. leads.typed pending account (typed_labels opens labels before held);
   }
 
   pub backs_labels : (labels : CLabels) (home : CHome) (before after : CScope) → Backs home opens before (with_labels labels after) → Backs home opens before after

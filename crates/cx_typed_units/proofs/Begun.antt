@@ -1,25 +1,23 @@
 -- A declarator ends, and its name is in scope (ISO C99, 6.2.1p7).
-use Rattle.std.proofs.Common.{◌≡◌, ℕ, ◌+◌, ◌<◌, ◌≤◌, Bool, true, false, not, ◌&&◌, ◌||◌, if◌then◌else◌, List, [], ◌∷◌, ◌++◌, length, Option, None, Some, slice_get, bytes_eq, refl, sym, ap, ◌∙◌, subst, arith}
+use Rattle.std.proofs.Common.{◌≡◌, ℕ, Bool, true, false, if◌then◌else◌, List, ◌∷◌, length, Option, None, Some, refl, sym, ap, ◌∙◌, subst}
 use Rattle.std.specs.Prelude.{IsSome, IfSome}
 use Rattle.cx_core.specs.declared.program.Linkage.{Linkage}
 use Rattle.cx_core.specs.declared.program.Linkage.TheVariants.{External, Internal, Nothing}
-use Rattle.cx_core.specs.Trees.{CTy, ty, CTyForm, void, basic, enum_type, pointer, array, record_type, function, form_of_type, CPuts, no_puts, CObject, CMention}
+use Rattle.cx_core.specs.Trees.{CTy, ty, void, basic, enum_type, pointer, array, record_type, function, form_of_type, CPuts, CMention}
 use Rattle.cx_core.specs.ValidTypes.{IsObjectForm}
-use Rattle.cx_lex.specs.declared.token.Keyword.TheVariants as keyword
-use Rattle.cx_rules.specs.Declare.{is_linked, is_outside, is_typedef, thing_named, joined_with, clashes_thing, same_linkage, CDeclaring, with_declaration}
+use Rattle.cx_rules.specs.Declare.{is_linked, thing_named, joined_with}
 use Rattle.cx_rules.specs.Scope.{CMeant, an_object, a_function, a_type_name, an_enumerator, a_tag, CThing, CScope, ordinary, tag, is_ordinary, with_declared, with_mention}
-use Rattle.cx_rules.specs.Shapes.{has_storage}
 use Rattle.cx_rules.specs.Types.{is_function, is_void, compatible, composite}
 use Rattle.cx_typed.specs.Names.{IsKnownMeant, IsKnownTag, IsFunctionForm}
 use Rattle.cx_typed.specs.Sound.{AreSound}
 use Rattle.cx_typed.specs.Operands.{IsKnownType}
 use Rattle.cx_typed.specs.Walked.{IsGood}
-use Rattle.cx_typed_units.proofs.Entities.{new_object, linked_object, linked_function, linked_number, GoesWith, IsDeclaredAs, object_declared, function_declared, composite_function}
+use Rattle.cx_typed_units.proofs.Entities.{new_object, linked_object, linked_function, linked_number, GoesWith, object_declared, function_declared, composite_function}
 use Rattle.cx_typed_units.proofs.Joins.{earlier_goes, fills_itself, fills_first, fills_agree, joined_type, composite_known}
 use Rattle.cx_typed_units.proofs.Steps.{IsLinkedName, good_declared, declared_leads, mention_leads, with_next_object, next_leads}
 use Rattle.cx_typed_units.proofs.Stretches.{Steps, steps_itself, steps_on}
 use Rattle.cx_typed_units.specs.Fills.{Fills}
-use Rattle.cx_typed_units.specs.Stretches.{IsThing, IsThingOf, IsOrderly}
+use Rattle.cx_typed_units.specs.Stretches.{IsThing, IsThingOf, IsOrderly, IsCovered}
 
 -- ---- the type beside the visible declaration (6.2.7p4)
 
@@ -147,10 +145,11 @@ module _ (opens : List ℕ) (before : CScope) (good : IsGood opens before) (name
   good_told : (mention : CMention) → IsGood opens (with_mention mention middle)
   good_told mention = record { sound = middle_good.sound; known = middle_good.known; tags = middle_good.tags }
 
-  pub named_as : (told : Bool) (mention : CMention) → IsBegunAs opens before name meant (with_declared name meant (if told then with_mention mention middle else middle))
-  named_as true mention = record {
+  pub named_as : (told : Bool) (mention : CMention) → (told ≡ true → IsCovered opens middle.types middle.things mention)
+      → IsBegunAs opens before name meant (with_declared name meant (if told then with_mention mention middle else middle))
+  named_as true mention covered = record {
     good = good_declared opens (with_mention mention middle) name meant plain (good_told mention) middle_known;
-    leads = steps_on opens before (with_mention mention middle) _ (steps_on opens before middle (with_mention mention middle) entity.leads (mention_leads opens middle mention))
+    leads = steps_on opens before (with_mention mention middle) _ (steps_on opens before middle (with_mention mention middle) entity.leads (mention_leads opens middle mention (covered refl)))
         (declared_leads opens (with_mention mention middle) name meant (linked_same opens middle (with_mention mention middle) name meant refl refl entity.linked));
     body_is = entity.body_is;
     declared_is = ap (λ declared. record { name = name; meant = meant } ∷ declared) entity.declared_are;
@@ -158,7 +157,7 @@ module _ (opens : List ℕ) (before : CScope) (good : IsGood opens before) (name
     types_are = entity.types_are;
     literals_are = entity.literals_are;
   }
-  named_as false mention = record {
+  named_as false mention covered = record {
     good = good_declared opens middle name meant plain middle_good middle_known;
     leads = steps_on opens before middle _ entity.leads (declared_leads opens middle name meant entity.linked);
     body_is = entity.body_is;

@@ -1,19 +1,19 @@
 -- The objects of blocks, and what a place in a block may name (ISO C99, 6.2.1, 6.2.4, 6.5.2.5p6).
-use Rattle.std.proofs.Common.{◌≡◌, ℕ, zero, suc, ◌<◌, ◌≤◌, Bool, true, false, if◌then◌else◌, List, [], ◌∷◌, ◌++◌, length, drop, Option, None, Some, is_none, slice_get, slice_index_or, refl, sym, ap, ◌∙◌, subst, arith}
+use Rattle.std.proofs.Common.{◌≡◌, ℕ, zero, suc, ◌<◌, ◌≤◌, Bool, true, false, if◌then◌else◌, List, [], ◌∷◌, ◌++◌, length, drop, Option, None, Some, is_none, slice_get, refl, sym, ap, ◌∙◌, subst, arith}
 use Rattle.std.specs.Prelude.{IsSome, IfSome}
 use Rattle.std.specs.List.{Contains}
 use Rattle.cx_core.specs.declared.program.Linkage.{Linkage}
 use Rattle.cx_core.specs.declared.program.Linkage.TheVariants.{External, Internal, Nothing}
 use Rattle.cx_core.specs.Statements.{AreBlockObjects, IsBlockObject}
 use Rattle.cx_core.specs.Trees.{CTy, CPuts, CObject, CMention, uses}
-use Rattle.cx_core.specs.Typing.{CHome, object_with, callee_with, IsLiteral, IsLiteralOf, IsNamed, IsObjectOf, IsThere, IsMentioned}
+use Rattle.cx_core.specs.Typing.{CHome, object_with, callee_with, IsLiteralOf, IsObjectOf, IsMentioned}
 use Rattle.cx_rules.specs.Scope.{CMeant, an_object, a_function, a_type_name, an_enumerator, a_tag, CDeclared, CMade, CScope, ordinary}
 use Rattle.cx_rules.specs.UnitWalk.{literals_since}
 use Rattle.cx_typed.proofs.Numbered.{not_there}
 use Rattle.cx_typed.specs.Scopes.{IsHeld, IsHeldBy, IsHeldObject, IsHeldFunction, IsMade, Serves}
 use Rattle.cx_typed_units.proofs.Stretches.{if_some, home_in}
 use Rattle.cx_typed_units.specs.Rest.{is_defining, DefinesNone}
-use Rattle.cx_typed_units.specs.Stretches.{DeclaresNone, IsInBlock, IsMadeObject, IsFixedObject, IsMadeBy, IsMadeThere, Backs, IsHeldAt, AreIn}
+use Rattle.cx_typed_units.specs.Stretches.{DeclaresNone, IsInBlock, IsMadeBy, IsMadeThere, Backs, IsHeldAt, AreIn}
 
 -- ---- lists
 

@@ -1,5 +1,5 @@
 -- Expressions that control statements (ISO C99, 6.8.4, 6.8.5).
-use Rattle.std.proofs.Common.{◌≡◌, ℕ, Bool, true, false, not, ◌||◌, List, [], ◌∷◌, Option, None, Some, refl, sym, ap, ◌∙◌, subst}
+use Rattle.std.proofs.Common.{◌≡◌, ℕ, false, ◌||◌, List, refl, sym, ◌∙◌, subst}
 use Rattle.cx_core.specs.Statements.{IsCondition}
 use Rattle.cx_core.specs.Trees.{CTypes, CExpr, type_of}
 use Rattle.cx_core.specs.Typing.{CHome}
@@ -11,7 +11,6 @@ use Rattle.cx_rules.specs.Operands.{COperand, value_of, value_type, gives_nothin
 use Rattle.cx_rules.specs.Pieces.{Done}
 use Rattle.cx_rules.specs.Readings.{Seen, seen_gives, seen_chain, seen_here}
 use Rattle.cx_rules.specs.Scope.{CScope, entered}
-use Rattle.cx_rules.specs.Types.{is_scalar}
 use Rattle.cx_rules.specs.UnitWalk.{CTested, literals_since}
 use Rattle.cx_tree.specs.Trees.{ExprTree}
 use Rattle.cx_typed.proofs.Goes.{go_gives, go_here_then, go_chain, go_settled}

@@ -1,5 +1,5 @@
 -- What a unit keeps account of stays right where a declarator ends (ISO C99, 6.2.1p7, 6.2.2, 6.9.2).
-use Rattle.std.proofs.Common.{◌≡◌, ℕ, ◌+◌, ◌==◌, Bool, true, false, not, ◌&&◌, ◌||◌, if◌then◌else◌, List, [], ◌∷◌, ◌++◌, Option, None, Some, is_some, slice_get, bytes_eq, refl, sym, ap, ◌∙◌, subst, arith}
+use Rattle.std.proofs.Common.{◌≡◌, ℕ, Bool, true, false, not, ◌&&◌, ◌||◌, if◌then◌else◌, List, [], ◌∷◌, ◌++◌, Option, None, Some, is_some, bytes_eq, refl, sym, ap, ◌∙◌, subst}
 use Rattle.std.proofs.lemmas.Slice.Eq.{bytes_eq-Decides}
 use Rattle.std.specs.Prelude.{IfSome}
 use Rattle.cx_core.specs.declared.program.Linkage.{Linkage}
@@ -11,10 +11,10 @@ use Rattle.cx_rules.specs.Scope.{CThing, CScope, with_mention}
 use Rattle.cx_rules.specs.Shapes.{has_storage}
 use Rattle.cx_rules.specs.Types.{is_function, composite}
 use Rattle.cx_typed.proofs.Scopes.{kept_before}
-use Rattle.cx_typed_units.proofs.Entities.{declared_again, new_thing, new_object, linked_object, linked_function, GoesWith, agree_function}
-use Rattle.cx_typed_units.proofs.Fine.{tentative_at, does_by, is_external, told_type, mention_by, static_puts, entity_by, told_by, declared_by, declaration_is, IsFine, no_linkage}
+use Rattle.cx_typed_units.proofs.Entities.{declared_again, new_thing, new_object, linked_object, linked_function, agree_function}
+use Rattle.cx_typed_units.proofs.Fine.{tentative_at, does_by, is_external, told_type, mention_by, static_puts, told_by, declared_by, declaration_is, IsFine, no_linkage}
 use Rattle.cx_typed_units.proofs.FunctionAccounts.{pending_by, told_last, new_function_accounted, function_again_accounted}
-use Rattle.cx_typed_units.proofs.Named.{set_thing, same_thing, found_last, found_set, has_name}
+use Rattle.cx_typed_units.proofs.Named.{set_thing, found_last, found_set, has_name}
 use Rattle.cx_typed_units.proofs.ObjectAccounts.{own_accounted, IsToldNow, new_object_accounted, object_again_accounted}
 use Rattle.cx_typed_units.specs.Account.{account_of, IsAccounted}
 use Rattle.cx_typed_units.specs.Stretches.{IsOrderly}

@@ -1,16 +1,14 @@
 -- The walk over declarations in blocks (ISO C99, 6.7).
-use Rattle.std.proofs.Common.{◌≡◌, ℕ, nat_lt, length, Bool, true, false, List, [], ◌∷◌, ◌++◌, Option, None, Some, refl, sym, ap, ◌∙◌, subst}
+use Rattle.std.proofs.Common.{◌≡◌, ℕ, nat_lt, length, Bool, true, false, List, [], ◌∷◌, ◌++◌, Option, None, Some, refl, sym, ap, ◌∙◌, subst, ◌≤◌, arith}
 use Rattle.std.specs.Prelude.{IfSome}
-use Rattle.cx_core.specs.Statements.{CBody, AreTypedStmts}
 use Rattle.cx_core.specs.Trees.{CTy, CStmt}
-use Rattle.cx_core.specs.Typing.{CHome}
-use Rattle.cx_rules.proofs.UnitNodesAgree.{s_specs_walk, s_declarator_walk, s_named_walk, s_init_declarator_walk, s_init_declarators_walk, s_list_walk, s_decl_walk}
+use Rattle.cx_rules.proofs.UnitNodesAgree.{s_specs_walk, s_declarator_walk, s_named_walk, s_init_declarator_walk, s_init_declarators_walk, s_list_walk}
 use Rattle.cx_rules.specs.declared.kinds.SpecsPlace.{SpecsPlace}
 use Rattle.cx_rules.specs.Lines.{specs_line, declarator_line}
 use Rattle.cx_rules.specs.Scope.{CScope}
-use Rattle.cx_rules.specs.Shapes.{CSpecs, CShape, no_specs_yet, base_type, derived}
-use Rattle.cx_rules.specs.UnitWalk.{CMeant, nothing_meant, meant_behind, stmts_of, declares_tag}
-use Rattle.cx_tree.specs.Trees.{DeclaratorTree, InitialiserTree, InitDeclaratorTree, DeclTree, SpecTrees}
+use Rattle.cx_rules.specs.Shapes.{CSpecs, CShape, no_specs_yet, base_type}
+use Rattle.cx_rules.specs.UnitWalk.{CMeant, nothing_meant, meant_behind, declares_tag}
+use Rattle.cx_tree.specs.Trees.{DeclaratorTree, InitialiserTree, InitDeclaratorTree, SpecTrees}
 use Rattle.cx_typed.proofs.Derived.{derived_known}
 use Rattle.cx_typed.proofs.Goes.{go_gives, go_here_then, go_chain, go_settled}
 use Rattle.cx_typed.proofs.Promoted.{neither}
@@ -24,12 +22,13 @@ use Rattle.cx_typed_units.proofs.Blocks.{are_both, blocks_joined, all_on}
 use Rattle.cx_typed_units.proofs.Items.{typed_joined}
 use Rattle.cx_typed_units.proofs.RestTrees.{kept_specs_walk, kept_declarator_walk}
 use Rattle.cx_typed_units.proofs.Rests.{rest_leads}
+use Rattle.cx_typed_units.proofs.Once.{once_none, once_later, once_both}
 use Rattle.cx_typed_units.proofs.Stretches.{passes_declare, leads_itself, leads_on, backs_first, backs_second}
 use Rattle.cx_typed_units.proofs.Unfilled.{unfilled_goes}
-use Rattle.cx_typed_units.specs.Forms.{InitGoes, DeclaratorsGo, DeclPartsGo, DeclarationsGo}
+use Rattle.cx_typed_units.specs.Forms.{InitGoes, DeclaratorsGo, DeclarationsGo}
 use Rattle.cx_typed_units.specs.Rest.{CRest}
-use Rattle.cx_typed_units.specs.Statements.{AreBegun, IsDeclaration, DeclGoes}
-use Rattle.cx_typed_units.specs.Stretches.{IsOrderly, Leads, DeclaresNone, Backs}
+use Rattle.cx_typed_units.specs.Statements.{AreBegun, IsDeclaration}
+use Rattle.cx_typed_units.specs.Stretches.{IsOrderly, Leads, DeclaresNone}
 
 -- ---- declarations one behind another
 
@@ -44,6 +43,7 @@ module _ (opens : List ℕ) where
     leads = leads_itself opens scope;
     body_is = refl;
     begun = tt;
+    numbers = once_none scope.next_object scope.next_object (omega arith);
     blocks = λ home backs. tt;
     held = λ home backs known inside. known;
     typed = λ body declares backs known inside among. tt;
@@ -55,6 +55,7 @@ module _ (opens : List ℕ) where
     leads = leads_on opens before middle after first.leads second.leads;
     body_is = second.body_is ∙ first.body_is;
     begun = begun_joined one.stmts other.stmts first.begun second.begun;
+    numbers = once_both before.next_object middle.next_object after.next_object one.objects other.objects first.numbers second.numbers;
     blocks = λ home backs.
         blocks_joined home one.objects other.objects (first.blocks home (backs_first opens home before middle after backs second.leads))
         (second.blocks home (backs_second opens home before middle after backs first.leads));
@@ -71,13 +72,15 @@ module _ (opens : List ℕ) where
   }
 
   -- behind what declares nothing
-  behind_declared : (before middle after : CScope) (all : CMeant) → Leads opens before middle → DeclaresNone before middle → middle.body ≡ before.body → IsDeclaration opens middle all after
+  behind_declared : (before middle after : CScope) (all : CMeant) → Leads opens before middle → DeclaresNone before middle → middle.body ≡ before.body → before.next_object ≤ middle.next_object
+      → IsDeclaration opens middle all after
       → IsDeclaration opens before all after
-  behind_declared before middle after all leads none body_is held = record {
+  behind_declared before middle after all leads none body_is more held = record {
     good = held.good;
     leads = leads_on opens before middle after leads held.leads;
     body_is = held.body_is ∙ body_is;
     begun = held.begun;
+    numbers = once_later before.next_object middle.next_object after.next_object all.objects more held.numbers;
     blocks = λ home backs. held.blocks home (backs_second opens home before middle after backs leads);
     held = λ home backs known inside. held.held home (backs_second opens home before middle after backs leads) (all_on home before middle none known) inside;
     typed = λ body declares backs known inside among.
@@ -144,7 +147,7 @@ module _ (opens : List ℕ) (place : SpecsPlace) (specs : CSpecs) (few : nat_lt 
       )))) (λ type later at.
       subst (λ found. Ends (s_named_walk place specs (declarator_line missing d.declarator) type shape d.init) found (IsDeclaration opens scope)) (sym at.1)
       (record {
-        ends = λ fine. behind_declared opens scope middle _ _ held.leads held.none held.body_is
+        ends = λ fine. behind_declared opens scope middle _ _ held.leads held.none held.body_is held.shape_is.passes.numbers.grows
             ((named_goes d.init init (declarator_line missing d.declarator) type shape middle held.shape_is.good (held.leads.orderly orderly) (held.leads.in_function_is ∙ inside) at.0).ends fine);
       })))
     where
@@ -174,7 +177,7 @@ declarations_go place decl goes opens scope good orderly inside =
     go_chain _ _ _ _ middle (λ done later. (later ≡ middle) × (nat_lt 1 (length all.storage) ≡ false)) _ (go_here_then _ _ middle _ (go_settled _ middle _ _ _ middle _ (λ unbroken. (refl, (neither unbroken.k4).0)))) (λ done later at.
     subst (λ found. Ends (s_list_walk place all (specs_line decl.specs) decl.list) found (IsDeclaration opens scope)) (sym at.0)
     (record {
-      ends = λ fine. behind_declared opens scope middle _ _ held.leads held.none held.body_is
+      ends = λ fine. behind_declared opens scope middle _ _ held.leads held.none held.body_is held.specs_are.passes.numbers.grows
           ((list_goes opens place all at.1 (specs_line decl.specs) decl.list middle goes.1 held.specs_are.good (held.leads.orderly orderly) (held.leads.in_function_is ∙ inside)
           (specified opens middle.types middle.unit all held.specs_are.known)).ends fine);
     })))

@@ -1,20 +1,18 @@
 -- Declarations without initialisers in blocks (ISO C99, 6.7).
-use Rattle.std.proofs.Common.{◌≡◌, ℕ, ◌≤◌, Bool, true, false, not, ◌&&◌, ◌||◌, if◌then◌else◌, List, [], ◌∷◌, ◌++◌, length, Option, None, Some, slice_get, bytes_eq, refl, sym, ap, ◌∙◌, subst, arith}
+use Rattle.std.proofs.Common.{◌≡◌, ℕ, ◌≤◌, Bool, true, false, ◌&&◌, if◌then◌else◌, List, [], ◌∷◌, ◌++◌, length, Option, None, Some, slice_get, bytes_eq, refl, sym, ap, ◌∙◌, subst}
 use Rattle.std.proofs.lemmas.Slice.Eq.{bytes_eq-Decides}
 use Rattle.std.specs.Prelude.{IsSome, IfSome}
 use Rattle.std.specs.List.{Contains}
 use Rattle.cr_base.specs.declared.refusal.Place.{Place as TextPlace}
-use Rattle.cx_core.proofs.Relation.{compatible_reflexive}
 use Rattle.cx_core.specs.declared.program.Linkage.{Linkage}
 use Rattle.cx_core.specs.declared.program.Linkage.TheVariants.{External, Internal, Nothing}
-use Rattle.cx_core.specs.Compatible.{AreCompatible}
-use Rattle.cx_core.specs.Statements.{CBody, AreBlockObjects, IsBlockObject, IsDeclared, AreTypedStmts, with_objects}
-use Rattle.cx_core.specs.Trees.{CTy, form_of_type, CPuts, CObject, CStmt, stmt, begin}
-use Rattle.cx_core.specs.Typing.{CHome, CCallee, object_with, callee_with, AreTypedPuts, IsThere, IsMentioned}
+use Rattle.cx_core.specs.Statements.{AreBlockObjects, IsBlockObject, IsDeclared}
+use Rattle.cx_core.specs.Trees.{CTy, form_of_type, CPuts, CObject, stmt, begin}
+use Rattle.cx_core.specs.Typing.{CHome, object_with, callee_with, AreTypedPuts}
 use Rattle.cx_core.specs.ValidTypes.{IsComplete}
 use Rattle.cx_rules.specs.Declare.{is_linked, thing_named}
-use Rattle.cx_rules.specs.Scope.{CMeant, an_object, a_function, a_type_name, an_enumerator, a_tag, CDeclared, CThing, CScope, ordinary, is_ordinary}
-use Rattle.cx_rules.specs.UnitWalk.{CMeant as CMeaning, nothing_meant, literals_since}
+use Rattle.cx_rules.specs.Scope.{CMeant, an_object, a_function, CDeclared, CThing, CScope, ordinary, is_ordinary}
+use Rattle.cx_rules.specs.UnitWalk.{CMeant as CMeaning, literals_since}
 use Rattle.cx_typed.proofs.Growing.{complete_stays}
 use Rattle.cx_typed.proofs.Scopes.{grows_on}
 use Rattle.cx_typed.specs.Names.{IsFunctionForm}
@@ -22,9 +20,10 @@ use Rattle.cx_typed.specs.Scopes.{IsHeld, IsHeldBy, IsHeldObject, IsHeldFunction
 use Rattle.cx_typed.specs.Walked.{IsGood}
 use Rattle.cx_typed_units.proofs.Blocks.{blocks_joined, literal_blocks, all_inside}
 use Rattle.cx_typed_units.proofs.Stretches.{if_some, home_in, backs_in}
-use Rattle.cx_typed_units.specs.Statements.{AreBegun, IsDeclaration}
+use Rattle.cx_typed_units.specs.Statements.{IsDeclaration}
 use Rattle.cx_typed_units.specs.Fills.{Fills}
-use Rattle.cx_typed_units.specs.Stretches.{IsThing, IsThingOf, IsLinkedObject, IsLinkedFunction, IsLinkedBy, Leads, Backs, IsHeldAt, AreIn}
+use Rattle.cx_typed_units.specs.Once.{AreOnce}
+use Rattle.cx_typed_units.specs.Stretches.{IsThing, IsThingOf, IsLinkedBy, Leads, Backs, IsHeldAt, AreIn}
 
 -- ---- what is linked is held
 
@@ -36,7 +35,7 @@ held_by home Nothing name type one linked named defined = absurd (let h : false 
 
 module _ (home : CHome) (opens : List ℕ) (before after : CScope) (backs : Backs home opens before after) (name : List ℕ) (number : ℕ) (type : CTy) (linkage : Linkage) where
   fills_there : (later : CTy) → Fills opens after.types type later → Fills opens home.program.types type later
-  fills_there later fills now grows counts other held = fills now (grows_on opens after.types home.program.types now backs.grows grows) counts other held
+  fills_there later fills now grows = fills now (grows_on opens after.types home.program.types now backs.grows grows)
 
   module _ (thing : CThing) where
     linked_object : IsThing opens after.types number type linkage false thing → is_linked linkage ≡ true → IsLinkedBy thing.is_function home.program opens name thing
@@ -105,12 +104,13 @@ abbrev pub only_literals : CScope → CScope → CMeaning
 only_literals before after = record { stmts = []; objects = [] ++ literals_since before after }
 
 module _ (opens : List ℕ) (before after : CScope) (good : IsGood opens after) (leads : Leads opens before after) (body_is : after.body ≡ before.body) where
-  pub plain_declared : ((home : CHome) → Backs home opens before after → IsHeldAt home before.declared → IsHeldAt home after.declared) → IsDeclaration opens before (only_literals before after) after
-  plain_declared held = record {
+  pub plain_declared : AreOnce before.next_object after.next_object (literals_since before after) → ((home : CHome) → Backs home opens before after → IsHeldAt home before.declared → IsHeldAt home after.declared) → IsDeclaration opens before (only_literals before after) after
+  plain_declared numbers held = record {
     good = good;
     leads = leads;
     body_is = body_is;
     begun = tt;
+    numbers = numbers;
     blocks = λ home backs. literal_blocks home opens before after backs;
     held = λ home backs known inside. held home backs known;
     typed = λ body declares backs known inside among. tt;
@@ -137,14 +137,15 @@ module _ (opens : List ℕ) (before after : CScope) (good : IsGood opens after) 
       tt,
     )
 
-    pub begun_declared : ((home : CHome) → Backs home opens before after → IsHeldAt home before.declared → Contains home.scope one.object → IsHeldAt home after.declared)
+    pub begun_declared : AreOnce before.next_object after.next_object (one.object ∷ literals_since before after) → ((home : CHome) → Backs home opens before after → IsHeldAt home before.declared → Contains home.scope one.object → IsHeldAt home after.declared)
         → ((home : CHome) → Backs home opens before after → IsHeldAt home before.declared → Contains home.scope one.object → AreIn home.scope (literals_since before after) → IfSome puts (AreTypedPuts home one.type))
         → IsDeclaration opens before beginning after
-    begun_declared held stored = record {
+    begun_declared numbers held stored = record {
       good = good;
       leads = leads;
       body_is = body_is;
       begun = (refl, tt);
+      numbers = numbers;
       blocks = λ home backs. blocks_joined home (one.object ∷ []) (literals_since before after) (own_block home backs) (literal_blocks home opens before after backs);
       held = λ home backs known inside. held home backs known inside.0;
       typed = λ body declares backs known inside among.

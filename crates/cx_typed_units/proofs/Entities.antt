@@ -1,18 +1,17 @@
 -- The objects and functions that declarations declare (ISO C99, 6.2.2, 6.2.7p4).
-use Rattle.std.proofs.Common.{◌≡◌, ◌⊎◌, inl, inr, ℕ, ◌+◌, ◌<◌, ◌≤◌, Bool, true, false, not, ◌&&◌, ◌||◌, if◌then◌else◌, List, [], ◌∷◌, ◌++◌, Option, None, Some, slice_get, bytes_eq, refl, sym, ap, ◌∙◌, subst, arith}
+use Rattle.std.proofs.Common.{◌≡◌, ◌⊎◌, inl, inr, ℕ, ◌<◌, ◌==◌, Bool, true, false, ◌||◌, if◌then◌else◌, List, [], ◌∷◌, ◌++◌, map, Option, None, Some, is_some, slice_get, bytes_eq, refl, sym, ap, ◌∙◌, subst, arith}
 use Rattle.std.proofs.lemmas.Slice.Eq.{bytes_eq-Decides}
 use Rattle.std.specs.Prelude.{IsSome, IfSome}
 use Rattle.cx_core.specs.declared.program.Linkage.{Linkage}
-use Rattle.cx_core.specs.declared.program.Linkage.TheVariants.{Nothing}
 use Rattle.cx_core.specs.Compatible.{forms_agree, in_pairs}
 use Rattle.cx_core.specs.Trees.{CTy, ty, CTyForm, void, basic, enum_type, pointer, array, record_type, function, CTypes, CPuts, CObject}
-use Rattle.cx_rules.specs.Declare.{is_linked, thing_named, with_object_at}
+use Rattle.cx_rules.specs.Declare.{is_linked, thing_named, with_object_at, with_linked_object}
 use Rattle.cx_rules.specs.Scope.{CThing, CScope, with_function_number}
 use Rattle.cx_rules.specs.Types.{is_function, is_function_form, compatible, composite, composite_form}
 use Rattle.cx_typed.proofs.Same.{both}
 use Rattle.cx_typed.specs.Operands.{IsKnownType}
 use Rattle.cx_typed_units.proofs.Joins.{fills_itself, fills_first, fills_second, composite_known}
-use Rattle.cx_typed_units.proofs.Named.{found_last, found_set, same_thing, has_name}
+use Rattle.cx_typed_units.proofs.Named.{found_last, set_thing, found_set, same_thing, has_name}
 use Rattle.cx_typed_units.proofs.Steps.{number_leads, with_next_object, next_leads, got_behind, changed_leads}
 use Rattle.cx_typed_units.proofs.Stretches.{Steps, steps_on}
 use Rattle.cx_typed_units.proofs.ThingSteps.{with_new_thing, new_thing_leads, with_set_thing, set_thing_leads}
@@ -86,14 +85,37 @@ new_object scope name type linkage puts = record {
   puts = puts;
 }
 
-abbrev retyped : CTy → CObject → CObject
-retyped type one = record one { type = type }
+-- an object that its initialiser defines keeps the type that this gave
+abbrev pub retyped : Bool → CTy → CObject → CObject
+retyped is_defined type one = record one { type = if is_defined then one.type else type }
 
 abbrev pub linked_object : List ℕ → CTy → Linkage → Bool → Option ℕ → Option CThing → CScope → CScope
 linked_object name type linkage has_content tentative None scope =
     with_new_thing (new_thing name linkage false scope.next_object type has_content tentative) (with_next_object (new_object scope name type linkage None) scope)
 linked_object name type linkage has_content tentative (Some one) scope =
-    with_object_at one.number (retyped (composite type one.type)) (with_set_thing name (declared_again type has_content tentative one) scope)
+    with_object_at one.number (retyped one.is_defined (composite type one.type)) (with_set_thing name (declared_again type has_content tentative one) scope)
+
+-- so does `Declare`, which leaves all objects as they are then
+same_objects : (number : ℕ) (type : CTy) (objects : List CObject) → objects ≡ map (λ one. if one.object == number then retyped true type one else one) objects
+same_objects number type [] = refl
+same_objects number type (one ∷ objects) =
+    ap (λ others. one ∷ others) (same_objects number type objects)
+    ∙ ap (λ first. first ∷ map (λ one. if one.object == number then retyped true type one else one) objects) (same_object (one.object == number))
+  where
+    same_object : (same : Bool) → one ≡ (if same then retyped true type one else one)
+    same_object true = refl
+    same_object false = refl
+
+pub linked_object_is : (name : List ℕ) (type : CTy) (linkage : Linkage) (has_content : Bool) (tentative : Option ℕ) (found : Option CThing) (scope : CScope)
+    → with_linked_object name type linkage has_content tentative found scope ≡ linked_object name type linkage has_content tentative found scope
+linked_object_is name type linkage has_content tentative None scope = refl
+linked_object_is name type linkage has_content tentative (Some one) scope = by_state one.is_defined
+  where
+    by_state : (is_defined : Bool) → (if is_defined then with_set_thing name (declared_again type has_content tentative one) scope
+        else with_object_at one.number (λ object. record object { type = composite type one.type }) (with_set_thing name (declared_again type has_content tentative one) scope))
+        ≡ with_object_at one.number (retyped is_defined (composite type one.type)) (with_set_thing name (declared_again type has_content tentative one) scope)
+    by_state true = ap (λ objects. record (with_set_thing name (declared_again type has_content tentative one) scope) { objects = objects }) (same_objects one.number (composite type one.type) scope.objects)
+    by_state false = refl
 
 abbrev pub linked_function : List ℕ → CTy → Linkage → Bool → Option CThing → CScope → CScope
 linked_function name type linkage has_body None scope =
@@ -103,6 +125,31 @@ linked_function name type linkage has_body (Some one) scope = with_set_thing nam
 abbrev pub linked_number : ℕ → Option CThing → ℕ
 linked_number new None = new
 linked_number new (Some one) = one.number
+
+-- ---- an object that is declared has a definition, where its declaration is one
+
+either_defined : (has_content was_defined : Bool) (line tentative : Option ℕ) → (has_content || is_some tentative) ≡ true → ((has_content || was_defined) || is_some (or_line line tentative)) ≡ true
+either_defined true was_defined line tentative is = refl
+either_defined false true line tentative is = refl
+either_defined false false (Some line) tentative is = refl
+either_defined false false None tentative is = is
+
+same_found : {x y : CThing} → Some x ≡ Some y → x ≡ y
+same_found e = cc
+
+pub object_defined : (scope : CScope) (name : List ℕ) (type : CTy) (linkage : Linkage) (has_content : Bool) (tentative : Option ℕ) → (has_content || is_some tentative) ≡ true
+    → (found : Option CThing) → thing_named name scope.things ≡ found → (thing : CThing)
+    → thing_named name (linked_object name type linkage has_content tentative found scope).things ≡ Some thing → (thing.is_defined || is_some thing.tentative) ≡ true
+object_defined scope name type linkage has_content tentative is None none thing there =
+    let new = new_thing name linkage false scope.next_object type has_content tentative in
+    let found : thing_named name (scope.things ++ new ∷ []) ≡ Some new = found_last name scope.things new none ((bytes_eq-Decides name name).1 refl) in
+    subst (λ (x : CThing). (x.is_defined || is_some x.tentative) ≡ true) (same_found (sym found ∙ there)) is
+object_defined scope name type linkage has_content tentative is (Some old) old_there thing there =
+    let again = declared_again type has_content tentative old in
+    let old_name : bytes_eq old.name name ≡ bytes_eq name name = ap (λ n. bytes_eq n name) (has_name name scope.things old old_there) in
+    let found : thing_named name (set_thing name again scope.things) ≡ Some again =
+    found_set name name again scope.things old old_name old_there ∙ ap (λ b. Some (if b then again else old)) (old_name ∙ (bytes_eq-Decides name name).1 refl) in
+    subst (λ (x : CThing). (x.is_defined || is_some x.tentative) ≡ true) (same_found (sym found ∙ there)) (either_defined has_content old.is_defined old.tentative tentative is)
 
 -- what the unit says of the same object or function before
 pub record GoesWith (types : CTypes) (type : CTy) (linkage : Linkage) (one : CThing) : Type 0 where
@@ -148,8 +195,13 @@ module _ (opens : List ℕ) (scope : CScope) (orderly : IsOrderly opens scope) (
       function_is = refl;
       fills = fills_second opens scope.types scope.unit type old.type known old_known.known goes.agrees;
       defined = λ is. or_defined has_content is;
+      tentative = λ is. or_tentative old.tentative is;
     }
       where
+        or_tentative : (line : Option ℕ) → is_some line ≡ true → is_some (or_line line tentative) ≡ true
+        or_tentative None is = absurd cc
+        or_tentative (Some line) is = refl
+
         or_defined : (content : Bool) → old.is_defined ≡ true → (content || old.is_defined) ≡ true
         or_defined true is = refl
         or_defined false is = is
@@ -212,7 +264,7 @@ module _ (opens : List ℕ) (scope : CScope) (orderly : IsOrderly opens scope) (
       let set = with_set_thing name (declared_again type has_content tentative old) scope in
       record {
         leads = steps_on opens scope set _ (again_leads old there goes has_content tentative)
-            (changed_leads opens set old.number (retyped (composite type old.type)) (λ one. refl) (λ one. refl) (λ one is. is)
+            (changed_leads opens set old.number (retyped old.is_defined (composite type old.type)) (λ one. refl) (λ one. refl) (λ one is. is)
             (λ index object at same. (old_known old there goes has_content tentative).own old_object index object at same));
         thing = again_thing old there goes has_content tentative false old_object;
         types_are = refl;

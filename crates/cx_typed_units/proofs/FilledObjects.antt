@@ -1,9 +1,9 @@
 -- What is stored in the objects of a unit, where one more is declared (ISO C99, 6.7).
-use Rattle.std.proofs.Common.{◌≡◌, ◌⊎◌, inl, inr, ℕ, ◌==◌, Bool, true, false, not, ◌&&◌, ◌||◌, if◌then◌else◌, List, [], ◌∷◌, ◌++◌, map, Option, None, Some, slice_get, refl, sym, ap, ◌∙◌, subst}
+use Rattle.std.proofs.Common.{◌≡◌, ◌⊎◌, inl, inr, ℕ, ◌==◌, Bool, true, false, not, ◌&&◌, ◌||◌, if◌then◌else◌, List, [], ◌∷◌, ◌++◌, map, Option, None, Some, is_some, slice_get, refl, sym, ap, ◌∙◌, subst}
 use Rattle.std.specs.Prelude.{IfSome}
 use Rattle.cx_core.specs.declared.program.Linkage.TheVariants.{Nothing}
 use Rattle.cx_core.specs.Linked.{home_of, IsStatic}
-use Rattle.cx_core.specs.Trees.{CTy, no_puts, CObject}
+use Rattle.cx_core.specs.Trees.{CTy, CPuts, no_puts, CObject}
 use Rattle.cx_core.specs.Typing.{CHome}
 use Rattle.cx_lex.specs.declared.token.Keyword.TheVariants as keyword
 use Rattle.cx_rules.specs.Declare.{is_linked, is_outside, is_typedef, thing_named, CDeclaring, with_declaration}
@@ -11,20 +11,23 @@ use Rattle.cx_rules.specs.Scope.{CThing, CScope}
 use Rattle.cx_rules.specs.Shapes.{has_storage}
 use Rattle.cx_rules.specs.Types.{is_function, composite}
 use Rattle.cx_typed.proofs.Same.{number_is}
-use Rattle.cx_typed_units.proofs.Entities.{new_object, linked_object, linked_function, agree_function, GoesWith}
+use Rattle.cx_typed_units.proofs.Entities.{new_object, retyped, linked_object, linked_function}
 use Rattle.cx_typed_units.proofs.Fine.{tentative_at, static_puts, entity_by, told_by, declared_by, declaration_is}
 use Rattle.cx_typed_units.proofs.Steps.{got_behind, got_mapped}
-use Rattle.cx_typed_units.proofs.Stretches.{if_some}
-use Rattle.cx_typed_units.specs.Stretches.{IsOrderly, IsFilled}
+use Rattle.cx_typed_units.specs.Account.{account_of, IsAccounted}
+use Rattle.cx_typed_units.specs.Stretches.{IsFilled}
+
+same_value : {X : Type 0} {x y : X} → Some x ≡ Some y → x ≡ y
+same_value is = cc
 
 -- ---- what is stored in objects
 
 abbrev pub AreFilled : CHome → List CObject → Type 0
 AreFilled home objects = (index : ℕ) (x : CObject) → slice_get objects index ≡ Some x → IfSome x.puts (IsFilled home x)
 
--- as `Declare` changes an object
-abbrev retyped_at : CTy → ℕ → CObject → CObject
-retyped_at type number one = if one.object == number then record one { type = type } else one
+-- as a declaration changes an object
+abbrev retyped_at : Bool → CTy → ℕ → CObject → CObject
+retyped_at is_defined type number one = if one.object == number then retyped is_defined type one else one
 
 new_filled : (home : CHome) (objects : List CObject) (new : CObject) → IfSome new.puts (IsFilled home new) → AreFilled home objects → AreFilled home (objects ++ new ∷ [])
 new_filled home objects new filled held index x is = by_case (got_behind objects new index x is)
@@ -33,30 +36,36 @@ new_filled home objects new filled held index x is = by_case (got_behind objects
     by_case (inl at) = held index x at
     by_case (inr same) = subst (λ (y : CObject). IfSome y.puts (IsFilled home y)) same filled
 
--- an object with linkage is filled as it was
-refilled : (home : CHome) (type : CTy) (number : ℕ) (x : CObject) (same : Bool) → (same ≡ true → is_linked x.linkage ≡ true) → IfSome x.puts (IsFilled home x)
-    → IfSome (if same then record x { type = type } else x).puts (IsFilled home (if same then record x { type = type } else x))
-refilled home type number x false linked held = held
-refilled home type number x true linked held = if_some (IsFilled home x) (IsFilled home (record x { type = type })) x.puts (λ puts was. record {
-  type = was.type;
-  same = λ nothing. absurd (let h : is_linked Nothing ≡ true = subst (λ l. is_linked l ≡ true) nothing (linked refl) in let k : false ≡ true = h in cc);
-  static = was.static;
-}) held
+-- an object with linkage is filled as it was: nothing is stored in one that nothing defines
+refilled : (home : CHome) (is_defined : Bool) (type : CTy) (x : CObject) (same : Bool) → (same ≡ true → is_some x.puts ≡ true → is_defined ≡ true) → IfSome x.puts (IsFilled home x)
+    → IfSome (if same then retyped is_defined type x else x).puts (IsFilled home (if same then retyped is_defined type x else x))
+refilled home is_defined type x false defined held = held
+refilled home true type x true defined held = held
+refilled home false type x true defined held = none_stored (IsFilled home x) (IsFilled home (retyped false type x)) x.puts (λ is. let h : false ≡ true = defined refl is in cc) held
+  where
+    none_stored : (P Q : CPuts → Type 0) (puts : Option CPuts) → (is_some puts ≡ true → ⊥) → IfSome puts P → IfSome puts Q
+    none_stored P Q None none held = tt
+    none_stored P Q (Some one) none held = absurd (none refl)
 
-module _ (home : CHome) (opens : List ℕ) (scope : CScope) (orderly : IsOrderly opens scope) (one : CDeclaring)
+module _ (home : CHome) (opens : List ℕ) (pending : Option (List ℕ)) (scope : CScope) (account : IsAccounted opens pending (account_of scope)) (one : CDeclaring)
     (own_static : is_typedef one.specs ≡ false → is_function one.type ≡ false → is_linked one.linkage ≡ false → IsStatic (home_of home.program home.mentions home.unit) one.type no_puts)
     (held : AreFilled home scope.objects) where
   function_filled : (found : Option CThing) → AreFilled home (linked_function one.name one.type one.linkage false found scope).objects
   function_filled None = held
   function_filled (Some old) = held
 
-  -- what is declared once more has linkage, since another object has another number
-  again_filled : (old : CThing) → thing_named one.name scope.things ≡ Some old → old.is_function ≡ false → (type : CTy) → AreFilled home (map (retyped_at type old.number) scope.objects)
+  -- what is declared once more is the object of the name, since another object has another number
+  again_filled : (old : CThing) → thing_named one.name scope.things ≡ Some old → old.is_function ≡ false → (type : CTy) → AreFilled home (map (retyped_at old.is_defined type old.number) scope.objects)
   again_filled old there object type index x is =
-      let before = got_mapped (retyped_at type old.number) scope.objects index x is in
+      let before = got_mapped (retyped_at old.is_defined type old.number) scope.objects index x is in
       subst (λ (y : CObject). IfSome y.puts (IsFilled home y)) before.2
-      (refilled home type old.number before.0 (before.0.object == old.number)
-      (λ same. (orderly.things one.name old there).own object index before.0 before.1 (number_is before.0.object old.number same)) (held index before.0 before.1))
+      (refilled home old.is_defined type before.0 (before.0.object == old.number) (λ same stored. defined_there before.0 before.1 same stored) (held index before.0 before.1))
+    where
+      defined_there : (x : CObject) → slice_get scope.objects index ≡ Some x → (x.object == old.number) ≡ true → is_some x.puts ≡ true → old.is_defined ≡ true
+      defined_there x at same stored =
+          let was = account.object_things one.name old there object in
+          let here : was.index ≡ index = account.objects_differ was.index index was.one x was.at at (was.number_is ∙ sym (number_is x.object old.number same)) in
+          was.defined (ap (λ (y : CObject). is_some y.puts) (same_value (sym was.at ∙ (ap (slice_get scope.objects) here ∙ at))) ∙ stored)
 
   object_filled : (has_init : Bool) (line : Option ℕ) (found : Option CThing) → thing_named one.name scope.things ≡ found → ((old : CThing) → found ≡ Some old → old.is_function ≡ false)
       → AreFilled home (linked_object one.name one.type one.linkage has_init line found scope).objects
@@ -64,7 +73,7 @@ module _ (home : CHome) (opens : List ℕ) (scope : CScope) (orderly : IsOrderly
   object_filled has_init line (Some old) there object = again_filled old there (object old refl) (composite one.type old.type)
 
   own_filled : (static : Bool) → IsStatic (home_of home.program home.mentions home.unit) one.type no_puts → AreFilled home (scope.objects ++ new_object scope one.name one.type Nothing (static_puts static) ∷ [])
-  own_filled true typed = new_filled home scope.objects (new_object scope one.name one.type Nothing (static_puts true)) (record { type = one.type; same = λ nothing. refl; static = typed }) held
+  own_filled true typed = new_filled home scope.objects (new_object scope one.name one.type Nothing (static_puts true)) typed held
   own_filled false typed = new_filled home scope.objects (new_object scope one.name one.type Nothing (static_puts false)) tt held
 
   entity_filled : (typedef is_fun linked : Bool) → is_typedef one.specs ≡ typedef → is_function one.type ≡ is_fun → is_linked one.linkage ≡ linked

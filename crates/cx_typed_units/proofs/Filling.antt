@@ -1,25 +1,24 @@
 -- The walk over declarators with initialisers in blocks (ISO C99, 6.7.8).
-use Rattle.std.proofs.Common.{◌≡◌, ℕ, ◌+◌, ◌≤◌, Bool, true, false, not, ◌&&◌, ◌||◌, if◌then◌else◌, List, [], ◌∷◌, ◌++◌, length, Option, None, Some, slice_get, refl, sym, ap, ◌∙◌, subst, arith}
-use Rattle.std.specs.Prelude.{IsSome, IfSome}
+use Rattle.std.proofs.Common.{◌≡◌, ℕ, Bool, true, false, not, ◌&&◌, ◌||◌, if◌then◌else◌, List, length, Option, None, Some, refl, sym, ap, ◌∙◌, subst, arith, suc}
 use Rattle.std.specs.List.{Contains}
 use Rattle.cr_base.specs.declared.refusal.Place.{Place as TextPlace}
 use Rattle.cx_core.specs.declared.program.Linkage.{Linkage}
 use Rattle.cx_core.specs.declared.program.Linkage.TheVariants.{External, Internal, Nothing}
-use Rattle.cx_core.specs.Trees.{CTy, CPuts, CObject}
+use Rattle.cx_core.specs.Trees.{CTy, CPuts}
 use Rattle.cx_core.specs.Linked.{home_of, IsStatic}
 use Rattle.cx_core.specs.Typing.{CHome, IsThere}
 use Rattle.cx_core.specs.ValidTypes.{IsComplete}
 use Rattle.cx_lex.specs.declared.token.Keyword.TheVariants as keyword
-use Rattle.cx_rules.proofs.UnitNodesAgree.{s_init_walk, s_declared_ends, s_named_walk}
+use Rattle.cx_rules.proofs.UnitNodesAgree.{s_init_walk, s_declared_ends}
 use Rattle.cx_rules.specs.declared.kinds.SpecsPlace.{SpecsPlace}
 use Rattle.cx_rules.specs.Declare.{is_linked, is_outside, is_typedef, linkage_of, thing_named, with_object_at, CBegun, CDeclaring, declaring, begun_as, clashes, with_declaration, with_content}
 use Rattle.cx_rules.specs.Initial.{CStored, completed_type, puts_of}
 use Rattle.cx_rules.specs.Nodes.{CNode, declares_node}
-use Rattle.cx_rules.specs.Pieces.{whole_target, at_line}
+use Rattle.cx_rules.specs.Pieces.{whole_target}
 use Rattle.cx_rules.specs.Readings.{seen_chain}
 use Rattle.cx_rules.specs.Rules.{is_unlinked}
 use Rattle.cx_rules.specs.Scope.{CMeant, an_object, CScope, ordinary}
-use Rattle.cx_rules.specs.Shapes.{CSpecs, CShape, has_storage}
+use Rattle.cx_rules.specs.Shapes.{CSpecs, has_storage}
 use Rattle.cx_rules.specs.Types.{is_function, is_void, is_array, is_incomplete, has_size}
 use Rattle.cx_rules.specs.Units.{seen_initialiser}
 use Rattle.cx_rules.specs.UnitWalk.{CMeant as CMeaning, name_or_none, literals_since, declared_meant, clashes_behind}
@@ -39,16 +38,18 @@ use Rattle.cx_typed_units.proofs.DeclarationAccounts.{plain_accounted}
 use Rattle.cx_typed_units.proofs.Declared.{plain_declared, begun_declared}
 use Rattle.cx_typed_units.proofs.Entities.{linked_number}
 use Rattle.cx_typed_units.proofs.Fine.{meant_by, static_puts, IsFine, begun_is, unclashed, fine_is, form_is}
-use Rattle.cx_typed_units.proofs.Owned.{stored_in, own_begun, own_content, completed_function, completed_void, completed_goes, go_known, IsOwn, final_at, behind_leads, behind_good, init_serves, behind_held}
+use Rattle.cx_typed_units.proofs.Once.{once_first, once_later, literals_once}
+use Rattle.cx_typed_units.proofs.Owned.{stored_in, own_content, completed_function, completed_void, completed_goes, go_known, IsOwn, final_at, behind_leads, behind_good, init_serves, behind_held}
 use Rattle.cx_typed_units.proofs.Redeclared.{redeclare_first}
 use Rattle.cx_typed_units.proofs.RestNodes.{StaysTo}
 use Rattle.cx_typed_units.proofs.RestTrees.{kept_initialiser_walk}
-use Rattle.cx_typed_units.proofs.Unfilled.{complete_object, size_said, own_object, own_all, own_found, meaning_by, IsThereHere}
+use Rattle.cx_typed_units.proofs.Unfilled.{complete_object, size_said, own_object, own_all, own_found, meaning_by, IsThereHere, own_next}
 use Rattle.cx_typed_units.specs.Account.{account_of, IsAccounted}
 use Rattle.cx_typed_units.specs.Rest.{CRest}
+use Rattle.cx_typed_units.specs.Once.{AreOnce}
 use Rattle.cx_typed_units.specs.Statements.{IsDeclaration}
 use Rattle.cx_typed_units.specs.Stretches.{IsOrderly, Leads, Backs, IsHeldAt, AreIn}
-use Rattle.cx_typed_units.specs.Forms.{InitGoes, InitialisersGo}
+use Rattle.cx_typed_units.specs.Forms.{InitialisersGo}
 
 -- ---- tests of declarations
 
@@ -258,14 +259,22 @@ module _ (opens : List ℕ) (place : SpecsPlace) (outside : is_outside place ≡
     same_literals : (home : CHome) → AreIn home.scope (literals_since scope later) → AreIn home.scope (literals_since middle later)
     same_literals home literals = subst (λ made. AreIn home.scope (literals_since (record middle { literals = made }) later)) (sym begun_so.literals_are) literals
 
+    -- the numbers of the literals, and that of the object in front of them
+    later_once : AreOnce (suc scope.next_object) later.next_object (literals_since scope later)
+    later_once =
+        let next : middle.next_object ≡ suc scope.next_object = (let h = own_next scope one kind.typedef kind.object (ap is_linked kind.nothing) in omega (arith, h)) in
+        subst (λ from. AreOnce from later.next_object (literals_since scope later)) next
+        (subst (λ made. AreOnce middle.next_object later.next_object (literals_since (record middle { literals = made }) later)) begun_so.literals_are (literals_once middle later held.initialised.stored.passes.numbers))
+
     ends_by : (at : TextPlace) (st : Bool) (e : has_storage keyword.Static specs ≡ st)
         → IsDeclaration opens scope (meaning_by true false st false false at true puts scope.next_object (literals_since scope later)) (end_by st)
-    ends_by at true e = plain_declared opens scope (end_by true) (good_by true e) (leads_by true e) body_same (λ home backs known. held_by_all true e home backs known (λ found. tt))
+    ends_by at true e = plain_declared opens scope (end_by true) (good_by true e) (leads_by true e) body_same
+        (once_later scope.next_object (suc scope.next_object) later.next_object (literals_since scope later) (omega arith) later_once) (λ home backs known. held_by_all true e home backs known (λ found. tt))
     ends_by at false e =
         begun_declared opens scope (end_by false) (good_by false e) (leads_by false e) body_same at (Some puts) (stored_in false whole puts (own_object one scope)) (length scope.objects) (omega arith)
         (final_at opens scope orderly name one.type reg false whole puts middle later begun_so (own_object one scope) (own_by false e) accounted_so held.initialised.stored.passes held.stays held.initialised.stored.made (static_so false e) held.initialised.stored.good whole_known
         (λ types. completed_goes types one.type stored))
-        refl (ap static_puts e) refl refl size
+        refl (ap static_puts e) refl refl size (once_first scope.next_object scope.next_object later.next_object (literals_since scope later) (omega arith) later_once)
         (λ home backs known contains. held_by_all false e home backs known (λ found. there_own home found e contains))
         (λ home backs known contains literals.
         (values_fill opens (record { is_static = is_linked one.linkage || has_storage keyword.Static specs; type = one.type }) stored middle later held.initialised.stored).typed home

@@ -1,5 +1,5 @@
 -- What declarators declare where their declarations break no rule (ISO C99, 6.2.2, 6.2.7, 6.7).
-use Rattle.std.proofs.Common.{◌≡◌, ℕ, ◌+◌, ◌==◌, Bool, true, false, not, ◌&&◌, ◌||◌, if◌then◌else◌, List, [], ◌∷◌, ◌++◌, length, Option, None, Some, is_some, slice_get, bytes_eq, refl, sym, ap, ◌∙◌, subst}
+use Rattle.std.proofs.Common.{◌≡◌, ℕ, Bool, true, false, not, ◌&&◌, ◌||◌, if◌then◌else◌, List, Option, None, Some, is_some, refl, sym, ap, ◌∙◌, subst}
 use Rattle.std.specs.Prelude.{IsSome, IfSome}
 use Rattle.cx_core.specs.declared.program.Linkage.{Linkage}
 use Rattle.cx_core.specs.declared.program.Linkage.TheVariants.{External, Internal, Nothing}
@@ -8,18 +8,19 @@ use Rattle.cx_core.specs.ValidTypes.{IsObjectForm}
 use Rattle.cx_lex.specs.declared.token.Keyword.TheVariants as keyword
 use Rattle.cx_rules.specs.declared.kinds.SpecsPlace.{SpecsPlace}
 use Rattle.cx_rules.specs.Declare.{is_linked, is_outside, is_typedef, linkage_of, thing_named, joined_with, clashes_thing, clashes, same_linkage, CDeclaring, declaring, with_declaration}
-use Rattle.cx_rules.specs.Scope.{CMeant, an_object, a_function, a_type_name, an_enumerator, a_tag, CThing, CScope, ordinary, with_declared, with_mention, mention_of}
+use Rattle.cx_rules.specs.Scope.{CMeant, an_object, a_function, a_type_name, CThing, CScope, ordinary, with_declared, with_mention, mention_of}
 use Rattle.cx_rules.specs.Shapes.{CSpecs, has_storage}
 use Rattle.cx_rules.specs.Types.{is_function, is_void, compatible}
-use Rattle.cx_typed.proofs.Promoted.{neither, not_not}
+use Rattle.cx_typed.proofs.Promoted.{not_not}
 use Rattle.cx_typed.specs.Operands.{IsKnownType}
 use Rattle.cx_typed.specs.Walked.{IsGood}
-use Rattle.cx_typed_units.proofs.Begun.{IsJoined, joined_is, object_form, IsBegunAs, IsEntity, named_as, typedef_entity, own_entity, object_entity, function_entity}
-use Rattle.cx_typed_units.proofs.Entities.{new_object, linked_object, linked_function, linked_number, GoesWith}
+use Rattle.cx_typed_units.proofs.Begun.{IsJoined, joined_is, object_form, IsBegunAs, named_as, typedef_entity, own_entity, object_entity, function_entity}
+use Rattle.cx_typed_units.proofs.Entities.{new_object, linked_object, linked_object_is, linked_function, linked_number, object_defined, GoesWith}
 use Rattle.cx_typed_units.proofs.Steps.{with_next_object}
 use Rattle.cx_typed_units.proofs.Joins.{fills_itself}
 use Rattle.cx_typed_units.specs.Fills.{Fills}
-use Rattle.cx_typed_units.specs.Stretches.{IsOrderly}
+use Rattle.cx_typed_units.specs.Rest.{is_defining}
+use Rattle.cx_typed_units.specs.Stretches.{IsThing, IsOrderly, IsCovered}
 
 -- ---- what is declared, as `Declare` says it
 
@@ -71,9 +72,26 @@ declared_by typedef is_fun linked told one scope =
     with_declared one.name (meant_by typedef is_fun linked one scope)
     (if told then with_mention (mention_by one (entity_by typedef is_fun linked one scope)) (entity_by typedef is_fun linked one scope) else entity_by typedef is_fun linked one scope)
 
+-- with what is made of a scope where an object with linkage is declared
+abbrev entity_with : (typedef is_fun linked : Bool) → CDeclaring → (scope object : CScope) → CScope
+entity_with typedef is_fun linked one scope object =
+    if typedef then scope
+    else if is_fun then linked_function one.name one.type one.linkage false (thing_named one.name scope.things) scope
+    else if linked then object
+    else with_next_object (new_object scope one.name one.type Nothing (static_puts (has_storage keyword.Static one.specs))) scope
+
+abbrev declared_with : (typedef is_fun linked told : Bool) → CDeclaring → (scope object : CScope) → CScope
+declared_with typedef is_fun linked told one scope object =
+    with_declared one.name (meant_by typedef is_fun linked one scope)
+    (if told then with_mention (mention_by one (entity_with typedef is_fun linked one scope object)) (entity_with typedef is_fun linked one scope object)
+    else entity_with typedef is_fun linked one scope object)
+
 pub declaration_is : (one : CDeclaring) (scope : CScope) → with_declaration one scope ≡ declared_by (is_typedef one.specs) (is_function one.type) (is_linked one.linkage) (told_by one) one scope
 unfolding with_declaration
-declaration_is one scope = refl
+declaration_is one scope =
+    ap (declared_with (is_typedef one.specs) (is_function one.type) (is_linked one.linkage) (told_by one) one scope)
+    (linked_object_is one.name one.type one.linkage one.has_init (tentative_at (is_outside one.where_stands && not (one.has_init || has_storage keyword.Extern one.specs)) one.line)
+    (thing_named one.name scope.things) scope)
 
 -- ---- a declaration that may be made
 
@@ -88,30 +106,85 @@ no_linkage External is = absurd cc
 no_linkage Internal is = absurd cc
 no_linkage Nothing is = refl
 
+-- a type name isn't told of, nor is what has no linkage
+typedef_untold : (typedef others : Bool) → typedef ≡ true → (not typedef && others) ≡ true → ⊥
+typedef_untold true others is told = absurd cc
+typedef_untold false others is told = absurd cc
+
+own_untold : (typedef external is_fun linked : Bool) → external ≡ false → is_fun ≡ false → (not typedef && (external || (is_fun && linked))) ≡ true → ⊥
+own_untold true external is_fun linked apart object told = absurd cc
+own_untold false true is_fun linked apart object told = absurd cc
+own_untold false false true linked apart object told = absurd cc
+own_untold false false false linked apart object told = absurd cc
+
+-- a declaration that defines has an initialiser or is a tentative definition, and is none of a function
+defining_so : (does : Bool) → is_defining (does_by does) ≡ true → does ≡ true
+defining_so true is = refl
+defining_so false is = absurd cc
+
+defining_content : (is_fun outside has_init asked : Bool) (line : ℕ) → (not is_fun && (outside && (has_init || not asked))) ≡ true
+    → (has_init || is_some (tentative_at (outside && not (has_init || asked)) line)) ≡ true
+defining_content true outside has_init asked line is = absurd cc
+defining_content false false has_init asked line is = absurd cc
+defining_content false true true asked line is = refl
+defining_content false true false true line is = absurd cc
+defining_content false true false false line is = refl
+
+no_function_defined : (is_fun others : Bool) → is_fun ≡ true → (not is_fun && others) ≡ true → ⊥
+no_function_defined true others is defining = absurd cc
+no_function_defined false others is defining = absurd cc
+
 module _ (opens : List ℕ) (scope : CScope) (good : IsGood opens scope) (orderly : IsOrderly opens scope) (one : CDeclaring) (fine : IsFine opens scope one) where
   abbrev own : CScope
   own = with_next_object (new_object scope one.name one.type Nothing (static_puts (has_storage keyword.Static one.specs))) scope
 
-  begun_by : (typedef is_fun linked told : Bool) → is_typedef one.specs ≡ typedef → is_function one.type ≡ is_fun → is_linked one.linkage ≡ linked
+  -- what is told of it says the type that the unit has, and that it is defined where it is
+  pub told_covered : (middle : CScope) (number : ℕ) (is_fun : Bool) (found : Option CThing) → thing_named one.name middle.things ≡ found
+      → IsSome found × IfSome found (IsThing opens middle.types number one.type one.linkage is_fun)
+      → (is_defining (mention_by one middle).does ≡ true → (is_fun ≡ false) × ((thing : CThing) → thing_named one.name middle.things ≡ Some thing → (thing.is_defined || is_some thing.tentative) ≡ true))
+      → IsCovered opens middle.types middle.things (mention_by one middle)
+  told_covered middle number is_fun None there held defined = absurd (let h : false ≡ true = held.0 in cc)
+  told_covered middle number is_fun (Some thing) there held defined = record {
+    thing = thing;
+    there = there;
+    fills = subst (λ found. Fills opens middle.types (told_type one found) thing.type) (sym there) (fills_itself opens middle.types middle.unit thing.type);
+    defined = λ is.
+        let so = defined is in
+        record { linkage_is = held.1.linkage_is; defined = ap (λ b. thing.is_defined || (not b && is_some thing.tentative)) (held.1.function_is ∙ so.0) ∙ so.1 thing there };
+  }
+
+  begun_by : (typedef is_fun linked told : Bool) → is_typedef one.specs ≡ typedef → is_function one.type ≡ is_fun → is_linked one.linkage ≡ linked → told_by one ≡ told
       → IsBegunAs opens scope one.name (meant_by typedef is_fun linked one scope) (declared_by typedef is_fun linked told one scope)
-  begun_by true is_fun linked told t f l = named_as opens scope good one.name (a_type_name one.type) refl scope (typedef_entity opens scope one.name one.type fine.known) told _
-  begun_by false true linked told t f l =
-      named_as opens scope good one.name _ refl _
-      (function_entity opens scope one.name one.type fine.known orderly one.linkage (fine.function_linked t f) (fine.goes (fine.function_linked t f)) f false) told _
-  begun_by false false true told t f l =
-      named_as opens scope good one.name _ refl _
-      (object_entity opens scope one.name one.type fine.known orderly one.linkage l (fine.goes l) f (fine.object t f) (has_storage keyword.Register one.specs) one.has_init
-      (tentative_at (is_outside one.where_stands && not (one.has_init || has_storage keyword.Extern one.specs)) one.line)) told _
-  begun_by false false false told t f l =
+  begun_by true is_fun linked told t f l e =
+      named_as opens scope good one.name (a_type_name one.type) refl scope (typedef_entity opens scope one.name one.type fine.known) told _
+      (λ is. absurd (typedef_untold (is_typedef one.specs) _ t (e ∙ is)))
+  begun_by false true linked told t f l e =
+      let entity = function_entity opens scope one.name one.type fine.known orderly one.linkage (fine.function_linked t f) (fine.goes (fine.function_linked t f)) f false in
+      named_as opens scope good one.name _ refl _ entity told _
+      (λ is. told_covered (entity_by false true linked one scope) (linked_number scope.next_function (thing_named one.name scope.things)) true _ refl entity.linked.1
+      (λ defining. absurd (no_function_defined (is_function one.type) _ f (defining_so _ defining))))
+  begun_by false false true told t f l e =
+      let entity = object_entity opens scope one.name one.type fine.known orderly one.linkage l (fine.goes l) f (fine.object t f) (has_storage keyword.Register one.specs) one.has_init
+      (tentative_at (is_outside one.where_stands && not (one.has_init || has_storage keyword.Extern one.specs)) one.line) in
+      named_as opens scope good one.name _ refl _ entity told _
+      (λ is. told_covered (entity_by false false true one scope) (linked_number scope.next_object (thing_named one.name scope.things)) false _ refl (entity.linked l)
+      (λ defining. (
+        refl,
+        object_defined scope one.name one.type one.linkage one.has_init _
+            (defining_content (is_function one.type) (is_outside one.where_stands) one.has_init (has_storage keyword.Extern one.specs) one.line (defining_so _ defining))
+            (thing_named one.name scope.things) refl,
+      )))
+  begun_by false false false told t f l e =
       subst (λ linkage. IsBegunAs opens scope one.name (an_object scope.next_object one.type (has_storage keyword.Register one.specs) linkage)
       (with_declared one.name (an_object scope.next_object one.type (has_storage keyword.Register one.specs) linkage) (if told then with_mention (mention_by one own) own else own))) (sym (no_linkage one.linkage l))
       (named_as opens scope good one.name (an_object scope.next_object one.type (has_storage keyword.Register one.specs) Nothing) refl own
-      (own_entity opens scope one.name one.type fine.known (static_puts (has_storage keyword.Static one.specs)) (has_storage keyword.Register one.specs) (fine.object t f)) told (mention_by one own))
+      (own_entity opens scope one.name one.type fine.known (static_puts (has_storage keyword.Static one.specs)) (has_storage keyword.Register one.specs) (fine.object t f)) told (mention_by one own)
+      (λ is. absurd (own_untold (is_typedef one.specs) (is_external one.linkage) (is_function one.type) (is_linked one.linkage) (ap is_external (no_linkage one.linkage l)) f (e ∙ is))))
 
   pub begun_is : IsBegunAs opens scope one.name (meant_by (is_typedef one.specs) (is_function one.type) (is_linked one.linkage) one scope) (with_declaration one scope)
   begun_is =
       subst (IsBegunAs opens scope one.name (meant_by (is_typedef one.specs) (is_function one.type) (is_linked one.linkage) one scope)) (sym (declaration_is one scope))
-      (begun_by (is_typedef one.specs) (is_function one.type) (is_linked one.linkage) (told_by one) refl refl refl)
+      (begun_by (is_typedef one.specs) (is_function one.type) (is_linked one.linkage) (told_by one) refl refl refl refl)
 
 -- ---- what the rules say
 

@@ -1,5 +1,5 @@
 -- Statements break no rule and are typed, by induction over their forms (ISO C99, 6.8).
-use Rattle.cx_tree.specs.Trees.{no_expr, some_expr, StmtTree, Label, Case, Default, Block, ExprStmt, If, Switch, While, Do, For, Goto, Continue, Break, Return, OptionStmtTree, no_stmt, some_stmt, ItemTree, Statement, Declared, ItemTrees, no_items, more_items}
+use Rattle.cx_tree.specs.Trees.{no_expr, some_expr, StmtTree, Label, Case, Default, Block, ExprStmt, If, Switch, While, Do, For, Goto, Continue, Break, Return, OptionStmtTree, no_stmt, some_stmt, Statement, Declared, ItemTrees, no_items, more_items}
 use Rattle.cx_typed_units.proofs.Items.{statement_goes, declared_goes, no_items_go, more_items_go, block_goes}
 use Rattle.cx_typed_units.proofs.Loops.{for_goes}
 use Rattle.cx_typed_units.proofs.Selections.{no_else_goes, else_goes, if_goes, while_goes, do_goes}

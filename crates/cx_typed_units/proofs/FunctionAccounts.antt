@@ -1,19 +1,18 @@
 -- What a unit keeps account of stays right where a function is declared (ISO C99, 6.2.2, 6.2.7p4).
-use Rattle.std.proofs.Common.{◌≡◌, ◌⊎◌, inl, inr, ℕ, ◌+◌, ◌<◌, ◌≤◌, Bool, true, false, ◌||◌, List, [], ◌∷◌, ◌++◌, length, Option, None, Some, slice_get, refl, sym, ap, ◌∙◌, subst, arith}
+use Rattle.std.proofs.Common.{◌≡◌, inl, ℕ, ◌+◌, ◌<◌, Bool, true, false, ◌||◌, List, [], ◌∷◌, ◌++◌, length, Option, None, Some, slice_get, refl, sym, ap, ◌∙◌, subst, arith}
 use Rattle.cx_core.specs.declared.program.Linkage.{Linkage}
 use Rattle.cx_core.specs.Trees.{CTy, CFun, declares, CMention}
-use Rattle.cx_rules.specs.Declare.{is_linked, thing_named}
-use Rattle.cx_rules.specs.Scope.{CThing, CScope}
-use Rattle.cx_rules.specs.Types.{is_function}
+use Rattle.cx_rules.specs.Declare.{thing_named}
+use Rattle.cx_rules.specs.Scope.{CThing}
 use Rattle.cx_typed.proofs.Scopes.{kept_before, pushed_at}
 use Rattle.cx_typed.specs.Operands.{IsKnownType}
 use Rattle.cx_typed_units.proofs.Entities.{declared_again, new_thing, GoesWith}
 use Rattle.cx_typed_units.proofs.Joins.{fills_second, fills_through}
 use Rattle.cx_typed_units.proofs.Named.{set_thing}
 use Rattle.cx_typed_units.proofs.ObjectNumbers.{numbered_of}
-use Rattle.cx_typed_units.proofs.ThingAccounts.{declared_account, AreChanged, thing_accounted}
+use Rattle.cx_typed_units.proofs.ThingAccounts.{declared_account, thing_accounted}
 use Rattle.cx_typed_units.proofs.ThingLists.{one_more_declared, set_declared}
-use Rattle.cx_typed_units.specs.Account.{CAccount, account_of, IsToldAs, IsDefinedBy, IsFunctionThing, IsAccounted}
+use Rattle.cx_typed_units.specs.Account.{CAccount, IsToldAs, IsDefinedBy, IsFunctionThing, IsAccounted}
 
 same_value : {X : Type 0} {x y : X} → Some x ≡ Some y → x ≡ y
 same_value is = cc

@@ -1,25 +1,23 @@
 -- What stands in blocks, and blocks (ISO C99, 6.8.2).
-use Rattle.std.proofs.Common.{◌≡◌, inl, ℕ, ◌+◌, ℤ, List, [], ◌∷◌, ◌++◌, length, Option, None, Some, refl, sym, ap, ◌∙◌, subst, append_assoc, append-nil, arith}
-use Rattle.cx_core.specs.Statements.{CBody, AreBlockObjects, IsTypedStmt, AreTypedStmts, with_objects, labels_in, labels_in_list, cases_in, cases_in_list, defaults_in, defaults_in_list}
-use Rattle.cx_core.specs.Trees.{CStmt, stmt, label, case, default, block, expression, if_then, switch, while, do_while, for_loop, goto, continue, break, returns, begin, CStmts, no_stmts, more_stmts}
-use Rattle.cx_core.specs.Typing.{CHome}
-use Rattle.cx_rules.proofs.UnitNodesAgree.{s_item_walk, s_items_walk}
+use Rattle.std.proofs.Common.{◌≡◌, ℕ, ◌+◌, List, [], ◌∷◌, ◌++◌, refl, sym, ap, ◌∙◌, subst, append_assoc, append-nil, arith}
+use Rattle.cx_core.specs.Statements.{CBody, AreTypedStmts, labels_in, labels_in_list, cases_in, cases_in_list, defaults_in, defaults_in_list, objects_in}
+use Rattle.cx_core.specs.Trees.{CStmt, stmt, label, case, default, block, expression, if_then, switch, while, do_while, for_loop, goto, continue, break, returns, begin, no_stmts, more_stmts}
 use Rattle.cx_rules.specs.declared.kinds.SpecsPlace.TheVariants.{Block as InBlock}
 use Rattle.cx_rules.specs.Lines.{own_line}
 use Rattle.cx_rules.specs.Pieces.{at_line}
 use Rattle.cx_rules.specs.Scope.{CLabels, CScope, entered}
 use Rattle.cx_rules.specs.UnitWalk.{CWhere, CMeant, CStated, stmts_of, as_meant, nothing_meant, meant_behind, labels_of, labels_of_item, labels_of_items}
 use Rattle.cx_tree.specs.Trees.{DeclTree, StmtTree, Block, ItemTree, Statement, Declared, ItemTrees, no_items, more_items}
-use Rattle.cx_typed.proofs.Goes.{go_gives, go_here_then, go_chain}
-use Rattle.cx_typed.specs.Walked.{IsGood, Ends}
-use Rattle.cx_typed_units.proofs.Around.{place_on, place_entered, stands_inside}
+use Rattle.cx_typed.proofs.Goes.{go_gives, go_chain}
+use Rattle.cx_typed_units.proofs.Around.{place_on, place_entered}
 use Rattle.cx_typed_units.proofs.Blocks.{are_both, are_itself, blocks_joined, all_on}
 use Rattle.cx_typed_units.proofs.Labels.{labels_none, labels_both}
+use Rattle.cx_typed_units.proofs.Once.{once_none, plain_once, items_once, begun_none}
 use Rattle.cx_typed_units.proofs.Stretches.{leads_itself, leads_on, backs_first, backs_second}
 use Rattle.cx_typed_units.proofs.Whole.{go_scope, go_whole, whole_is, none_also, stmt_also}
 use Rattle.cx_typed_units.specs.Labels.{AddsLabels, AddsOfList}
-use Rattle.cx_typed_units.specs.Statements.{StandsIn, IsPlace, IsStated, StmtGoes, AreItems, ItemGoes, ItemsGo, IsBegun, AreBegun, IsDeclaration, DeclGoes}
-use Rattle.cx_typed_units.specs.Stretches.{Backs}
+use Rattle.cx_typed_units.specs.Once.{AreOnce}
+use Rattle.cx_typed_units.specs.Statements.{IsPlace, IsStated, StmtGoes, AreItems, ItemGoes, ItemsGo, AreBegun, IsDeclaration, DeclGoes}
 
 -- ---- statements one behind another
 
@@ -66,6 +64,7 @@ module _ (opens : List ℕ) (where_is : CWhere) where
     leads = held.leads;
     adds = λ switchable. adds_alone before.body after.body one.stmt (held.adds switchable);
     labels_are = append-nil (labels_in one.stmt) ∙ held.labels_are;
+    numbers = subst (λ rest. AreOnce before.next_object after.next_object (one.objects ++ rest)) (sym (append-nil (objects_in one.stmt))) held.numbers;
     blocks = held.blocks;
     held = λ home backs known inside. all_on home before after held.none known;
     typed = λ body declares stands backs known inside among. (stmt_also body [] declares (none_also declares) one.stmt (held.typed body stands backs known inside), tt);
@@ -102,6 +101,7 @@ module _ (opens : List ℕ) (where_is : CWhere) where
         leads = held.leads;
         adds = λ switchable. subst (λ labels. AddsOfList before.body labels (stmts_of all.stmts)) (sym held.body_is) made.0;
         labels_are = made.1;
+        numbers = subst (λ rest. AreOnce before.next_object after.next_object (all.objects ++ rest)) (sym (begun_none all.stmts held.begun)) (plain_once before.next_object after.next_object all.objects held.numbers);
         blocks = held.blocks;
         held = held.held;
         typed = λ body declares stands backs known inside among. held.typed body declares backs known inside among;
@@ -113,6 +113,7 @@ module _ (opens : List ℕ) (where_is : CWhere) where
     leads = leads_itself opens scope;
     adds = λ switchable. labels_none scope.body;
     labels_are = refl;
+    numbers = once_none scope.next_object scope.next_object (omega arith);
     blocks = λ home backs. tt;
     held = λ home backs known inside. known;
     typed = λ body declares stands backs known inside among. tt;
@@ -126,6 +127,7 @@ module _ (opens : List ℕ) (where_is : CWhere) where
     adds = λ switchable.
         adds_joined before.body after.body one.stmts other.stmts (labels_both before.body middle.body after.body _ _ _ _ _ _ (first.adds switchable) (second.adds switchable));
     labels_are = labels_joined one.stmts other.stmts ∙ (ap (λ labels. labels ++ labels_in_list (stmts_of other.stmts)) first.labels_are ∙ ap (λ labels. some ++ labels) second.labels_are);
+    numbers = items_once before.next_object middle.next_object after.next_object one.objects other.objects one.stmts other.stmts first.numbers second.numbers;
     blocks = λ home backs.
         blocks_joined home one.objects other.objects (first.blocks home (backs_first opens home before middle after backs second.leads))
         (second.blocks home (backs_second opens home before middle after backs first.leads));
@@ -167,5 +169,6 @@ block_goes items lines first opens where_is scope place =
     go_scope _ _ scope _ (go_chain _ _ _ _ (entered scope) (AreItems opens where_is (labels_of_items items) (entered scope)) _
     (first opens where_is (entered scope) (place_entered opens where_is scope place)) (λ all inner held.
     go_whole scope (own_line lines) (block (stmts_of all.stmts)) all.objects inner _
-    (whole_is opens where_is (Block items lines) scope place inner held.leads held.good (at_line inner (own_line lines)) all.objects (block (stmts_of all.stmts)) held.adds held.labels_are held.blocks
+    (whole_is opens where_is (Block items lines) scope place inner held.leads held.good (at_line inner (own_line lines)) all.objects (block (stmts_of all.stmts)) held.adds held.labels_are held.numbers
+    held.blocks
     (λ body stands backs known inside. held.typed body all.objects stands backs known inside (are_itself all.objects)))))

@@ -1,5 +1,5 @@
 -- Types of several declarations of one thing (ISO C99, 6.2.7p2 to p4).
-use Rattle.std.proofs.Common.{◌≡◌, ℕ, ◌==◌, Bool, true, false, not, ◌&&◌, ◌||◌, List, [], ◌∷◌, Option, None, Some, refl, sym, ap, ◌∙◌, subst, arith}
+use Rattle.std.proofs.Common.{◌≡◌, ℕ, ◌==◌, Bool, true, false, not, ◌&&◌, ◌||◌, List, [], Option, None, Some, refl, sym, ◌∙◌, subst, arith}
 use Rattle.std.proofs.lemmas.Bool.Decides.{nat_tests}
 use Rattle.std.specs.Bool.{beq}
 use Rattle.cx_core.proofs.Relation.{agree_symmetric}
@@ -10,9 +10,9 @@ use Rattle.cx_rules.specs.Types.{compatible, composite, composite_form, composit
 use Rattle.cx_typed.proofs.Composites.{composite_in, composite_settled}
 use Rattle.cx_typed.proofs.Same.{both, bool_is}
 use Rattle.cx_typed.proofs.Scopes.{grows_not}
-use Rattle.cx_typed.specs.Growth.{Grows}
 use Rattle.cx_typed.specs.Operands.{IsKnownType}
-use Rattle.cx_typed_units.proofs.Filled.{basic_itself, first_type, second_type}
+use Rattle.cx_typed_units.proofs.Covering.{basic_itself, covers_itself, covers_through, covered_agrees}
+use Rattle.cx_typed_units.proofs.Filled.{first_type, second_type}
 use Rattle.cx_typed_units.specs.Fills.{Fills}
 
 and_both : (a b : Bool) → a ≡ true → b ≡ true → (a && b) ≡ true
@@ -148,24 +148,24 @@ module _ (types : CTypes) (unit : ℕ) where
 
 module _ (opens : List ℕ) (types : CTypes) (unit : ℕ) where
   pub fills_itself : (type : CTy) → Fills opens types type type
-  fills_itself type now grows counts other held = held
+  fills_itself type now grows = covers_itself now type
 
   pub fills_through : (one two three : CTy) → Fills opens types one two → Fills opens types two three → Fills opens types one three
-  fills_through one two three first second now grows counts other held = first now grows counts other (second now grows counts other held)
+  fills_through one two three first second now grows = covers_through now three two one (second now grows) (first now grows)
 
   module _ (one other : CTy) (first : IsKnownType opens types unit one) (second : IsKnownType opens types unit other) (is : compatible types one other ≡ true) where
     pub fills_first : Fills opens types one (composite one other)
-    fills_first now grows counts x held = first_type opens types now grows unit counts x one other first.type_in second.type_in first.settled second.settled is held
+    fills_first now grows = first_type opens types now grows unit one other first.type_in second.type_in first.settled second.settled is
 
     pub fills_second : Fills opens types other (composite one other)
-    fills_second now grows counts x held = second_type opens types now grows unit counts x one other first.type_in second.type_in first.settled second.settled is held
+    fills_second now grows = second_type opens types now grows unit one other first.type_in second.type_in first.settled second.settled is
 
     pub composite_known : IsKnownType opens types unit (composite one other)
     composite_known = record { type_in = composite_in types unit one other is first.type_in second.type_in; settled = composite_settled opens one other first.settled second.settled }
 
   -- what goes with the later type goes with the earlier one
   pub earlier_goes : (earlier later other : CTy) → Fills opens types earlier later → compatible types other later ≡ true → compatible types other earlier ≡ true
-  earlier_goes earlier later other fills is = fills types (grows_not opens types) (in_pairs []) other is
+  earlier_goes earlier later other fills is = covered_agrees types (in_pairs []) other later earlier (fills types (grows_not opens types)) is
 
   pub fills_agree : (earlier later : CTy) → Fills opens types earlier later → compatible types earlier later ≡ true
   fills_agree earlier later fills = compatible_back types later earlier (earlier_goes earlier later later fills (agree_itself types (in_pairs []) later))

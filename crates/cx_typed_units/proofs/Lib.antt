@@ -3,6 +3,7 @@ pub mod Around
 pub mod Begun
 pub mod Blocks
 pub mod Conditions
+pub mod Covering
 pub mod DeclarationAccounts
 pub mod Declarations
 pub mod Declared
@@ -24,6 +25,7 @@ pub mod Selections
 pub mod Simple
 pub mod ObjectAccounts
 pub mod ObjectNumbers
+pub mod Once
 pub mod Owned
 pub mod Redeclared
 pub mod RestNodes
@@ -40,3 +42,4 @@ pub mod ThingSteps
 pub mod Unfilled
 pub mod Valued
 pub mod Whole
+pub mod WorkedCovers

@@ -1,21 +1,20 @@
 -- `for` (ISO C99, 6.8.5.3).
-use Rattle.std.proofs.Common.{◌≡◌, ℕ, Bool, true, false, ◌&&◌, ◌||◌, List, [], ◌∷◌, ◌++◌, length, Option, None, Some, refl, sym, ap, ◌∙◌, subst}
-use Rattle.std.specs.Prelude.{IfSome, IsTrue}
-use Rattle.cx_core.specs.Statements.{CBody, IsCondition, IsVoidExpr, IsForFirst, IsTypedStmtForm, within_loop}
+use Rattle.std.proofs.Common.{◌≡◌, ℕ, Bool, true, false, ◌&&◌, ◌||◌, List, [], ◌∷◌, ◌++◌, Option, None, Some, refl, sym, ◌∙◌, subst}
+use Rattle.std.specs.Prelude.{IfSome}
+use Rattle.cx_core.specs.Statements.{CBody, IsCondition, IsVoidExpr, IsForFirst, IsTypedStmtForm, within_loop, objects_in, objects_in_list}
 use Rattle.cx_core.specs.Trees.{CExpr, CStmt, stmt, label, case, default, block, expression, if_then, switch, while, do_while, for_loop, goto, continue, break, returns, begin, CStmts, no_stmts, more_stmts}
 use Rattle.cx_core.specs.Typing.{CHome}
 use Rattle.cx_rules.proofs.UnitNodesAgree.{s_option_walk, s_dropped_option, s_first_walk, s_for_begins, s_for_ends, s_controls_option}
-use Rattle.cx_rules.specs.declared.kinds.SpecsPlace.TheVariants.{ForClause}
 use Rattle.cx_rules.specs.Lines.{own_line, expr_line}
 use Rattle.cx_rules.specs.Nodes.{controls_node}
-use Rattle.cx_rules.specs.Operands.{COperand, value_of}
+use Rattle.cx_rules.specs.Operands.{COperand}
 use Rattle.cx_rules.specs.Pieces.{Done, at_line}
-use Rattle.cx_rules.specs.Readings.{Seen, seen_gives, seen_chain}
+use Rattle.cx_rules.specs.Readings.{Seen, seen_chain}
 use Rattle.cx_rules.specs.Scope.{CScope, entered}
 use Rattle.cx_rules.specs.UnitWalk.{CWhere, CMeant, CStated, CFor, stated, stmts_of, nothing_meant, as_meant, option_value, in_loop, labels_of, literals_since}
 use Rattle.cx_tree.specs.Trees.{ExprTree, OptionExprTree, no_expr, some_expr, ForFirstTree, FirstValue, FirstDeclared, StmtTree, For, ExprStmt}
 use Rattle.cx_typed.proofs.Goes.{go_gives, go_here_then, go_chain}
-use Rattle.cx_typed.proofs.Scopes.{stays_itself, part_of}
+use Rattle.cx_typed.proofs.Scopes.{stays_itself, part_of, passes_on}
 use Rattle.cx_typed.proofs.Walked.{passes_keep}
 use Rattle.cx_typed.specs.Growth.{Grows}
 use Rattle.cx_typed.specs.Scopes.{Serves, Passes}
@@ -28,11 +27,12 @@ use Rattle.cx_typed_units.proofs.Items.{stated_items, declared_items, none_items
 use Rattle.cx_typed_units.proofs.Labels.{labels_from}
 use Rattle.cx_typed_units.proofs.Selections.{none_on, place_loop, stands_loop}
 use Rattle.cx_typed_units.proofs.Simple.{expression_is}
+use Rattle.cx_typed_units.proofs.Once.{for_once, literals_once}
 use Rattle.cx_typed_units.proofs.Stretches.{leads_itself, leads_on, backs_first, backs_second}
 use Rattle.cx_typed_units.proofs.Valued.{IsValued, valued, IsDropped, dropped_goes}
 use Rattle.cx_typed_units.proofs.Whole.{go_scope, go_whole, scoped_goes, IsWhole, whole_is}
 use Rattle.cx_typed_units.specs.Rest.{DefinesNone}
-use Rattle.cx_typed_units.specs.Statements.{StandsIn, IsPlace, IsStated, StmtGoes, AreItems, IsDeclaration, AreBegun, IsScoped, OptionGoes, FirstGoes}
+use Rattle.cx_typed_units.specs.Statements.{StandsIn, IsPlace, IsStated, StmtGoes, AreItems, AreBegun, IsScoped, OptionGoes, FirstGoes}
 use Rattle.cx_typed_units.specs.Stretches.{Leads, DeclaresNone, Backs, IsHeldAt, AreIn}
 
 -- ---- clauses that may be missing
@@ -255,6 +255,8 @@ module _ (opens : List ℕ) (where_is : CWhere) (tree : StmtTree) (inner : StmtT
       whole_is opens where_is tree scope place last (leads_on opens (entered scope) held.behind last held.firsts.items.leads rest_leads_on) body_of.good (at_line last line) (held.first.objects ++ literals)
       (for_loop (stmts_of held.first.stmts) (option_value held.test) held.next one)
       (λ switchable. labels_from after.body scope.body last.body _ _ _ same_labels (body_of.adds switchable)) (body_of.labels_are ∙ sym labels_same)
+      (for_once scope.next_object held.behind.next_object after.next_object last.next_object held.first.objects literals (objects_in_list (stmts_of held.first.stmts)) (objects_in one) held.firsts.items.numbers
+      (literals_once held.behind after (passes_on opens held.behind held.middle after held.tests.passes held.nexts.passes).numbers) body_of.numbers)
       (λ home backs. blocks_joined home held.first.objects literals (held.firsts.items.blocks home (first_backs home backs)) (literal_blocks home opens held.behind after (clause_backs home backs)))
       for_form
 

@@ -1,13 +1,13 @@
 -- What a unit keeps account of stays right where an object is declared (ISO C99, 6.2.2, 6.2.7p4, 6.9.2).
-use Rattle.std.proofs.Common.{◌≡◌, ◌⊎◌, inl, inr, ℕ, ◌+◌, ◌<◌, ◌≤◌, ◌==◌, Bool, true, false, not, ◌&&◌, ◌||◌, if◌then◌else◌, List, [], ◌∷◌, ◌++◌, map, length, Option, None, Some, is_some, slice_get, bytes_eq, refl, sym, ap, ◌∙◌, subst, arith}
+use Rattle.std.proofs.Common.{◌≡◌, ◌⊎◌, inl, inr, ℕ, ◌+◌, ◌==◌, Bool, true, false, ◌||◌, if◌then◌else◌, List, [], ◌∷◌, ◌++◌, map, length, Option, None, Some, is_some, slice_get, refl, sym, ap, ◌∙◌, subst, arith}
 use Rattle.std.proofs.lemmas.Bool.Decides.{nat_tests}
 use Rattle.std.proofs.lemmas.Slice.Eq.{bytes_eq-Decides}
 use Rattle.cx_core.specs.declared.program.Linkage.{Linkage}
 use Rattle.cx_core.specs.declared.program.Linkage.TheVariants.{External, Internal, Nothing}
-use Rattle.cx_core.specs.Trees.{CTy, ty, CTyForm, void, basic, enum_type, pointer, array, record_type, function, form_of_type, CPuts, CObject, CFun, CMention}
+use Rattle.cx_core.specs.Trees.{CTy, ty, CTyForm, void, basic, enum_type, pointer, array, record_type, function, form_of_type, CObject, CFun, CMention}
 use Rattle.cx_core.specs.ValidTypes.{IsObjectForm}
 use Rattle.cx_rules.specs.Declare.{is_linked, thing_named}
-use Rattle.cx_rules.specs.Scope.{CThing, CScope}
+use Rattle.cx_rules.specs.Scope.{CThing}
 use Rattle.cx_rules.specs.Types.{composite, composite_form}
 use Rattle.cx_typed.proofs.Same.{number_is}
 use Rattle.cx_typed.proofs.Scopes.{kept_before, pushed_at}
@@ -15,14 +15,14 @@ use Rattle.cx_typed.specs.Growth.{Gives}
 use Rattle.cx_typed.specs.Operands.{IsKnownType}
 use Rattle.cx_typed_units.proofs.Accounted.{told_later}
 use Rattle.cx_typed_units.proofs.Entities.{declared_again, or_line, new_thing, GoesWith}
-use Rattle.cx_typed_units.proofs.FunctionAccounts.{pending_by, looser_by, told_last}
-use Rattle.cx_typed_units.proofs.Joins.{fills_itself, composite_known}
+use Rattle.cx_typed_units.proofs.FunctionAccounts.{pending_by, looser_by}
+use Rattle.cx_typed_units.proofs.Joins.{fills_itself, fills_second, fills_through, composite_known}
 use Rattle.cx_typed_units.proofs.Named.{set_thing, found_last}
-use Rattle.cx_typed_units.proofs.ObjectNumbers.{AreNumbered, numbered_of, got_last, one_more_numbered, changed_numbered}
+use Rattle.cx_typed_units.proofs.ObjectNumbers.{numbered_of, got_last, one_more_numbered, changed_numbered}
 use Rattle.cx_typed_units.proofs.Steps.{got_mapped, mapped_at}
-use Rattle.cx_typed_units.proofs.ThingAccounts.{AreDeclared, declared_account, AreChanged, thing_accounted, named_onward}
+use Rattle.cx_typed_units.proofs.ThingAccounts.{AreDeclared, declared_account, thing_accounted, named_onward}
 use Rattle.cx_typed_units.proofs.ThingLists.{one_more_declared, set_declared}
-use Rattle.cx_typed_units.specs.Account.{CAccount, account_of, does_by, is_declaring, IsToldAs, IsObjectNamed, IsKnownObject, IsObjectThing, IsAccounted}
+use Rattle.cx_typed_units.specs.Account.{CAccount, does_by, is_declaring, IsToldAs, IsObjectNamed, IsKnownObject, IsObjectThing, IsAccounted}
 use Rattle.cx_typed_units.specs.Fills.{Fills}
 
 same_value : {X : Type 0} {x y : X} → Some x ≡ Some y → x ≡ y
@@ -102,8 +102,10 @@ module _ (opens : List ℕ) (pending : Option (List ℕ)) (few : CAccount) (held
         apart = numbered.made.apart;
         objects_below = numbered.below;
         literals_below = numbered.made.below;
+        literals = held.literals;
         objects = λ index one at. own_known_by index one (got_last few.objects new index one at);
         listed = held.listed;
+        things_differ = held.things_differ;
         object_things = λ name one there is. own_thing name one (held.object_things name one there is);
         function_things = λ name one there is. (
             let was = held.function_things name one there is in
@@ -148,15 +150,15 @@ module _ (opens : List ℕ) (pending : Option (List ℕ)) (few : CAccount) (held
   pending_is true e is = ap (λ b. pending_by b name pending) e
   pending_is false e is = absurd cc
 
-  type_of_told : (thing : CTy) (defines : Bool) → IsToldAs told name External (λ one. (one.type ≡ thing) × (one.does ≡ does_by defines))
-      → IsToldAs told name External (λ one. (one.type ≡ thing) × (is_declaring one.does ≡ true))
-  type_of_told thing defines was = record {
+  type_of_told : (thing wanted : CTy) (defines : Bool) → thing ≡ wanted → IsToldAs told name External (λ one. (one.type ≡ thing) × (one.does ≡ does_by defines))
+      → IsToldAs told name External (λ one. (one.type ≡ wanted) × (is_declaring one.does ≡ true))
+  type_of_told thing wanted defines same was = record {
     index = was.index;
     one = was.one;
     at = was.at;
     name_is = was.name_is;
     linkage_is = was.linkage_is;
-    says = (was.says.0, ap is_declaring was.says.1 ∙ declaring_is defines);
+    says = (was.says.0 ∙ same, ap is_declaring was.says.1 ∙ declaring_is defines);
   }
 
   does_of_told : (thing : CTy) (defines wanted : Bool) → defines ≡ wanted → IsToldAs told name External (λ one. (one.type ≡ thing) × (one.does ≡ does_by defines)) → IsToldAs told name External (λ one. one.does ≡ does_by wanted)
@@ -212,7 +214,7 @@ module _ (opens : List ℕ) (pending : Option (List ℕ)) (few : CAccount) (held
       defined = λ is. absurd (no_value is);
       filled = λ apart is. absurd (apart (pending_is has_content refl is));
       internal = internal;
-      type_told = λ external. type_of_told type defines (now.says external);
+      type_told = λ external. type_of_told type new.type defines (sym new_type) (now.says external);
       does_told = λ external. does_of_told type defines (has_content || is_some tentative) does_is (now.says external);
     }
 
@@ -246,7 +248,7 @@ module _ (opens : List ℕ) (pending : Option (List ℕ)) (few : CAccount) (held
     again = declared_again type has_content tentative old
 
     abbrev retyped : CObject → CObject
-    retyped one = record one { type = composite type old.type }
+    retyped one = record one { type = if old.is_defined then one.type else composite type old.type }
 
     abbrev change_one : CObject → CObject
     change_one one = if one.object == old.number then retyped one else one
@@ -300,6 +302,23 @@ module _ (opens : List ℕ) (pending : Option (List ℕ)) (few : CAccount) (held
     filled_by true e apart is = absurd (apart (ap (λ b. pending_by b name pending) e))
     filled_by false e apart is = was.filled (λ waits. apart (ap (λ b. pending_by b name pending) e ∙ waits)) is
 
+    -- one that is defined keeps its type, and the later declaration says no less
+    type_of_undefined : (content defined : Bool) → (content || defined) ≡ false → (if defined then was.one.type else composite type old.type) ≡ composite type old.type
+    type_of_undefined true defined is = absurd cc
+    type_of_undefined false true is = absurd cc
+    type_of_undefined false false is = refl
+
+    fills_by : (defined : Bool) → Fills opens few.types (if defined then was.one.type else composite type old.type) (composite type old.type)
+    fills_by true =
+        fills_through opens few.types few.unit was.one.type old.type (composite type old.type) was.fills (fills_second opens few.types few.unit type old.type known old_known goes.agrees)
+    fills_by false = fills_itself opens few.types few.unit (composite type old.type)
+
+    type_now : (defined : Bool) → IsToldAs few.mentions name External (λ mention. (mention.type ≡ was.one.type) × (is_declaring mention.does ≡ true))
+        → IsToldAs told name External (λ mention. (mention.type ≡ composite type old.type) × (mention.does ≡ does_by defines))
+        → IsToldAs told name External (λ mention. (mention.type ≡ (if defined then was.one.type else composite type old.type)) × (is_declaring mention.does ≡ true))
+    type_now true before behind = told_later few.mentions told now.more name External (λ mention. (mention.type ≡ was.one.type) × (is_declaring mention.does ≡ true)) before
+    type_now false before behind = type_of_told (composite type old.type) (composite type old.type) defines refl behind
+
     own_again : IsObjectThing opens later many_again name again
     own_again = record {
       index = was.index;
@@ -308,12 +327,12 @@ module _ (opens : List ℕ) (pending : Option (List ℕ)) (few : CAccount) (held
       number_is = was.number_is;
       linkage_is = was.linkage_is;
       named = was.named;
-      type_is = λ is. refl;
-      fills = fills_itself opens few.types few.unit (composite type old.type);
+      type_is = λ is. type_of_undefined has_content old.is_defined is;
+      fills = fills_by old.is_defined;
       defined = λ is. or_right has_content old.is_defined (was.defined is);
       filled = λ apart is. filled_by has_content refl apart is;
       internal = λ is. more_defined has_content old.is_defined old.tentative (was.internal is);
-      type_told = λ external. type_of_told (composite type old.type) defines (now.says (sym goes.linkage_is ∙ external));
+      type_told = λ external. type_now old.is_defined (was.type_told external) (now.says (sym goes.linkage_is ∙ external));
       does_told = λ external.
           does_now has_content old.is_defined old.tentative (was.does_told external)
           (does_of_told (composite type old.type) defines (has_content || is_some tentative) does_is (now.says (sym goes.linkage_is ∙ external)));
@@ -322,14 +341,22 @@ module _ (opens : List ℕ) (pending : Option (List ℕ)) (few : CAccount) (held
     declared_so : AreDeclared few.things (set_thing name again few.things) name again
     declared_so = set_declared few.things held.listed name old again there old_name refl refl (λ is. or_right has_content old.is_defined is)
 
+    known_by_state : (defined : Bool) (before : CTy) → IsKnownType opens few.types few.unit before → IsKnownType opens few.types few.unit (if defined then before else composite type old.type)
+    known_by_state true before held = held
+    known_by_state false before held = again_known
+
+    form_by_state : (defined : Bool) (before : CTy) → IsObjectForm (form_of_type before) → IsObjectForm (form_of_type (if defined then before else composite type old.type))
+    form_by_state true before held = held
+    form_by_state false before held = object_composite type old.type form
+
     known_again : (index : ℕ) (before one : CObject) (same : Bool) → slice_get few.objects index ≡ Some before → (if same then retyped before else before) ≡ one
         → (slice_get few.objects index ≡ Some one) ⊎ IsKnownObject opens many_again one
     known_again index before one true at is =
         let known_before = held.objects index before at in
         inr (subst (IsKnownObject opens many_again) is (record {
           here = known_before.here;
-          known = again_known;
-          object = object_composite type old.type form;
+          known = known_by_state old.is_defined before.type known_before.known;
+          object = form_by_state old.is_defined before.type known_before.object;
           no_text = known_before.no_text;
           named = λ is_linked. named_onward few.things (set_thing name again few.things) name again declared_so (retyped before) (named_retyped before (known_before.named is_linked));
         }))

@@ -1,8 +1,7 @@
 -- The numbers of objects, once there is one more, and where one is changed (ISO C99, 6.2.4).
-use Rattle.std.proofs.Common.{◌≡◌, ◌⊎◌, inl, inr, ℕ, zero, suc, ◌+◌, ◌<◌, ◌≤◌, ◌==◌, Bool, true, false, if◌then◌else◌, List, [], ◌∷◌, ◌++◌, map, length, Option, None, Some, slice_get, refl, sym, ap, ◌∙◌, subst, arith}
+use Rattle.std.proofs.Common.{◌≡◌, ◌⊎◌, inl, inr, ℕ, zero, suc, ◌+◌, ◌<◌, List, [], ◌∷◌, ◌++◌, map, length, Option, Some, slice_get, refl, sym, ap, ◌∙◌, arith}
 use Rattle.cx_core.specs.Trees.{CObject}
 use Rattle.cx_rules.specs.Scope.{CMade}
-use Rattle.cx_typed.proofs.Scopes.{kept_before}
 use Rattle.cx_typed_units.proofs.Accounted.{AreApart, apart_of}
 use Rattle.cx_typed_units.proofs.Steps.{got_mapped}
 use Rattle.cx_typed_units.specs.Account.{CAccount, IsAccounted}

@@ -1,5 +1,5 @@
 -- An object without linkage, between its declarator and behind its initialiser (ISO C99, 6.7.8).
-use Rattle.std.proofs.Common.{◌≡◌, ◌⊎◌, inl, inr, ℕ, ◌<◌, ◌≤◌, ◌==◌, Bool, true, false, ◌&&◌, if◌then◌else◌, List, [], ◌∷◌, ◌++◌, map, length, Option, None, Some, is_some, slice_get, bytes_eq, refl, sym, ap, ◌∙◌, subst, arith}
+use Rattle.std.proofs.Common.{◌≡◌, ◌⊎◌, inl, inr, ℕ, ◌<◌, ◌≤◌, ◌==◌, Bool, true, false, ◌&&◌, if◌then◌else◌, List, [], ◌∷◌, ◌++◌, map, length, Option, None, Some, is_some, slice_get, refl, sym, ap, ◌∙◌, subst, arith}
 use Rattle.std.proofs.lemmas.Bool.Decides.{nat_tests}
 use Rattle.std.proofs.lemmas.Slice.Eq.{bytes_eq-Decides}
 use Rattle.std.specs.Prelude.{IsSome, IfSome}
@@ -255,6 +255,7 @@ module _ (opens : List ℕ) (scope : CScope) (orderly : IsOrderly opens scope) (
         ∙ ap (λ x. Some x) (kept_by one (one.object == scope.next_object) (not_same one.object scope.next_object (orderly.numbers index one at)));
     things = all_leads.things;
     orderly = λ held. behind_orderly;
+    covered = all_leads.covered;
     statics = λ index is.
         changed_static opens later scope.next_object (stored_in is_static whole puts) (stored_number is_static whole puts) (stored_linkage is_static whole puts) (stored_static is_static whole puts) later.literals
         index later.objects (all_leads.statics index is);
@@ -347,7 +348,7 @@ module _ (opens : List ℕ) (scope : CScope) (orderly : IsOrderly opens scope) (
       (subst (Contains home.scope) (stored_number is_static whole puts own) inside)))
 
   own_filled : (static : Bool) → is_static ≡ static → (home : CHome) → Serves home opens middle later → IfSome (stored_in static whole puts own).puts (IsFilled home (stored_in static whole puts own))
-  own_filled true e home serves = record { type = whole; same = λ nothing. refl; static = own_static home serves e }
+  own_filled true e home serves = own_static home serves e
   own_filled false e home serves = subst (λ p. IfSome p (IsFilled home (stored_in false whole puts own))) (sym (own_is.puts_are ∙ ap static_puts e)) tt
 
   behind_typed : AreTypedUpTo opens scope → AreTypedUpTo opens behind
@@ -360,7 +361,7 @@ module _ (opens : List ℕ) (scope : CScope) (orderly : IsOrderly opens scope) (
       record {
         held = behind_held home backs was.held there;
         literals = literals_typed home middle later passes.literals (λ index one is. was.literals index one (subst (λ made. slice_get made index ≡ Some one) begun.literals_are is))
-            (λ index one from is. made home serves index one from is);
+            (λ index one from is. made.typed home serves index one from is);
         objects = λ index one is. objects_by home serves was index one (got_mapped change later.objects index one is);
         functions = λ index one is. was.functions index one (subst (λ functions. slice_get functions index ≡ Some one) behind_steps.functions_are is);
       }
@@ -384,4 +385,4 @@ module _ (opens : List ℕ) (scope : CScope) (orderly : IsOrderly opens scope) (
           object_by home serves was index before.0 one at before.2 (got_behind scope.objects own index before.0 at)
 
   pub behind_leads : Leads opens scope behind
-  behind_leads = leads_by opens scope behind behind_steps behind_accounted behind_typed
+  behind_leads = leads_by opens scope behind behind_steps behind_accounted (λ pending account. behind_typed)

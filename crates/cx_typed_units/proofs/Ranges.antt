@@ -1,19 +1,17 @@
 -- Values of `case` labels, converted to the type of their `switch` (ISO C99, 6.8.4.2p5).
-use Rattle.std.proofs.Common.{◌≡◌, ℕ, ◌+◌, ◌<◌, ◌≤◌, Bool, true, false, cond, not, ◌||◌, nat_lt, ℤ, pos, ◌-ℤ◌, ◌≤ℤ◌, ◌<ℤ◌, neg_ℤ, List, Option, None, Some, is_none, option_map, option_and_then, refl, sym, ap, ◌∙◌, subst, arith}
-use Rattle.std.specs.Prelude.{IsSome, IfSome}
+use Rattle.std.proofs.Common.{◌≡◌, ℕ, ◌+◌, ◌<◌, ◌≤◌, Bool, true, false, cond, nat_lt, ℤ, pos, ◌-ℤ◌, ◌≤ℤ◌, ◌<ℤ◌, neg_ℤ, List, Option, None, Some, is_none, option_and_then, refl, arith}
+use Rattle.std.specs.Prelude.{IfSome}
 use Rattle.std.specs.List.{list_any}
 use Rattle.std.specs.Ordering.{int_eq}
 use Rattle.std.proofs.lemmas.Bool.Decides.{nat_tests}
 use Rattle.std.proofs.lemmas.Int.{ints}
 use Rattle.cr_base.proofs.Residues.{residue_below}
-use Rattle.cr_base.specs.Scalar.{IsInRange, residue, wrapped, converted}
-use Rattle.cr_base.specs.declared.scalar.Scalar.{Scalar}
-use Rattle.cr_base.specs.declared.scalar.Scalar.TheVariants.{Whole}
+use Rattle.cr_base.specs.Scalar.{IsInRange, residue, converted}
 use Rattle.cx_core.specs.declared.ty.Basic.{Basic}
 use Rattle.cx_core.specs.declared.ty.Basic.TheVariants.{Truth, Char, SignedChar, UnsignedChar, Short, UnsignedShort, Int, Unsigned, Long, UnsignedLong, LongLong, UnsignedLongLong}
 use Rattle.cx_core.specs.Conversions.{scalar_of, scalar_of_basic, is_promoted_basic, IsPromoted}
 use Rattle.cx_core.specs.Trees.{CTy, ty, void, basic, enum_type, pointer, array, record_type, function, form_of_type, CTypes}
-use Rattle.cx_rules.specs.Operands.{COperand, value_of, constant_of, scalar_in}
+use Rattle.cx_rules.specs.Operands.{COperand, value_of, constant_of}
 use Rattle.cx_rules.specs.Rules.{case_value, converted_case, not_case, not_constant, value_is}
 use Rattle.cx_rules.specs.UnitWalk.{case_number}
 

@@ -9,13 +9,14 @@ use Rattle.cx_rules.specs.Lines.{declarator_line, expr_line, own_line, specs_lin
 use Rattle.cx_rules.specs.Operands.{COperand}
 use Rattle.cx_rules.specs.Pieces.{CFilling, CTarget, assignment_of, binary_of, calls_by_name, designated_from, is_none_of, is_single, is_text, no_more_declarators, no_more_decls, object_of_type, or_negative, target_at, text_parts, unary_of}
 use Rattle.cx_rules.specs.Readings.{seen_gives, seen_chain, seen_here, seen_becomes}
-use Rattle.cx_rules.specs.Scope.{CScope, left, entered}
+use Rattle.cx_rules.specs.Scope.{CScope, ordinary, down_to, left, entered}
 use Rattle.cx_rules.specs.Shapes.{CParam, CShape, CSpecs, CStep, base_type, no_specs_yet}
 use Rattle.cx_rules.specs.declared.kinds.SpecsPlace.TheVariants.{Parameter, Plain}
 use Rattle.cx_tree.specs.Trees.{Array, Arrow, Assign, Binary, Braced, BracketsTree, Call, Cast, Comma, Cond, DeclaratorTree, DesignatorTree, DesignatorTrees, Dot, Element, Entry, EntryTree, EntryTrees, Enum, Enumerator, EnumeratorTree, EnumeratorTrees, ExprTree, ExprTrees, Function, Group, Identifier, Identifiers, Index, InitialiserList, InitialiserListTree, InitialiserTree, Key, Length, Letter, Literal, Member, MemberDecl, MemberDeclTree, MemberDeclTrees, MemberDeclarator, MemberDeclaratorTree, MemberDeclaratorTrees, Missing, Name, Number, OptionExprTree, Param, ParamTree, ParamTrees, Paren, Pointer, PostDown, PostUp, PreDown, PreUp, Record, Single, SizeofExpr, SizeofType, SpecTree, SpecTrees, Star, StaticFirst, StaticLast, Text, TypeName, TypeNameTree, Typedef, Unary, Unsized, more_designators, more_entries, more_enumerators, more_exprs, more_member_declarators, more_member_decls, more_params, more_specs, no_designators, no_entries, no_enumerator_list, no_enumerators, no_expr, no_exprs, no_member_declarators, no_member_decls, no_members, no_params, no_specs, some_enumerator_list, some_expr, some_members}
 use Rattle.cx_typed_units.proofs.RestNodes.{at_chain, kept_chain, kept_here, kept_given, kept_either, kept_name_seen, kept_number_seen, kept_letter_seen, kept_text_seen, kept_index_seen, kept_dot_seen, kept_arrow_seen, kept_step_seen, kept_unary_seen, kept_sizeof_type_seen, kept_cast_seen, kept_binary_seen, kept_cond_seen, kept_assign_seen, kept_comma_seen, kept_specs_seen, kept_typedef_seen, kept_record_use_seen, kept_record_begins, kept_record_ends, kept_enum_use_seen, kept_enum_begins, kept_enum_ends, kept_enumerator_seen, kept_derives_seen, kept_member_seen, kept_array_seen, kept_identifiers_seen, kept_param_seen, kept_value_given, kept_text_given, kept_whole_given, kept_whole_text, kept_list_begins, kept_list_given, kept_element_seen, kept_member_designated, kept_call_seen, sizeof_at, kept_literal_begins, kept_literal_ends, Keeps}
-use Rattle.cx_typed_units.specs.Rest.{CRest}
-use Rattle.std.proofs.Common.{ap}
+use Rattle.cx_typed_units.specs.Rest.{CRest, linked_type}
+use Rattle.cx_typed_units.proofs.Around.{behind_front}
+use Rattle.std.proofs.Common.{ap, subst, ◌≡◌, ◌∙◌}
 use Rattle.std.specs.Prelude.{Bool, List, None, Option, Some, [], false, length, not, pos, true, ℕ, ℤ, ◌&&◌, ◌++◌, ◌+ℤ◌, ◌∷◌}
 
 expr_walk_7 : (of : ExprTree) (args : ExprTrees) (lines : List ℕ) (h1 : Keeps COperand (s_expr_walk of)) (h2 : Keeps (List COperand) (s_exprs_walk args)) → Keeps COperand (s_expr_walk (Call of args lines))
@@ -167,6 +168,13 @@ declarator_walk_4 qualifiers of lines h1 = (kept_chain _ _ _ _ h1 (λ shape. (ke
 declarator_walk_5 : (of : DeclaratorTree) (brackets : BracketsTree) (lines : List ℕ) (h1 : Keeps CShape (s_declarator_walk of)) (h2 : (y1 : ℕ) → Keeps CStep (s_brackets_walk y1 brackets)) → Keeps CShape (s_declarator_walk (Array of brackets lines))
 declarator_walk_5 of brackets lines h1 h2 = (kept_chain _ _ _ _ h1 (λ shape. (kept_chain _ _ _ _ (h2 (declarator_line (own_line lines) of)) (λ step. (kept_given _ _)))))
 
+-- what comes into scope there goes out of scope at its end
+params_left : (shape : CShape) (list : ParamTrees) (variadic : Bool) (is_only : Bool) → ((y1 : Bool) → Keeps (List CParam) (s_params_walk y1 list)) → (scope : CScope)
+    → down_to (length scope.declared) (s_params_walk is_only list (entered scope)).scope.declared ≡ scope.declared
+params_left shape list variadic is_only h2 scope =
+    let inner = (h2 is_only (entered scope)).kept in
+    ap (λ declared. down_to (length scope.declared) declared) inner.declared_is ∙ behind_front inner.front scope.declared
+
 -- a list of parameters begins and ends a scope of its own
 params_kept : (shape : CShape) (params : ParamTrees) (variadic : Bool) (is_only : Bool) → ((y1 : Bool) → Keeps (List CParam) (s_params_walk y1 params))
     → Keeps CShape (seen_chain CScope CShape s_params_begin (λ before. seen_chain (List CParam) CShape (s_params_walk is_only params) (λ list. s_params_end before list variadic shape)))
@@ -176,6 +184,10 @@ params_kept shape params variadic is_only h2 scope = record {
     rest_is = ap {A = CRest} (λ rest. record rest { begins = scope.begins }) (h2 is_only (entered scope)).kept.rest_is;
     more = (h2 is_only (entered scope)).kept.more;
     defined = (h2 is_only (entered scope)).kept.defined;
+    front = [];
+    declared_is = params_left shape params variadic is_only h2 scope;
+    visible = λ name type is. subst (λ declared. linked_type (ordinary name declared) ≡ Some type) (params_left shape params variadic is_only h2 scope) is;
+    said = (h2 is_only (entered scope)).kept.said;
   };
 }
 

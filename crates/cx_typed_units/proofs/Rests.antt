@@ -1,20 +1,19 @@
 -- Stretches of expressions, types and initialisers (ISO C99, 6.5, 6.7.5, 6.7.8).
-use Rattle.std.proofs.Common.{◌≡◌, ◌⊎◌, inl, inr, ℕ, ◌≤◌, Bool, true, false, if◌then◌else◌, List, [], ◌∷◌, length, drop, zero, suc, Option, None, Some, is_none, slice_get, refl, sym, ap, ◌∙◌, subst}
-use Rattle.std.specs.Prelude.{IfSome}
+use Rattle.std.proofs.Common.{◌≡◌, ◌⊎◌, inl, inr, ℕ, ◌≤◌, if◌then◌else◌, List, [], ◌∷◌, length, drop, zero, suc, Option, None, Some, is_none, slice_get, refl, ap, subst}
 use Rattle.std.specs.List.{Contains}
-use Rattle.cx_core.specs.Linked.{IsTypedObject, IsTypedFunction}
-use Rattle.cx_core.specs.Trees.{CPuts, CObject, CFun}
+use Rattle.cx_core.specs.Linked.{IsTypedObject}
+use Rattle.cx_core.specs.Trees.{CPuts}
 use Rattle.cx_core.specs.Typing.{CHome}
 use Rattle.cx_rules.specs.Scope.{CMade, CScope}
 use Rattle.cx_rules.specs.UnitWalk.{literals_since}
 use Rattle.cx_typed.proofs.Numbered.{was_or_new}
-use Rattle.cx_typed.specs.Scopes.{Serves, TakesNumbers, AreTypedLiterals, object_made}
+use Rattle.cx_typed.specs.Scopes.{TakesNumbers, AreTypedLiterals, object_made}
 use Rattle.cx_typed_units.proofs.Accounted.{rest_accounted}
 use Rattle.cx_typed_units.proofs.Blocks.{serves_of, all_on}
 use Rattle.cx_typed_units.proofs.RestNodes.{StaysTo}
 use Rattle.cx_typed_units.proofs.Stretches.{rest_steps, leads_by, backs_from, holds_earlier}
 use Rattle.cx_typed_units.specs.Rest.{CRest}
-use Rattle.cx_typed_units.specs.Stretches.{Continues, DeclaresNone, AreIn, HoldsAll, IsFilled, AreTypedThere, AreTypedUpTo, Leads}
+use Rattle.cx_typed_units.specs.Stretches.{Continues, DeclaresNone, AreIn, HoldsAll, AreTypedUpTo, Leads}
 
 -- ---- the objects of literals
 
@@ -61,11 +60,12 @@ module _ (opens : List ℕ) (before after : CScope) (declares : Continues opens 
       let serves = serves_of home opens before after (backs_from opens home before after all steps) stays.defined was.held (literals_in home opens before after all) in
       record {
         held = all_on home before after none was.held;
-        literals = literals_typed home before after declares.literals was.literals (λ index one from is. made home serves index one from is);
+        literals = literals_typed home before after declares.literals was.literals (λ index one from is. made.typed home serves index one from is);
         objects = λ index one is. was.objects index one (subst (λ objects. slice_get objects index ≡ Some one) (ap {A = CRest} (λ rest. rest.objects) stays.rest_is) is);
         functions = λ index one is. was.functions index one (subst (λ functions. slice_get functions index ≡ Some one) steps.functions_are is);
       }
 
   pub rest_leads : Leads opens before after
   rest_leads =
-      leads_by opens before after (rest_steps opens before after declares none stays) (λ pending held. rest_accounted opens pending before after declares stays numbers held) rest_typed
+      leads_by opens before after (rest_steps opens before after declares none stays) (λ pending held. rest_accounted opens pending before after declares stays numbers made held)
+      (λ pending account. rest_typed)

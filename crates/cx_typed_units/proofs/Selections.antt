@@ -1,27 +1,26 @@
 -- Statements that a condition controls: `if`, `while` and `do` (ISO C99, 6.8.4.1, 6.8.5.1, 6.8.5.2).
-use Rattle.std.proofs.Common.{◌≡◌, ℕ, List, [], ◌∷◌, ◌++◌, length, Option, None, Some, refl, sym, ap, ◌∙◌, subst}
-use Rattle.cx_core.specs.Statements.{CBody, IsTypedStmtForm, within_loop, labels_in, labels_in_else}
-use Rattle.cx_core.specs.Trees.{CStmt, if_then, while, do_while, COtherwise, no_else, else_do}
-use Rattle.cx_core.specs.Typing.{CHome}
+use Rattle.std.proofs.Common.{ℕ, List, [], ◌++◌, refl, sym, ap, ◌∙◌, arith}
+use Rattle.cx_core.specs.Statements.{CBody, IsTypedStmtForm, within_loop, labels_in_else, objects_in, objects_in_else}
+use Rattle.cx_core.specs.Trees.{CStmt, if_then, while, do_while, COtherwise}
 use Rattle.cx_rules.specs.Lines.{own_line}
 use Rattle.cx_rules.specs.Nodes.{controls_node}
 use Rattle.cx_rules.specs.Operands.{COperand, value_of}
 use Rattle.cx_rules.specs.Pieces.{at_line}
 use Rattle.cx_rules.specs.Scope.{CScope, entered}
-use Rattle.cx_rules.specs.UnitWalk.{CWhere, CTested, in_loop, labels_of, labels_of_else, literals_since}
+use Rattle.cx_rules.specs.UnitWalk.{CWhere, in_loop, labels_of, labels_of_else, literals_since}
 use Rattle.cx_tree.specs.Trees.{ExprTree, StmtTree, If, While, Do, OptionStmtTree, no_stmt, some_stmt}
 use Rattle.cx_typed.proofs.Goes.{go_gives, go_here_then, go_chain}
 use Rattle.cx_typed.specs.Unbroken.{IsUnbroken}
-use Rattle.cx_typed.specs.Walked.{Ends, ExprGoes}
+use Rattle.cx_typed.specs.Walked.{ExprGoes}
 use Rattle.cx_typed_units.proofs.Around.{place_on, place_entered}
 use Rattle.cx_typed_units.proofs.Blocks.{literal_blocks, serves_of, all_on}
 use Rattle.cx_typed_units.proofs.Conditions.{condition_is, go_begun, go_controls, go_tested}
 use Rattle.cx_typed_units.proofs.Labels.{labels_none, labels_both, labels_from, labels_to}
+use Rattle.cx_typed_units.proofs.Once.{once_none, once_both, once_turned, literals_once}
 use Rattle.cx_typed_units.proofs.Stretches.{leads_itself, leads_on, backs_first, backs_second}
 use Rattle.cx_typed_units.proofs.Valued.{IsValued, valued}
 use Rattle.cx_typed_units.proofs.Whole.{go_scope, go_whole, scoped_goes, IsWhole, whole_is}
-use Rattle.cx_typed_units.specs.Labels.{AddsLabels, AddsOf}
-use Rattle.cx_typed_units.specs.Statements.{StandsIn, IsPlace, IsStated, StmtGoes, IsScoped, IsElse, ElseGoes}
+use Rattle.cx_typed_units.specs.Statements.{StandsIn, IsPlace, StmtGoes, IsScoped, IsElse, ElseGoes}
 use Rattle.cx_typed_units.specs.Stretches.{Leads, DeclaresNone, Backs, IsHeldAt, AreIn}
 
 pub none_on : (before middle after : CScope) → DeclaresNone before middle → DeclaresNone middle after → DeclaresNone before after
@@ -36,6 +35,7 @@ no_else_goes opens where_is scope place = go_gives _ scope _ (record {
   none = λ name meant thing is. is;
   adds = λ switchable. labels_none scope.body;
   labels_are = refl;
+  numbers = once_none scope.next_object scope.next_object (omega arith);
   typed = λ body stands backs known. tt;
 })
 
@@ -48,6 +48,7 @@ else_goes inner first opens where_is scope place =
       none = held.none;
       adds = held.adds;
       labels_are = held.labels_are;
+      numbers = held.numbers;
       typed = held.typed;
     }))
 
@@ -75,6 +76,8 @@ module _ (opens : List ℕ) (where_is : CWhere) (condition : ExprTree) (branch :
       (literals_since scope middle) (if_then (value_of test) one other)
       (λ switchable. labels_from middle.body scope.body last.body _ _ _ tested.body_is (labels_both middle.body later.body last.body _ _ _ _ _ _ (first.adds switchable) (second.adds switchable)))
       (ap (λ labels. labels ++ labels_in_else other) first.labels_are ∙ ap (λ labels. labels_of branch ++ labels) second.labels_are)
+      (once_both scope.next_object middle.next_object last.next_object (literals_since scope middle) (objects_in one ++ objects_in_else other) (literals_once (entered scope) middle tested.is_expr.passes.numbers)
+      (once_both middle.next_object later.next_object last.next_object (objects_in one) (objects_in_else other) first.numbers second.numbers))
       (λ home backs. literal_blocks home opens (entered scope) middle (backs_first opens home (entered scope) middle last backs behind_leads))
       if_form
 
@@ -126,6 +129,7 @@ module _ (opens : List ℕ) (where_is : CWhere) (condition : ExprTree) (inner : 
       whole_is opens where_is (While condition inner lines) scope place last (leads_on opens (entered scope) middle last tested.leads first.leads) first.good (at_line last (own_line lines))
       (literals_since scope middle) (while (value_of test) one)
       (λ switchable. labels_from middle.body scope.body last.body _ _ _ tested.body_is (first.adds switchable)) first.labels_are
+      (once_both scope.next_object middle.next_object last.next_object (literals_since scope middle) (objects_in one) (literals_once (entered scope) middle tested.is_expr.passes.numbers) first.numbers)
       (λ home backs. literal_blocks home opens (entered scope) middle (backs_first opens home (entered scope) middle last backs first.leads))
       while_form
 
@@ -157,6 +161,7 @@ module _ (opens : List ℕ) (where_is : CWhere) (inner : StmtTree) (condition : 
       whole_is opens where_is (Do inner condition lines) scope place last (leads_on opens (entered scope) middle last first.leads tested.leads) tested.is_expr.good (at_line last (own_line lines))
       (literals_since middle last) (do_while one (value_of test))
       (λ switchable. labels_to scope.body middle.body last.body _ _ _ (sym tested.body_is) (first.adds switchable)) first.labels_are
+      (once_turned scope.next_object middle.next_object last.next_object (objects_in one) (literals_since middle last) first.numbers (literals_once middle last tested.is_expr.passes.numbers))
       (λ home backs. literal_blocks home opens middle last (backs_second opens home (entered scope) middle last backs first.leads))
       do_form
 

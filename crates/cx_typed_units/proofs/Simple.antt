@@ -1,13 +1,13 @@
 -- Labelled statements, expression statements and jumps (ISO C99, 6.8.1, 6.8.3, 6.8.6).
-use Rattle.std.proofs.Common.{◌≡◌, ◌⊎◌, inl, inr, ℕ, zero, suc, ◌<◌, ℤ, Bool, true, false, not, ◌&&◌, ◌||◌, if◌then◌else◌, List, [], ◌∷◌, ◌++◌, length, Option, None, Some, is_some, is_none, bytes_eq, refl, sym, ap, ◌∙◌, subst, arith}
+use Rattle.std.proofs.Common.{◌≡◌, ◌⊎◌, inl, inr, ℕ, zero, suc, ◌<◌, Bool, true, false, not, ◌&&◌, ◌||◌, if◌then◌else◌, List, [], ◌∷◌, ◌++◌, length, Option, None, Some, is_some, is_none, bytes_eq, refl, sym, ap, ◌∙◌, subst, arith}
 use Rattle.std.proofs.lemmas.Slice.Eq.{bytes_eq-Decides}
 use Rattle.std.specs.Prelude.{IsSome, IfSome}
 use Rattle.std.specs.List.{Contains, list_any}
 use Rattle.cr_base.specs.Scalar.{IsInRange}
 use Rattle.cr_base.specs.declared.refusal.Place.{Place as TextPlace}
 use Rattle.cx_core.specs.Conversions.{scalar_of, IsPromoted}
-use Rattle.cx_core.specs.Statements.{CBody, IsReturn, IsTypedStmtForm, IsVoid, with_objects, labels_in_form, cases_in_form, defaults_in_form}
-use Rattle.cx_core.specs.Trees.{CTy, CTypes, form_of_type, CExpr, CStmtForm, label, case, default, expression, goto, continue, break, returns}
+use Rattle.cx_core.specs.Statements.{CBody, IsReturn, IsTypedStmtForm, IsVoid, with_objects, labels_in_form, cases_in_form, defaults_in_form, objects_in, objects_in_form}
+use Rattle.cx_core.specs.Trees.{CTy, CTypes, form_of_type, CExpr, CStmtForm, case, expression, goto, continue, break, returns}
 use Rattle.cx_core.specs.Typing.{CHome}
 use Rattle.cx_rules.proofs.UnitNodesAgree.{s_case_by, s_return_seen}
 use Rattle.cx_rules.specs.Lines.{own_line, expr_line}
@@ -16,7 +16,7 @@ use Rattle.cx_rules.specs.Pairs.{is_assignable}
 use Rattle.cx_rules.specs.Pieces.{at_line}
 use Rattle.cx_rules.specs.Nodes.{return_node}
 use Rattle.cx_rules.specs.Rules.{case_value, not_case, not_constant}
-use Rattle.cx_rules.specs.Scope.{CLabels, CScope}
+use Rattle.cx_rules.specs.Scope.{CScope}
 use Rattle.cx_rules.specs.Types.{is_void}
 use Rattle.cx_rules.specs.UnitWalk.{CWhere, CStated, stated, labelled, case_number, labels_of, literals_since}
 use Rattle.cx_tree.specs.Trees.{ExprTree, no_expr, some_expr, StmtTree, Label, Case, Default, ExprStmt, Goto, Continue, Break, Return}
@@ -26,20 +26,21 @@ use Rattle.cx_typed.proofs.Growing.{complete_stays}
 use Rattle.cx_typed.proofs.Promoted.{neither, not_not}
 use Rattle.cx_typed.proofs.Single.{no_less}
 use Rattle.cx_typed.proofs.Values.{value_type_is}
-use Rattle.cx_typed.proofs.Walked.{known_stays}
 use Rattle.cx_typed.specs.Operands.{IsKnownType, IsOperandType}
 use Rattle.cx_typed.specs.Scopes.{Serves}
 use Rattle.cx_typed.specs.Unbroken.{IsUnbroken}
 use Rattle.cx_typed.specs.Walked.{Ends, ExprGoes}
-use Rattle.cx_typed_units.proofs.Around.{with_labels, good_labels, leads_labels, backs_labels, place_on, stands_inside}
+use Rattle.cx_typed_units.proofs.Around.{good_labels, leads_labels, backs_labels, place_on, stands_inside}
 use Rattle.cx_typed_units.proofs.Blocks.{literal_blocks, serves_of, all_inside, all_on}
+use Rattle.cx_typed_units.proofs.Once.{once_none, once_later, plain_once, literals_once}
 use Rattle.cx_typed_units.proofs.Labels.{labels_none, label_more, case_more, default_more}
-use Rattle.cx_typed_units.proofs.Ranges.{case_is, IsCaseValue}
-use Rattle.cx_typed_units.proofs.Stretches.{home_in, leads_itself, leads_on, backs_first, backs_second, backs_in}
+use Rattle.cx_typed_units.proofs.Ranges.{case_is}
+use Rattle.cx_typed_units.proofs.Stretches.{home_in, leads_itself, leads_on, backs_second, backs_in}
 use Rattle.cx_typed_units.proofs.Valued.{IsValued, valued, value_served, IsDropped, dropped_goes, void_form}
 use Rattle.cx_typed_units.specs.Labels.{AddsLabels, AddsOf}
+use Rattle.cx_typed_units.specs.Once.{AreOnce}
 use Rattle.cx_typed_units.specs.Statements.{IsSwitchable, StandsIn, IsPlace, IsStated, StmtGoes}
-use Rattle.cx_typed_units.specs.Stretches.{Leads, DeclaresNone, Backs, IsHeldAt, AreIn}
+use Rattle.cx_typed_units.specs.Stretches.{DeclaresNone}
 
 none_on : (before middle after : CScope) → DeclaresNone before middle → DeclaresNone middle after → DeclaresNone before after
 none_on before middle after first second name meant thing is = first name meant thing (second name meant thing is)
@@ -56,6 +57,7 @@ label_goes name inner lines first opens where_is scope place =
       adds = λ switchable. label_more scope.body after.body name _ _ _ (held.adds switchable) unbroken.k19;
       labels_are = ap (λ labels. name ∷ labels) held.labels_are;
       apart = inr refl;
+      numbers = held.numbers;
       blocks = λ home backs. held.blocks home (backs_labels opens _ home scope after backs);
       typed = λ body stands backs known inside. (
         tt,
@@ -80,6 +82,7 @@ default_goes inner lines first opens where_is scope place =
       adds = λ switchable. default_more scope.body after.body _ _ _ (held.adds switchable) found.1;
       labels_are = held.labels_are;
       apart = inr refl;
+      numbers = held.numbers;
       blocks = λ home backs. held.blocks home (backs_labels opens _ home scope after backs);
       typed = λ body stands backs known inside. (
         tt,
@@ -108,6 +111,7 @@ module _ (opens : List ℕ) (where_is : CWhere) (value : ExprTree) (inner : Stmt
         (case_is after.types after.types type number after.body.cases (promoted_by type is switchable) some fresh).fresh;
     labels_are = held.labels_are;
     apart = inr refl;
+    numbers = once_later scope.next_object middle.next_object after.next_object (one.objects ++ objects_in one.stmt) tested.is_expr.passes.numbers.grows held.numbers;
     blocks = λ home backs. held.blocks home (backs_second opens home scope middle after (backs_labels opens _ home scope after backs) tested.leads);
     typed = λ body stands backs known inside.
         let made = case_is after.types body.home.program.types type number after.body.cases (promoted_by type is stands.switchable) some fresh in
@@ -145,6 +149,7 @@ null_goes lines opens where_is scope place = go_here_then _ _ scope _ (go_gives 
   adds = λ switchable. labels_none scope.body;
   labels_are = refl;
   apart = inr refl;
+  numbers = once_none scope.next_object scope.next_object (omega arith);
   blocks = λ home backs. tt;
   typed = λ body stands backs known inside. (tt, tt);
 }))
@@ -158,6 +163,7 @@ module _ (opens : List ℕ) (where_is : CWhere) (value : ExprTree) (lines : List
     adds = λ switchable. subst (λ labels. AddsLabels scope.body labels [] [] 0) (sym held.body_is) (labels_none scope.body);
     labels_are = refl;
     apart = inr refl;
+    numbers = plain_once scope.next_object after.next_object (literals_since scope after) (literals_once scope after held.passes.numbers);
     blocks = λ home backs. literal_blocks home opens scope after backs;
     typed = λ body stands backs known inside. (
       tt,
@@ -184,9 +190,9 @@ named_in name (first ∷ others) is = found_first name first others (bytes_eq na
 
 -- a statement that has no parts
 module _ (opens : List ℕ) (where_is : CWhere) (tree : StmtTree) (scope : CScope) (place : IsPlace opens scope where_is) (at : TextPlace) (form : CStmtForm) where
-  pub alone_is : labels_of tree ≡ [] → labels_in_form form ≡ [] → cases_in_form form ≡ [] → defaults_in_form form ≡ 0
+  pub alone_is : labels_of tree ≡ [] → labels_in_form form ≡ [] → cases_in_form form ≡ [] → defaults_in_form form ≡ 0 → objects_in_form form ≡ []
       → ((body : CBody) → StandsIn where_is body → IsTypedStmtForm (with_objects [] body) [] [] form) → IsStated opens where_is tree scope (stated at form []) scope
-  alone_is tree_is labels cases defaults typed = record {
+  alone_is tree_is labels cases defaults objects typed = record {
     good = place.good;
     leads = leads_itself opens scope;
     none = λ name meant thing is. is;
@@ -195,6 +201,7 @@ module _ (opens : List ℕ) (where_is : CWhere) (tree : StmtTree) (scope : CScop
         (subst (λ c. AddsLabels scope.body scope.body [] c (defaults_in_form form)) (sym cases) (subst (λ d. AddsLabels scope.body scope.body [] [] d) (sym defaults) (labels_none scope.body)));
     labels_are = labels ∙ sym tree_is;
     apart = inr refl;
+    numbers = subst (AreOnce scope.next_object scope.next_object) (sym objects) (once_none scope.next_object scope.next_object (omega arith));
     blocks = λ home backs. tt;
     typed = λ body stands backs known inside. (tt, typed body stands);
   }
@@ -202,13 +209,13 @@ module _ (opens : List ℕ) (where_is : CWhere) (tree : StmtTree) (scope : CScop
 pub goto_goes : (name lines : List ℕ) → StmtGoes (Goto name lines)
 goto_goes name lines opens where_is scope place =
     go_here_then _ _ scope _ (go_settled _ scope _ _ _ scope _ (λ unbroken.
-    alone_is opens where_is (Goto name lines) scope place _ (goto name) refl refl refl refl
+    alone_is opens where_is (Goto name lines) scope place _ (goto name) refl refl refl refl refl
     (λ body stands. subst (λ labels. Contains labels name) (sym stands.labels_are) (named_in name where_is.labels (not_not unbroken.k19)))))
 
 pub continue_goes : (lines : List ℕ) → StmtGoes (Continue lines)
 continue_goes lines opens where_is scope place =
     go_here_then _ _ scope _ (go_settled _ scope _ _ _ scope _ (λ unbroken.
-    alone_is opens where_is (Continue lines) scope place _ continue refl refl refl refl (λ body stands. stands.in_loop_is ∙ not_not unbroken.k18)))
+    alone_is opens where_is (Continue lines) scope place _ continue refl refl refl refl refl (λ body stands. stands.in_loop_is ∙ not_not unbroken.k18)))
 
 inside_of : (in_loop : Bool) (in_switch : Option CTy) → (in_loop || is_some in_switch) ≡ true → (in_loop ≡ true) ⊎ IsSome in_switch
 inside_of true in_switch is = inl refl
@@ -217,7 +224,7 @@ inside_of false in_switch is = inr is
 pub break_goes : (lines : List ℕ) → StmtGoes (Break lines)
 break_goes lines opens where_is scope place =
     go_here_then _ _ scope _ (go_settled _ scope _ _ _ scope _ (λ unbroken.
-    alone_is opens where_is (Break lines) scope place _ break refl refl refl refl
+    alone_is opens where_is (Break lines) scope place _ break refl refl refl refl refl
     (λ body stands.
     subst (λ in_loop. (in_loop ≡ true) ⊎ IsSome body.in_switch) (sym stands.in_loop_is)
     (subst (λ in_switch. (where_is.in_loop ≡ true) ⊎ IsSome in_switch) (sym stands.in_switch_is) (inside_of where_is.in_loop where_is.in_switch (not_not unbroken.k18))))))
@@ -256,6 +263,7 @@ module _ (opens : List ℕ) (where_is : CWhere) (tree : ExprTree) (lines : List 
     adds = λ switchable. subst (λ labels. AddsLabels scope.body labels [] [] 0) (sym held.body_is) (labels_none scope.body);
     labels_are = refl;
     apart = inr refl;
+    numbers = plain_once scope.next_object after.next_object (literals_since scope after) (literals_once scope after held.is_expr.passes.numbers);
     blocks = λ home backs. literal_blocks home opens scope after backs;
     typed = λ body stands backs known inside. (
       tt,
@@ -271,7 +279,7 @@ return_goes lines opens where_is scope place =
     subst (λ other. Ends (s_return_seen where_is scope (own_line lines) value) other (IsStated opens where_is (Return no_expr lines) scope)) (sym is.1)
     (subst (λ found. Ends (s_return_seen where_is scope (own_line lines) found) scope (IsStated opens where_is (Return no_expr lines) scope)) (sym is.0)
     (go_here_then _ _ scope _ (go_settled _ scope _ _ _ scope _ (λ unbroken.
-    alone_is opens where_is (Return no_expr lines) scope place _ (returns None) refl refl refl refl
+    alone_is opens where_is (Return no_expr lines) scope place _ (returns None) refl refl refl refl refl
     (λ body stands. subst IsVoid (sym stands.result_is) (void_form where_is.result (not_not unbroken.k20)))))))))
 
 record IsGivenBack (opens : List ℕ) (tree : ExprTree) (before : CScope) (found : Option COperand) (after : CScope) : Type 0 where

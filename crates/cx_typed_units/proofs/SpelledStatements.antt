@@ -6,7 +6,7 @@ use Rattle.cx_rules.specs.declared.kinds.SpecsPlace.TheVariants.{Block as InBloc
 use Rattle.cx_rules.specs.Declare.{is_outside}
 use Rattle.cx_tree.specs.Trees.{OptionExprTree, no_expr, some_expr, InitialiserTree, InitDeclaratorTree, DeclTree, ForFirstTree, FirstValue, FirstDeclared, StmtTree, Label, Case, Default, Block, ExprStmt, If, Switch, While, Do, For, Goto, Continue, Break, Return, OptionStmtTree, no_stmt, some_stmt, Statement, Declared, ItemTrees, no_items, more_items}
 use Rattle.cx_typed.proofs.Spelled.{spelled_trees}
-use Rattle.cx_typed.specs.Spelled.{IsSpelled, IsSpelledOption, IsSpelledInit}
+use Rattle.cx_typed.specs.Spelled.{IsSpelledOption, IsSpelledInit}
 use Rattle.cx_typed_units.proofs.Declarations.{declarations_go}
 use Rattle.cx_typed_units.proofs.Filling.{initialisers_go}
 use Rattle.cx_typed_units.proofs.Forms.{statements}

@@ -1,25 +1,20 @@
 -- The steps of which declarations are made: objects, names with linkage, mentions and declared names (ISO C99, 6.2.1, 6.2.2).
-use Rattle.std.proofs.Common.{◌≡◌, ◌⊎◌, inl, inr, ℕ, zero, suc, ◌+◌, ◌<◌, ◌≤◌, ◌==◌, Bool, true, false, not, ◌&&◌, ◌||◌, is_some, if◌then◌else◌, List, [], ◌∷◌, ◌++◌, map, length, Option, None, Some, slice_get, find, bytes_eq, refl, sym, ap, ◌∙◌, subst, length-append, arith}
+use Rattle.std.proofs.Common.{◌≡◌, ◌⊎◌, inl, inr, ℕ, zero, suc, ◌+◌, ◌<◌, ◌==◌, Bool, true, false, not, ◌&&◌, ◌||◌, is_some, if◌then◌else◌, List, [], ◌∷◌, ◌++◌, map, length, Option, Some, slice_get, bytes_eq, refl, sym, ap, ◌∙◌, subst, length-append, arith}
 use Rattle.std.proofs.lemmas.Slice.Eq.{bytes_eq-Decides}
-use Rattle.std.specs.Prelude.{IsSome, IfSome}
 use Rattle.std.specs.List.{list_any}
 use Rattle.cx_core.specs.declared.program.Linkage.{Linkage}
-use Rattle.cx_core.specs.declared.program.Linkage.TheVariants.{External, Internal, Nothing}
-use Rattle.cx_core.specs.Trees.{CTy, CPuts, CObject, CMention}
+use Rattle.cx_core.specs.declared.program.Linkage.TheVariants.{Nothing}
+use Rattle.cx_core.specs.Trees.{CTy, CObject, CMention}
 use Rattle.cx_rules.specs.Declare.{is_linked, thing_named, with_object_at}
-use Rattle.cx_rules.specs.Pieces.{is_static_object, made_static, object_static, has_linkage}
-use Rattle.cx_rules.specs.Scope.{CMeant, an_object, a_function, a_type_name, an_enumerator, a_tag, CDeclared, CTag, CMade, CThing, CScope, ordinary, tag, tag_of, is_ordinary, with_declared, with_mention, with_object_number, with_function_number}
-use Rattle.cx_rules.specs.Types.{is_function}
+use Rattle.cx_rules.specs.Pieces.{made_static, object_static, has_linkage}
+use Rattle.cx_rules.specs.Scope.{CMeant, an_object, a_function, CTag, CMade, CThing, CScope, ordinary, tag, tag_of, is_ordinary, with_declared, with_mention, with_object_number, with_function_number}
 use Rattle.cx_typed.proofs.Same.{both, number_is}
 use Rattle.cx_typed.proofs.Scopes.{grows_not, kept_before}
 use Rattle.cx_typed.specs.Names.{IsKnownMeant}
-use Rattle.cx_typed.specs.Operands.{IsKnownType}
 use Rattle.cx_typed.specs.Walked.{IsGood}
 use Rattle.cx_typed_units.proofs.Around.{known_thing}
-use Rattle.cx_typed_units.proofs.Named.{kept_in_front, IsFoundBehind, before, behind, found_behind, found_last, same_thing, set_thing, found_set, found_before, has_name}
-use Rattle.cx_typed_units.proofs.Stretches.{Steps, kept_is, same_itself, thing_on}
-use Rattle.cx_typed_units.specs.Fills.{Fills}
-use Rattle.cx_typed_units.specs.Stretches.{IsSameThing, IsKept, IsThing, IsThingOf, IsKnownThing, IsOrderly}
+use Rattle.cx_typed_units.proofs.Stretches.{Steps, kept_is, same_itself}
+use Rattle.cx_typed_units.specs.Stretches.{IsThingOf, IsKnownThing, IsOrderly, IsCovered, AreCovered}
 
 -- ---- a name that is declared
 
@@ -89,6 +84,7 @@ module _ (opens : List ℕ) (scope : CScope) (name : List ℕ) (meant : CMeant) 
     statics = λ number is. is;
     objects = λ number one nothing is. is;
     things = λ other one is. kept_is opens scope.types one one (thing_named other scope.things) is (same_itself opens scope.types one);
+    covered = λ orderly held. held;
     orderly = λ orderly. record {
       objects = λ other number type is_register linkage is linked. new_object other number type is_register linkage (is_ordinary meant && bytes_eq name other) refl orderly held is linked;
       functions = λ other number type linkage is. new_function other number type linkage (is_ordinary meant && bytes_eq name other) refl orderly held is;
@@ -99,13 +95,24 @@ module _ (opens : List ℕ) (scope : CScope) (name : List ℕ) (meant : CMeant) 
 
 -- ---- mentions and numbers of functions
 
+pub got_behind : {X : Type 0} (xs : List X) (new : X) (index : ℕ) (one : X) → slice_get (xs ++ new ∷ []) index ≡ Some one → (slice_get xs index ≡ Some one) ⊎ (new ≡ one)
+got_behind [] new zero one is = inr cc
+got_behind [] new (suc index) one is = absurd cc
+got_behind (first ∷ xs) new zero one is = inl is
+got_behind (first ∷ xs) new (suc index) one is = got_behind xs new index one is
+
 module _ (opens : List ℕ) (scope : CScope) where
-  pub mention_leads : (one : CMention) → Steps opens scope (with_mention one scope)
-  mention_leads one = record {
+  last_covered : (new : CMention) → IsCovered opens scope.types scope.things new → AreCovered opens scope → (index : ℕ) (one : CMention) → (slice_get scope.mentions index ≡ Some one) ⊎ (new ≡ one)
+      → IsCovered opens scope.types scope.things one
+  last_covered new covered held index one (inl at) = held index one at
+  last_covered new covered held index one (inr is) = subst (λ (mention : CMention). IsCovered opens scope.types scope.things mention) is covered
+
+  pub mention_leads : (one : CMention) → IsCovered opens scope.types scope.things one → Steps opens scope (with_mention one scope)
+  mention_leads new covered = record {
     declares = record {
       unit_is = refl;
       grows = grows_not opens scope.types;
-      mentions = λ number x is. kept_before scope.mentions (one ∷ []) number x is;
+      mentions = λ number x is. kept_before scope.mentions (new ∷ []) number x is;
       literals = λ number x is. is;
       front = [];
       declared_is = refl;
@@ -117,10 +124,11 @@ module _ (opens : List ℕ) (scope : CScope) where
     statics = λ number is. is;
     objects = λ number one nothing is. is;
     things = λ other one is. kept_is opens scope.types one one (thing_named other scope.things) is (same_itself opens scope.types one);
+    covered = λ orderly held index one at. last_covered new covered held index one (got_behind scope.mentions new index one at);
     orderly = λ orderly. record {
       objects = orderly.objects;
       functions = orderly.functions;
-      things = λ other found is. known_thing opens scope (with_mention one scope) refl refl refl refl found (orderly.things other found is);
+      things = λ other found is. known_thing opens scope (with_mention new scope) refl refl refl refl found (orderly.things other found is);
       numbers = orderly.numbers;
     };
   }
@@ -142,6 +150,7 @@ module _ (opens : List ℕ) (scope : CScope) where
     statics = λ number is. is;
     objects = λ number one nothing is. is;
     things = λ other one is. kept_is opens scope.types one one (thing_named other scope.things) is (same_itself opens scope.types one);
+    covered = λ orderly held. held;
     orderly = λ orderly. record {
       objects = orderly.objects;
       functions = orderly.functions;
@@ -151,12 +160,6 @@ module _ (opens : List ℕ) (scope : CScope) where
   }
 
 -- ---- objects
-
-pub got_behind : {X : Type 0} (xs : List X) (new : X) (index : ℕ) (one : X) → slice_get (xs ++ new ∷ []) index ≡ Some one → (slice_get xs index ≡ Some one) ⊎ (new ≡ one)
-got_behind [] new zero one is = inr cc
-got_behind [] new (suc index) one is = absurd cc
-got_behind (first ∷ xs) new zero one is = inl is
-got_behind (first ∷ xs) new (suc index) one is = got_behind xs new index one is
 
 -- what lives as long as the program goes on so
 linked_or : (a b c d : Bool) → (a ≡ true → c ≡ true) → (b ≡ true → d ≡ true) → (a || b) ≡ true → (c || d) ≡ true
@@ -213,6 +216,7 @@ module _ (opens : List ℕ) (scope : CScope) (new : CObject) (next : new.object 
     objects = λ number one nothing is. kept_before scope.objects (new ∷ []) number one is;
     statics = λ number is. more_static scope.literals number scope.objects (new ∷ []) is;
     things = λ other one is. kept_is opens scope.types one one (thing_named other scope.things) is (same_itself opens scope.types one);
+    covered = λ orderly held. held;
     orderly = λ orderly. record {
       objects = orderly.objects;
       functions = orderly.functions;
@@ -325,6 +329,7 @@ module _ (opens : List ℕ) (scope : CScope) (number : ℕ) (change : CObject �
     objects = λ index one nothing is.
         mapped_at change_one scope.objects index one is ∙ ap (λ x. Some x) (changed_if number change one (one.object == number) refl nothing (linked index one is));
     things = λ other one is. kept_is opens scope.types one one (thing_named other scope.things) is (same_itself opens scope.types one);
+    covered = λ orderly held. held;
     orderly = λ orderly. record {
       objects = orderly.objects;
       functions = orderly.functions;

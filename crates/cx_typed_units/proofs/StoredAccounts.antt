@@ -1,5 +1,5 @@
 -- What a unit keeps account of stays right where an object without linkage has its value (ISO C99, 6.7.8).
-use Rattle.std.proofs.Common.{◌≡◌, ◌⊎◌, inl, inr, ℕ, ◌==◌, Bool, true, false, if◌then◌else◌, List, map, Option, None, Some, slice_get, refl, sym, ap, ◌∙◌, subst}
+use Rattle.std.proofs.Common.{◌≡◌, ℕ, ◌==◌, Bool, true, false, if◌then◌else◌, List, map, Option, Some, slice_get, refl, sym, ap, ◌∙◌, subst}
 use Rattle.cx_core.specs.declared.program.Linkage.{Linkage}
 use Rattle.cx_core.specs.declared.program.Linkage.TheVariants.{Nothing}
 use Rattle.cx_core.specs.Trees.{CTy, form_of_type, CObject}
@@ -82,10 +82,12 @@ module _ (opens : List ℕ) (pending : Option (List ℕ)) (few : CAccount) (held
         apart = numbered.made.apart;
         objects_below = numbered.below;
         literals_below = numbered.made.below;
+        literals = held.literals;
         objects = λ at one found.
             let before = got_mapped change_one few.objects at one found in
             known_by at before.0 one (before.0.object == number) refl before.1 before.2;
         listed = held.listed;
+        things_differ = held.things_differ;
         object_things = λ name one there is. thing_later name one there (held.object_things name one there is);
         function_things = λ name one there is.
             let was = held.function_things name one there is in

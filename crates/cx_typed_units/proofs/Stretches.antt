@@ -1,25 +1,25 @@
 -- Stretches of statements one behind another.
-use Rattle.std.proofs.Common.{◌≡◌, ℕ, ◌≤◌, ◌<◌, Bool, true, false, List, [], ◌∷◌, ◌++◌, length, Option, None, Some, slice_get, refl, sym, ap, ◌∙◌, subst, arith}
+use Rattle.std.proofs.Common.{◌≡◌, inl, inr, ℕ, ◌≤◌, ◌<◌, Bool, true, false, not, ◌&&◌, ◌||◌, List, [], ◌∷◌, ◌++◌, length, Option, None, Some, is_some, slice_get, refl, sym, ap, ◌∙◌, subst, arith}
 use Rattle.std.specs.Prelude.{IsSome, IfSome}
 use Rattle.cx_core.specs.declared.program.Linkage.{Linkage}
-use Rattle.cx_core.specs.declared.program.Linkage.TheVariants.{Nothing}
-use Rattle.cx_core.specs.Compatible.{AreCompatible}
-use Rattle.cx_core.specs.Trees.{CTy, CTypes, CObject, CProgram}
+use Rattle.cx_core.specs.declared.program.Linkage.TheVariants.{External, Internal, Nothing}
+use Rattle.cx_core.specs.Trees.{CTy, CTypes, CObject, CProgram, CMention}
 use Rattle.cx_core.specs.Typing.{CHome, CCallee, object_with, callee_with}
 use Rattle.cx_rules.specs.Declare.{thing_named}
 use Rattle.cx_rules.specs.Pieces.{is_static_object}
-use Rattle.cx_rules.specs.Scope.{CMeant, CDeclared, CThing, CScope, new_scope, ordinary}
+use Rattle.cx_rules.specs.Scope.{CMeant, an_object, a_function, a_type_name, an_enumerator, a_tag, CThing, CScope, new_scope, ordinary}
 use Rattle.cx_typed.proofs.Numbered.{statics_stay}
 use Rattle.cx_typed.proofs.Scopes.{longer, grows_not, grows_on}
 use Rattle.cx_typed.proofs.Walked.{known_stays}
 use Rattle.cx_typed.specs.Growth.{Grows}
 use Rattle.cx_typed.specs.Operands.{IsKnownType}
 use Rattle.cx_typed.specs.Scopes.{Passes, CRest as TypedRest}
+use Rattle.cx_typed_units.proofs.Covering.{covers_itself, covers_through}
 use Rattle.cx_typed_units.proofs.RestNodes.{StaysTo}
-use Rattle.cx_typed_units.specs.Rest.{CRest}
+use Rattle.cx_typed_units.specs.Rest.{CRest, is_defining, linked_type, IsSaid}
 use Rattle.cx_typed_units.specs.Account.{account_of, IsAccounted}
 use Rattle.cx_typed_units.specs.Fills.{Fills}
-use Rattle.cx_typed_units.specs.Stretches.{IsSameThing, IsKept, IsThing, IsThingOf, IsKnownThing, IsOrderly, Continues, Leads, DeclaresNone, IsLinkedObject, IsLinkedFunction, IsLinkedBy, Backs, HoldsAll, AreTypedUpTo}
+use Rattle.cx_typed_units.specs.Stretches.{IsSameThing, IsKept, IsThing, IsThingOf, IsOrderly, IsDefinedAs, IsCovered, AreCovered, Continues, Leads, DeclaresNone, IsLinkedObject, IsLinkedFunction, IsLinkedBy, Backs, HoldsAll, AreTypedUpTo}
 
 -- what an expression leaves as it is, as expressions say it
 abbrev typed_rest : CRest → TypedRest
@@ -40,6 +40,18 @@ joined : {X : Type 0} (xs ys zs : List X) → xs ++ (ys ++ zs) ≡ (xs ++ ys) ++
 joined [] ys zs = refl
 joined (first ∷ xs) ys zs = ap (λ others. first ∷ others) (joined xs ys zs)
 
+-- a definition stays
+or_second : (a b : Bool) → b ≡ true → (a || b) ≡ true
+or_second true b is = refl
+or_second false b is = is
+
+definition_stays : (defined code tentative later later_code later_tentative : Bool) → (defined ≡ true → later ≡ true) → later_code ≡ code → (tentative ≡ true → later_tentative ≡ true)
+    → (defined || (not code && tentative)) ≡ true → (later || (not later_code && later_tentative)) ≡ true
+definition_stays true code tentative later later_code later_tentative stays same kept is = ap (λ b. b || (not later_code && later_tentative)) (stays refl)
+definition_stays false true tentative later later_code later_tentative stays same kept is = absurd cc
+definition_stays false false tentative later later_code later_tentative stays same kept is =
+    or_second later (not later_code && later_tentative) (ap (λ b. not b && later_tentative) same ∙ kept is)
+
 -- a place in a block with these objects
 abbrev pub home_in : List ℕ → CHome → CHome
 home_in objects home = record home { scope = objects ++ home.scope }
@@ -55,6 +67,7 @@ pub record Steps (opens : List ℕ) (before after : CScope) : Type 0 where
   pub objects : (number : ℕ) (one : CObject) → one.linkage ≡ Nothing → slice_get before.objects number ≡ Some one → slice_get after.objects number ≡ Some one
   pub things : (name : List ℕ) (one : CThing) → thing_named name before.things ≡ Some one → IsKept opens after.types one (thing_named name after.things)
   pub orderly : IsOrderly opens before → IsOrderly opens after
+  pub covered : IsOrderly opens before → AreCovered opens before → AreCovered opens after
   pub functions_are : after.functions ≡ before.functions
   pub statics : (number : ℕ) → is_static_object before number ≡ true → is_static_object after number ≡ true
 
@@ -99,16 +112,36 @@ module _ (opens : List ℕ) where
   found_kept types one (Some other) held = (other, refl, held.1)
 
   pub same_itself : (types : CTypes) (one : CThing) → IsSameThing opens types one one
-  same_itself types one = record { number_is = refl; linkage_is = refl; function_is = refl; fills = λ now grows counts other held. held; defined = λ is. is }
+  same_itself types one = record { number_is = refl; linkage_is = refl; function_is = refl; fills = λ now grows. covers_itself now one.type; defined = λ is. is; tentative = λ is. is }
 
   same_on : (middle after : CTypes) (one two three : CThing) → Grows opens middle after → IsSameThing opens middle one two → IsSameThing opens after two three → IsSameThing opens after one three
   same_on middle after one two three growth first second = record {
     number_is = second.number_is ∙ first.number_is;
     linkage_is = second.linkage_is ∙ first.linkage_is;
     function_is = second.function_is ∙ first.function_is;
-    fills = λ now grows counts other held. first.fills now (grows_on opens middle after now growth grows) counts other (second.fills now grows counts other held);
+    fills = λ now grows. covers_through now three.type two.type one.type (second.fills now grows) (first.fills now (grows_on opens middle after now growth grows));
     defined = λ is. second.defined (first.defined is);
+    tentative = λ is. second.tentative (first.tentative is);
   }
+
+  defined_later : (types : CTypes) (one other : CThing) (mention : CMention) → IsSameThing opens types one other → IsDefinedAs one mention → IsDefinedAs other mention
+  defined_later types one other mention same held = record {
+    linkage_is = same.linkage_is ∙ held.linkage_is;
+    defined =
+        definition_stays one.is_defined one.is_function (is_some one.tentative) other.is_defined other.is_function (is_some other.tentative) same.defined same.function_is same.tentative held.defined;
+  }
+
+  -- what the unit has of a name says no less later
+  pub covered_stays : (few many : CTypes) (things later : List CThing) → Grows opens few many
+      → ((name : List ℕ) (one : CThing) → thing_named name things ≡ Some one → IsKept opens many one (thing_named name later)) → (one : CMention) → IsCovered opens few things one → IsCovered opens many later one
+  covered_stays few many things later growth kept one held =
+      let there = found_kept many held.thing (thing_named one.name later) (kept one.name held.thing held.there) in
+      record {
+        thing = there.0;
+        there = there.1;
+        fills = λ now grows. covers_through now there.0.type held.thing.type one.type (there.2.fills now grows) (held.fills now (grows_on opens few many now growth grows));
+        defined = λ is. defined_later many held.thing there.0 one there.2 (held.defined is);
+      }
 
   -- ---- stretches
 
@@ -122,6 +155,7 @@ module _ (opens : List ℕ) where
     objects = λ number one nothing is. is;
     things = λ name one is. kept_is scope.types one one (thing_named name scope.things) is (same_itself scope.types one);
     orderly = λ held. held;
+    covered = λ orderly held. held;
     statics = λ number is. is;
   }
 
@@ -142,6 +176,7 @@ module _ (opens : List ℕ) where
     objects = λ number one nothing is. second.objects number one nothing (first.objects number one nothing is);
     things = things_on before middle after first second;
     orderly = λ held. second.orderly (first.orderly held);
+    covered = λ orderly held. second.covered (first.orderly orderly) (first.covered orderly held);
     statics = λ number is. second.statics number (first.statics number is);
   }
 
@@ -155,12 +190,13 @@ module _ (opens : List ℕ) where
     objects = leads.objects;
     things = leads.things;
     orderly = leads.orderly;
+    covered = leads.covered;
     statics = leads.statics;
   }
 
   pub leads_by : (before after : CScope) → Steps opens before after
-      → ((pending : Option (List ℕ)) → IsAccounted opens pending (account_of before) → IsAccounted opens pending (account_of after)) → (AreTypedUpTo opens before → AreTypedUpTo opens after)
-      → Leads opens before after
+      → ((pending : Option (List ℕ)) → IsAccounted opens pending (account_of before) → IsAccounted opens pending (account_of after))
+      → ((pending : Option (List ℕ)) → IsAccounted opens pending (account_of before) → AreTypedUpTo opens before → AreTypedUpTo opens after) → Leads opens before after
   leads_by before after steps keeps typed = record {
     declares = steps.declares;
     begins_is = steps.begins_is;
@@ -170,17 +206,19 @@ module _ (opens : List ℕ) where
     objects = steps.objects;
     things = steps.things;
     orderly = steps.orderly;
+    covered = steps.covered;
     statics = steps.statics;
     keeps = keeps;
     typed = typed;
   }
 
   pub leads_itself : (scope : CScope) → Leads opens scope scope
-  leads_itself scope = leads_by scope scope (steps_itself scope) (λ pending held. held) (λ held. held)
+  leads_itself scope = leads_by scope scope (steps_itself scope) (λ pending held. held) (λ pending account held. held)
 
   pub leads_on : (before middle after : CScope) → Leads opens before middle → Leads opens middle after → Leads opens before after
   leads_on before middle after first second =
-      leads_by before after (steps_on before middle after (steps_of before middle first) (steps_of middle after second)) (λ pending held. second.keeps pending (first.keeps pending held)) (λ held. second.typed (first.typed held))
+      leads_by before after (steps_on before middle after (steps_of before middle first) (steps_of middle after second)) (λ pending held. second.keeps pending (first.keeps pending held))
+      (λ pending account held. second.typed pending (first.keeps pending account) (first.typed pending account held))
 
   -- ---- names with linkage in a later scope
 
@@ -190,7 +228,7 @@ module _ (opens : List ℕ) where
     number_is = same.number_is ∙ held.number_is;
     linkage_is = same.linkage_is ∙ held.linkage_is;
     function_is = same.function_is ∙ held.function_is;
-    fills = λ now grows counts x is. held.fills now (grows_on opens few many now growth grows) counts x (same.fills now grows counts x is);
+    fills = λ now grows. covers_through now other.type one.type type (same.fills now grows) (held.fills now (grows_on opens few many now growth grows));
   }
 
   found_by : (P Q : CThing → Type 0) (few many : Option CThing) → IsSome few × IfSome few P → ((one : CThing) → few ≡ Some one → IsSome many × IfSome many (λ other. P one → Q other))
@@ -244,6 +282,59 @@ module _ (opens : List ℕ) where
           let h : object.object < before.next_object = held.numbers index object (subst (λ objects. slice_get objects index ≡ Some object) objects_are at) in omega (arith, h, stays.more);
     }
 
+    found_covered : (name : List ℕ) (number : ℕ) (type : CTy) (linkage : Linkage) (is_function : Bool) (found : Option CThing) → thing_named name before.things ≡ found
+        → IsSome found × IfSome found (IsThing opens before.types number type linkage is_function) → (thing : CThing) × (thing_named name before.things ≡ Some thing) × Fills opens before.types type thing.type
+    found_covered name number type linkage is_function None there held = absurd (let h : false ≡ true = held.0 in cc)
+    found_covered name number type linkage is_function (Some thing) there held = (thing, there, held.1.fills)
+
+    same_type : {one other : CTy} → Some one ≡ Some other → one ≡ other
+    same_type e = cc
+
+    -- the unit has what is visible
+    visible_covered : IsOrderly opens before → (name : List ℕ) (type : CTy) (meant : Option CMeant) → ordinary name before.declared ≡ meant → linked_type meant ≡ Some type
+        → (thing : CThing) × (thing_named name before.things ≡ Some thing) × Fills opens before.types type thing.type
+    visible_covered orderly name type None is seen = absurd cc
+    visible_covered orderly name type (Some (an_object number was is_register External)) is seen =
+        subst (λ found. (thing : CThing) × (thing_named name before.things ≡ Some thing) × Fills opens before.types found thing.type) (same_type seen)
+        (found_covered name number was External false (thing_named name before.things) refl (orderly.objects name number was is_register External is refl))
+    visible_covered orderly name type (Some (an_object number was is_register Internal)) is seen = absurd cc
+    visible_covered orderly name type (Some (an_object number was is_register Nothing)) is seen = absurd cc
+    visible_covered orderly name type (Some (a_function number was linkage)) is seen =
+        subst (λ found. (thing : CThing) × (thing_named name before.things ≡ Some thing) × Fills opens before.types found thing.type) (same_type seen)
+        (found_covered name number was linkage true (thing_named name before.things) refl (orderly.functions name number was linkage is).1)
+    visible_covered orderly name type (Some (a_type_name was)) is seen = absurd cc
+    visible_covered orderly name type (Some (an_enumerator value)) is seen = absurd cc
+    visible_covered orderly name type (Some (a_tag is_record is_open number)) is seen = absurd cc
+
+    -- nothing is told of as defined that wasn't before
+    defined_so : (one : CMention) → (is_defining one.does ≡ true → IsCovered opens before.types before.things one) → (thing : CThing) → thing_named one.name before.things ≡ Some thing
+        → is_defining one.does ≡ true → IsDefinedAs thing one
+    defined_so one early thing there is =
+        let known = early is in subst (λ (x : CThing). IsDefinedAs x one) (same_found (sym known.there ∙ there)) (known.defined is)
+      where
+        same_found : {x y : CThing} → Some x ≡ Some y → x ≡ y
+        same_found e = cc
+
+    said_covered : IsOrderly opens before → AreCovered opens before → (one : CMention) → (is_defining one.does ≡ true → IsCovered opens before.types before.things one)
+        → IsSaid before.mentions before.declared one → IsCovered opens before.types before.things one
+    said_covered orderly held one defining (inl was) =
+        let early = held was.index was.one was.at in
+        let there = subst (λ name. thing_named name before.things ≡ Some early.thing) was.name_is early.there in
+        record {
+          thing = early.thing;
+          there = there;
+          fills = subst (λ type. Fills opens before.types type early.thing.type) was.type_is early.fills;
+          defined = defined_so one defining early.thing there;
+        }
+    said_covered orderly held one defining (inr seen) =
+        let found = visible_covered orderly one.name one.type (ordinary one.name before.declared) refl seen in
+        record { thing = found.0; there = found.1; fills = found.2; defined = defined_so one defining found.0 found.1 }
+
+    rest_covered : IsOrderly opens before → AreCovered opens before → AreCovered opens after
+    rest_covered orderly held index one at =
+        covered_stays before.types after.types before.things after.things declares.grows rest_things one
+        (said_covered orderly held one (λ is. held index one (stays.defined index one at is)) (stays.said index one at))
+
     rest_statics : (number : ℕ) → is_static_object before number ≡ true → is_static_object after number ≡ true
     rest_statics = statics_stay before after declares.literals (ap {A = CRest} {B = TypedRest} typed_rest stays.rest_is)
 
@@ -257,6 +348,7 @@ module _ (opens : List ℕ) where
       objects = λ number one nothing is. subst (λ (other : CRest). slice_get other.objects number ≡ Some one) (sym stays.rest_is) is;
       things = rest_things;
       orderly = rest_orderly;
+      covered = rest_covered;
       statics = rest_statics;
     }
 
@@ -264,7 +356,7 @@ module _ (opens : List ℕ) where
 
   module _ (types : CTypes) (program : CProgram) (growth : Grows opens types program.types) (name : List ℕ) (one other : CThing) (same : IsSameThing opens types one other) where
     filled : (earlier : CTy) → Fills opens program.types earlier one.type → Fills opens program.types earlier other.type
-    filled earlier first later grows counts x held = first later grows counts x (same.fills later (grows_on opens types program.types later growth grows) counts x held)
+    filled earlier first later grows = covers_through later other.type one.type earlier (same.fills later (grows_on opens types program.types later growth grows)) (first later grows)
 
     object_back : (found : CObject) → IsLinkedObject program.types opens name other found → IsLinkedObject program.types opens name one found
     object_back found held = record {

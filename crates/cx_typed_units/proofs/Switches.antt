@@ -1,11 +1,10 @@
 -- `switch` (ISO C99, 6.8.4.2).
-use Rattle.std.proofs.Common.{◌≡◌, ℕ, ℤ, zero, suc, ◌<◌, ◌≤◌, ◌+◌, Bool, true, false, not, ◌||◌, List, [], ◌∷◌, ◌++◌, length, Option, None, Some, option_map, slice_get, refl, sym, ap, ◌∙◌, subst, arith}
+use Rattle.std.proofs.Common.{◌≡◌, ℕ, ℤ, zero, suc, ◌<◌, ◌≤◌, ◌+◌, Bool, true, false, ◌||◌, List, [], ◌∷◌, length, Option, Some, option_map, slice_get, refl, sym, ap, ◌∙◌, subst, arith}
 use Rattle.std.proofs.lemmas.Bool.Decides.{Decides-int_eq}
 use Rattle.std.specs.Ordering.{int_eq}
 use Rattle.cx_core.specs.Conversions.{basic_of, basic_of_enum, IsPromoted}
-use Rattle.cx_core.specs.Statements.{CBody, IsSwitch, IsTypedStmtForm, within_switch, labels_in, cases_in, defaults_in}
+use Rattle.cx_core.specs.Statements.{CBody, IsSwitch, IsTypedStmtForm, within_switch, labels_in, defaults_in, objects_in}
 use Rattle.cx_core.specs.Trees.{CTy, ty, CTyForm, void, basic, enum_type, pointer, array, record_type, function, form_of_type, CTypes, CStmt, switch, type_of}
-use Rattle.cx_core.specs.Typing.{CHome, IsTyped}
 use Rattle.cx_core.specs.ValidTypes.{IsTypeIn, AreTypes}
 use Rattle.cx_rules.proofs.UnitNodesAgree.{s_switch_begins, s_whole_ends}
 use Rattle.cx_rules.specs.Lines.{own_line}
@@ -18,7 +17,7 @@ use Rattle.cx_rules.specs.Types.{is_integer}
 use Rattle.cx_rules.specs.UnitWalk.{CWhere, CWithin, in_switch, labels_of, literals_since}
 use Rattle.cx_tree.specs.Trees.{ExprTree, StmtTree, Switch}
 use Rattle.cx_typed.proofs.Conversions.{promoted_found, promotes, IsConverted}
-use Rattle.cx_typed.proofs.Goes.{go_gives, go_here_then, go_chain, go_changed}
+use Rattle.cx_typed.proofs.Goes.{go_here_then, go_chain, go_changed}
 use Rattle.cx_typed.proofs.Promoted.{neither, not_not, promoted_there}
 use Rattle.cx_typed.proofs.Scopes.{within}
 use Rattle.cx_typed.proofs.Single.{no_less}
@@ -32,7 +31,8 @@ use Rattle.cx_typed_units.proofs.Around.{orderly_labels, with_labels, good_label
 use Rattle.cx_typed_units.proofs.Blocks.{literal_blocks, serves_of, all_on}
 use Rattle.cx_typed_units.proofs.Conditions.{operand_later, go_tested}
 use Rattle.cx_typed_units.proofs.Labels.{adds_none, labels_from}
-use Rattle.cx_typed_units.proofs.Stretches.{leads_itself, leads_on, backs_first, backs_second}
+use Rattle.cx_typed_units.proofs.Once.{once_both, literals_once}
+use Rattle.cx_typed_units.proofs.Stretches.{leads_on, backs_first, backs_second}
 use Rattle.cx_typed_units.proofs.Valued.{IsValued}
 use Rattle.cx_typed_units.proofs.Whole.{go_whole, scoped_goes, IsWhole, whole_is}
 use Rattle.cx_typed_units.specs.Labels.{count_of, AddsLabels}
@@ -165,6 +165,7 @@ module _ (opens : List ℕ) (where_is : CWhere) (on : ExprTree) (inner : StmtTre
       (leads_labels opens (with_cases middle.body last.body) (entered scope) last (leads_on opens (entered scope) middle last tested.leads first_leads))
       (good_labels opens (with_cases middle.body last.body) last first.good) (at_line last (own_line lines)) (literals_since scope middle) (switch (promoted_value last.types test) one)
       (λ switchable. labels_from middle.body scope.body (with_cases middle.body last.body) _ _ _ tested.body_is own_adds) first.labels_are
+      (once_both scope.next_object middle.next_object last.next_object (literals_since scope middle) (objects_in one) (literals_once (entered scope) middle tested.is_expr.passes.numbers) first.numbers)
       (λ home backs.
       literal_blocks home opens (entered scope) middle (backs_first opens home (entered scope) middle last (backs_labels opens (with_cases middle.body last.body) home (entered scope) last backs) first_leads))
       (λ body stands backs known inside. switch_form body stands (backs_labels opens (with_cases middle.body last.body) body.home (entered scope) last backs) known inside)

@@ -1,13 +1,11 @@
 -- What a unit keeps account of stays right where a name with linkage is declared, for the first time or once more (ISO C99, 6.2.2, 6.2.7p4).
-use Rattle.std.proofs.Common.{◌≡◌, ◌⊎◌, inl, inr, ℕ, ◌<◌, ◌≤◌, Bool, true, false, List, [], ◌∷◌, ◌++◌, Option, None, Some, is_some, slice_get, refl, sym, ap, ◌∙◌, subst, arith}
-use Rattle.cx_core.specs.declared.program.Linkage.{Linkage}
-use Rattle.cx_core.specs.Trees.{CTypes, CObject, CFun, CMention}
-use Rattle.cx_rules.specs.Declare.{is_linked, thing_named}
-use Rattle.cx_rules.specs.Scope.{CMade, CThing}
-use Rattle.cx_typed.specs.Growth.{Gives}
+use Rattle.std.proofs.Common.{◌≡◌, ◌⊎◌, inl, inr, ℕ, ◌<◌, ◌≤◌, true, false, List, Option, Some, slice_get, sym, ap, ◌∙◌, subst, arith}
+use Rattle.cx_core.specs.Trees.{CObject, CFun, CMention}
+use Rattle.cx_rules.specs.Declare.{thing_named}
+use Rattle.cx_rules.specs.Scope.{CThing}
 use Rattle.cx_typed_units.proofs.Accounted.{told_named}
 use Rattle.cx_typed_units.proofs.ObjectNumbers.{AreNumbered}
-use Rattle.cx_typed_units.specs.Account.{CAccount, IsToldAs, IsObjectNamed, IsKnownObject, IsObjectThing, IsDefinedBy, IsFunctionThing, IsKnownFun, IsAccounted}
+use Rattle.cx_typed_units.specs.Account.{CAccount, IsObjectNamed, IsKnownObject, IsObjectThing, IsDefinedBy, IsFunctionThing, IsKnownFun, IsAccounted, AreNamedApart}
 
 -- what a name with linkage stands for, once another may have been declared
 pub record IsOnward (name : List ℕ) (things : List CThing) (was : CThing) : Type 0 where
@@ -22,6 +20,7 @@ pub record AreDeclared (few many : List CThing) (name : List ℕ) (new : CThing)
   pub kept : (other : List ℕ) (was : CThing) → thing_named other few ≡ Some was → IsOnward other many was
   pub were : (other : List ℕ) (one : CThing) → thing_named other many ≡ Some one → ((thing_named other few ≡ Some one) × (other ≡ name → ⊥)) ⊎ ((other ≡ name) × (one ≡ new))
   pub listed : (index : ℕ) (one : CThing) → slice_get many index ≡ Some one → thing_named one.name many ≡ Some one
+  pub differ : AreNamedApart few → AreNamedApart many
 
 pub named_onward : (few many : List CThing) (name : List ℕ) (new : CThing) → AreDeclared few many name new → (one : CObject) → IsObjectNamed few one → IsObjectNamed many one
 named_onward few many name new declared one was =
@@ -165,8 +164,10 @@ module _ (opens : List ℕ) (pending later : Option (List ℕ)) (few : CAccount)
       apart = changed.numbered.made.apart;
       objects_below = changed.numbered.below;
       literals_below = changed.numbered.made.below;
+      literals = held.literals;
       objects = λ index one at. known_by index one (changed.known index one at);
       listed = declared.listed;
+      things_differ = declared.differ held.things_differ;
       object_things = λ other one there object. object_by other one object (declared.were other one there);
       function_things = λ other one there function. functions_by other one function (declared.were other one there);
       functions_differ = λ first second one two at there f g same. differ_by first second one two f g same (declared.were first one at) (declared.were second two there);

@@ -1,5 +1,5 @@
 -- The names with linkage, once there is one more, and where one is declared once more (ISO C99, 6.2.2).
-use Rattle.std.proofs.Common.{◌≡◌, ◌⊎◌, inl, inr, ℕ, Bool, true, false, if◌then◌else◌, List, [], ◌∷◌, ◌++◌, map, length, Option, None, Some, slice_get, bytes_eq, refl, sym, ap, ◌∙◌, subst}
+use Rattle.std.proofs.Common.{◌≡◌, ◌⊎◌, inl, inr, ℕ, Bool, true, false, if◌then◌else◌, List, [], ◌∷◌, ◌++◌, length, None, Some, slice_get, bytes_eq, refl, sym, ap, ◌∙◌, subst}
 use Rattle.std.proofs.lemmas.Slice.Eq.{bytes_eq-Decides}
 use Rattle.cx_rules.specs.Declare.{thing_named}
 use Rattle.cx_rules.specs.Scope.{CThing}
@@ -7,6 +7,7 @@ use Rattle.cx_typed_units.proofs.Named.{kept_in_front, IsFoundBehind, before, be
 use Rattle.cx_typed_units.proofs.ObjectNumbers.{got_last}
 use Rattle.cx_typed_units.proofs.Steps.{got_mapped}
 use Rattle.cx_typed_units.proofs.ThingAccounts.{IsOnward, AreDeclared}
+use Rattle.cx_typed_units.specs.Account.{AreNamedApart}
 
 module _ (few : List CThing) (listed_few : (index : ℕ) (one : CThing) → slice_get few index ≡ Some one → thing_named one.name few ≡ Some one) where
   -- ---- one more
@@ -26,6 +27,13 @@ module _ (few : List CThing) (listed_few : (index : ℕ) (one : CThing) → slic
     new_listed index one (inl at) = kept_in_front one.name few (new ∷ []) one (listed_few index one at)
     new_listed index one (inr at) = subst (λ (x : CThing). thing_named x.name (few ++ new ∷ []) ≡ Some x) at.1 (found_last new.name few new none same_name)
 
+    differ_by : AreNamedApart few → (first second : ℕ) (one other : CThing) → one.name ≡ other.name → (slice_get few first ≡ Some one) ⊎ ((first ≡ length few) × (new ≡ one))
+        → (slice_get few second ≡ Some other) ⊎ ((second ≡ length few) × (new ≡ other)) → first ≡ second
+    differ_by held first second one other same (inl at) (inl there) = held first second one other at there same
+    differ_by held first second one other same (inl at) (inr there) = absurd (not_new one.name one (listed_few first one at) (same ∙ ap (λ (x : CThing). x.name) (sym there.1)))
+    differ_by held first second one other same (inr at) (inl there) = absurd (not_new other.name other (listed_few second other there) (sym same ∙ ap (λ (x : CThing). x.name) (sym at.1)))
+    differ_by held first second one other same (inr at) (inr there) = at.0 ∙ sym there.0
+
     pub one_more_declared : AreDeclared few (few ++ new ∷ []) new.name new
     one_more_declared = record {
       kept = λ other was there. record {
@@ -37,6 +45,7 @@ module _ (few : List CThing) (listed_few : (index : ℕ) (one : CThing) → slic
       };
       were = λ other one there. new_were other one (found_behind other few new one there);
       listed = λ index one at. new_listed index one (got_last few new index one at);
+      differ = λ held first second one other at there same. differ_by held first second one other same (got_last few new first one at) (got_last few new second other there);
     }
 
   -- ---- once more
@@ -87,4 +96,9 @@ module _ (few : List CThing) (listed_few : (index : ℕ) (one : CThing) → slic
           let was = got_mapped (same_thing name new) few index one at in
           subst (λ n. thing_named n (set_thing name new few) ≡ Some one) (name_kept was.0 one (bytes_eq was.0.name name) refl was.2)
           (found_set name was.0.name new few was.0 (names_same was.0.name) (listed_few index was.0 was.1) ∙ ap (λ x. Some x) was.2);
+      differ = λ held first second one other at there same.
+          let was = got_mapped (same_thing name new) few first one at in
+          let also = got_mapped (same_thing name new) few second other there in
+          held first second was.0 also.0 was.1 also.1
+          (name_kept was.0 one (bytes_eq was.0.name name) refl was.2 ∙ (same ∙ sym (name_kept also.0 other (bytes_eq also.0.name name) refl also.2)));
     }

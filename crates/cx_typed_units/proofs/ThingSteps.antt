@@ -1,7 +1,6 @@
 -- Names with linkage are declared, for the first time or once more (ISO C99, 6.2.2, 6.2.7p4).
-use Rattle.std.proofs.Common.{◌≡◌, ℕ, ◌<◌, ◌≤◌, Bool, true, false, if◌then◌else◌, List, [], ◌∷◌, ◌++◌, Option, None, Some, slice_get, bytes_eq, refl, sym, ap, ◌∙◌, subst, arith}
+use Rattle.std.proofs.Common.{◌≡◌, ℕ, ◌<◌, Bool, true, false, if◌then◌else◌, List, [], ◌∷◌, ◌++◌, Some, bytes_eq, refl, sym, ap, ◌∙◌, subst, arith}
 use Rattle.std.proofs.lemmas.Slice.Eq.{bytes_eq-Decides}
-use Rattle.cx_core.specs.Trees.{CTy, CObject}
 use Rattle.cx_rules.specs.Declare.{is_linked, thing_named}
 use Rattle.cx_rules.specs.Scope.{CThing, CScope}
 use Rattle.cx_rules.specs.Types.{is_function}
@@ -9,7 +8,7 @@ use Rattle.cx_typed.proofs.Scopes.{grows_not}
 use Rattle.cx_typed.specs.Operands.{IsKnownType}
 use Rattle.cx_typed_units.proofs.Around.{known_thing}
 use Rattle.cx_typed_units.proofs.Named.{kept_in_front, IsFoundBehind, before, behind, found_behind, same_thing, set_thing, found_set, found_before, has_name}
-use Rattle.cx_typed_units.proofs.Stretches.{Steps, kept_is, same_itself, thing_on}
+use Rattle.cx_typed_units.proofs.Stretches.{Steps, kept_is, same_itself, thing_on, covered_stays}
 use Rattle.cx_typed_units.specs.Stretches.{IsSameThing, IsKept, IsKnownThing, IsOrderly}
 
 -- ---- for the first time
@@ -42,6 +41,7 @@ module _ (opens : List ℕ) (scope : CScope) (new : CThing) (known : IsKnownThin
     statics = λ number is. is;
     objects = λ number one nothing is. is;
     things = thing_kept;
+    covered = λ orderly held index one at. covered_stays opens scope.types scope.types scope.things (scope.things ++ new ∷ []) (grows_not opens scope.types) thing_kept one (held index one at);
     orderly = λ orderly. record {
       objects = λ name number type is_register linkage is linked.
           thing_on opens scope (with_new_thing new scope) (grows_not opens scope.types) thing_kept name number type linkage false (orderly.objects name number type is_register linkage is linked);
@@ -111,6 +111,7 @@ module _ (opens : List ℕ) (scope : CScope) (name : List ℕ) (old new : CThing
     statics = λ number is. is;
     objects = λ number one nothing is. is;
     things = set_kept;
+    covered = λ orderly held index one at. covered_stays opens scope.types scope.types scope.things (set_thing name new scope.things) (grows_not opens scope.types) set_kept one (held index one at);
     orderly = λ orderly. record {
       objects = λ other number type is_register linkage is linked.
           thing_on opens scope (with_set_thing name new scope) (grows_not opens scope.types) set_kept other number type linkage false (orderly.objects other number type is_register linkage is linked);

@@ -1,5 +1,5 @@
 -- The walk over declarators without initialisers in blocks (ISO C99, 6.7).
-use Rattle.std.proofs.Common.{◌≡◌, ℕ, nat_lt, ◌≤◌, Bool, true, false, not, ◌&&◌, ◌||◌, if◌then◌else◌, List, [], ◌∷◌, ◌++◌, length, Option, None, Some, is_some, slice_get, refl, sym, ap, ◌∙◌, subst, arith}
+use Rattle.std.proofs.Common.{◌≡◌, ℕ, nat_lt, ◌≤◌, Bool, true, false, not, ◌&&◌, ◌||◌, if◌then◌else◌, List, [], ◌∷◌, ◌++◌, length, Option, None, Some, slice_get, refl, sym, ap, ◌∙◌, subst, arith, suc, ◌+◌}
 use Rattle.std.specs.Prelude.{IsSome, IfSome}
 use Rattle.std.specs.List.{Contains}
 use Rattle.cr_base.specs.declared.refusal.Place.{Place as TextPlace}
@@ -7,20 +7,19 @@ use Rattle.cx_core.proofs.Relation.{compatible_reflexive}
 use Rattle.cx_core.specs.declared.program.Linkage.{Linkage}
 use Rattle.cx_core.specs.declared.program.Linkage.TheVariants.{External, Internal, Nothing}
 use Rattle.cx_core.specs.Layouts.{whole_extent, layouts_of}
-use Rattle.cx_core.specs.Trees.{CTy, CTypes, form_of_type, CPuts, no_puts, CObject, stmt, begin, uses}
+use Rattle.cx_core.specs.Trees.{CTy, CTypes, CPuts, no_puts, CObject, stmt, begin, uses}
 use Rattle.cx_core.specs.Typing.{CHome, object_with, IsThere, IsMentioned}
 use Rattle.cx_core.specs.ValidTypes.{IsComplete}
 use Rattle.cx_lex.specs.declared.token.Keyword.TheVariants as keyword
 use Rattle.cx_rules.proofs.UnitNodesAgree.{s_init_walk, s_declared_ends, s_named_walk}
 use Rattle.cx_rules.specs.declared.kinds.SpecsPlace.{SpecsPlace}
-use Rattle.cx_rules.specs.Declare.{is_linked, is_outside, is_typedef, linkage_of, thing_named, CBegun, CDeclaring, declaring, begun_as, with_declaration}
+use Rattle.cx_rules.specs.Declare.{is_linked, is_outside, is_typedef, thing_named, CDeclaring, declaring, begun_as, with_declaration}
 use Rattle.cx_rules.specs.Initial.{CStored}
 use Rattle.cx_rules.specs.Nodes.{CNode, declares_node}
-use Rattle.cx_rules.specs.Pieces.{at_line}
-use Rattle.cx_rules.specs.Rules.{lacks_size, is_unlinked}
-use Rattle.cx_rules.specs.Scope.{CMeant, an_object, a_function, a_type_name, CThing, CScope, ordinary}
+use Rattle.cx_rules.specs.Rules.{is_unlinked}
+use Rattle.cx_rules.specs.Scope.{an_object, a_type_name, CThing, CScope}
 use Rattle.cx_rules.specs.Shapes.{CSpecs, CShape, has_storage}
-use Rattle.cx_rules.specs.Types.{is_function, is_void, is_incomplete, is_too_large, has_size, too_large}
+use Rattle.cx_rules.specs.Types.{is_function, is_void, is_incomplete, is_too_large, has_size}
 use Rattle.cx_rules.specs.UnitWalk.{CMeant as CMeaning, nothing_meant, name_or_none, literals_since, declared_meant, clashes_behind}
 use Rattle.cx_rules.specs.Readings.{seen_chain}
 use Rattle.cx_typed.proofs.Derived.{small_whole, fits_by, sized_by}
@@ -34,12 +33,14 @@ use Rattle.cx_typed.specs.Walked.{IsGood, Ends}
 use Rattle.cx_typed_units.proofs.Begun.{IsBegunAs, function_form}
 use Rattle.cx_typed_units.proofs.DeclarationAccounts.{IsAccountable, found_goes, plain_accounted}
 use Rattle.cx_typed_units.proofs.Declared.{object_held, function_held, one_more_held, only_literals, plain_declared, begun_declared}
-use Rattle.cx_typed_units.proofs.Entities.{new_object, linked_number, agree_function}
+use Rattle.cx_typed_units.proofs.Entities.{new_object, linked_number, agree_function, linked_function, linked_object}
 use Rattle.cx_typed_units.proofs.FilledObjects.{declared_filled}
 use Rattle.cx_typed_units.proofs.Fine.{meant_by, static_puts, entity_by, declared_by, declaration_is, told_by, IsFine, no_linkage, begun_is, unclashed, fine_is}
 use Rattle.cx_typed_units.proofs.FirstInternal.{first_internal}
+use Rattle.cx_typed_units.proofs.Once.{once_first, nothing_once}
 use Rattle.cx_typed_units.proofs.Stretches.{leads_by, backs_from, holds_earlier}
 use Rattle.cx_typed_units.specs.Account.{account_of, IsAccounted}
+use Rattle.cx_typed_units.specs.Once.{AreOnce}
 use Rattle.cx_typed_units.specs.Statements.{IsDeclaration}
 use Rattle.cx_typed_units.specs.Stretches.{IsOrderly, Leads, Backs, IsHeldAt, HoldsAll, AreTypedUpTo}
 
@@ -65,6 +66,39 @@ if_object false number = None
 abbrev pub meaning_by : (in_function linked static typedef is_fun : Bool) → TextPlace → Bool → CPuts → ℕ → List ℕ → CMeaning
 meaning_by in_function linked static typedef is_fun at has_init puts number literals =
     with_literals literals (if in_function && not (linked || static) then begin_at at has_init puts (if_object (not (typedef || is_fun)) number) else nothing_meant)
+
+-- ---- the numbers that a declaration takes
+
+module _ (scope : CScope) (one : CDeclaring) where
+  function_next : (found : Option CThing) → (linked_function one.name one.type one.linkage false found scope).next_object ≡ scope.next_object
+  function_next None = refl
+  function_next (Some old) = refl
+
+  object_next : (has_init : Bool) (line : Option ℕ) (found : Option CThing) → scope.next_object ≤ (linked_object one.name one.type one.linkage has_init line found scope).next_object
+  object_next has_init line None = omega arith
+  object_next has_init line (Some old) = omega arith
+
+  entity_next : (typedef is_fun linked : Bool) → scope.next_object ≤ (entity_by typedef is_fun linked one scope).next_object
+  entity_next true is_fun linked = omega arith
+  entity_next false true linked = (let h = function_next (thing_named one.name scope.things) in omega (arith, h))
+  entity_next false false true = object_next one.has_init _ (thing_named one.name scope.things)
+  entity_next false false false = omega arith
+
+  told_next : (typedef is_fun linked told : Bool) → (declared_by typedef is_fun linked told one scope).next_object ≡ (entity_by typedef is_fun linked one scope).next_object
+  told_next typedef is_fun linked true = refl
+  told_next typedef is_fun linked false = refl
+
+  all_next : (with_declaration one scope).next_object ≡ (entity_by (is_typedef one.specs) (is_function one.type) (is_linked one.linkage) one scope).next_object
+  all_next = ap (λ (later : CScope). later.next_object) (declaration_is one scope) ∙ told_next (is_typedef one.specs) (is_function one.type) (is_linked one.linkage) (told_by one)
+
+  pub next_grows : scope.next_object ≤ (with_declaration one scope).next_object
+  next_grows = (let h = all_next in let k = entity_next (is_typedef one.specs) (is_function one.type) (is_linked one.linkage) in omega (arith, h, k))
+
+  pub own_next : is_typedef one.specs ≡ false → is_function one.type ≡ false → is_linked one.linkage ≡ false → (with_declaration one scope).next_object ≡ scope.next_object + 1
+  own_next t f l =
+      all_next
+      ∙ (ap (λ b. (entity_by b (is_function one.type) (is_linked one.linkage) one scope).next_object) t
+      ∙ (ap (λ b. (entity_by false b (is_linked one.linkage) one scope).next_object) f ∙ ap (λ b. (entity_by false false b one scope).next_object) l))
 
 -- ---- an object without linkage
 
@@ -174,15 +208,15 @@ module _ (opens : List ℕ) (scope : CScope) (good : IsGood opens scope) (orderl
       internal = internal;
     }
 
-    pub made_typed : AreTypedUpTo opens scope → AreTypedUpTo opens after
-    made_typed held home all =
+    pub made_typed : (pending : Option (List ℕ)) → IsAccounted opens pending (account_of scope) → AreTypedUpTo opens scope → AreTypedUpTo opens after
+    made_typed pending account held home all =
         let was = held home (holds_earlier opens home scope after all made.leads) in
         let backs = backs_from opens home scope after all made.leads in
         record {
           held = held_after (is_typedef one.specs) (is_function one.type) (is_linked one.linkage) refl refl refl home backs (λ t f l. there_by t f l (has_storage keyword.Static one.specs) refl home all) was.held;
           literals = λ index x is. was.literals index x (subst (λ literals. slice_get literals index ≡ Some x) made.literals_are is);
           objects = λ index x is.
-              declared_filled home opens scope orderly one (λ t f l. record {
+              declared_filled home opens pending scope account one (λ t f l. record {
                 complete = complete_stays opens after.types home.program.types all.backs.grows one.type (sized t f l);
                 typed = (tt, tt);
                 constant = tt;
@@ -191,7 +225,18 @@ module _ (opens : List ℕ) (scope : CScope) (good : IsGood opens scope) (orderl
         }
 
     pub made_leads : Leads opens scope after
-    made_leads = leads_by opens scope after made.leads (λ pending held. plain_accounted opens pending scope orderly one fine held (λ linked. unfilled) (λ t f l. able pending)) made_typed
+    made_leads = leads_by opens scope after made.leads (λ pending held. plain_accounted opens pending scope orderly one fine held (λ linked. unfilled) (λ t f l. able pending))
+        made_typed
+
+    -- no number but that of the object is taken
+    none_once : AreOnce scope.next_object after.next_object (literals_since scope after)
+    none_once = nothing_once scope after made.literals_are (next_grows scope one)
+
+    one_once : is_typedef one.specs ≡ false → is_function one.type ≡ false → is_linked one.linkage ≡ false → AreOnce scope.next_object after.next_object (scope.next_object ∷ literals_since scope after)
+    one_once t f l =
+        let more : suc scope.next_object ≤ after.next_object = (let h = own_next scope one t f l in omega (arith, h)) in
+        once_first scope.next_object scope.next_object after.next_object (literals_since scope after) (omega arith)
+        (nothing_once (record scope { next_object = suc scope.next_object }) after made.literals_are more)
 
     -- without an object whose life begins
     plain_either : (at : TextPlace) (has_init begins : Bool) (puts : CPuts) → IsDeclaration opens scope (only_literals scope after) after
@@ -203,17 +248,17 @@ module _ (opens : List ℕ) (scope : CScope) (good : IsGood opens scope) (orderl
         → has_storage keyword.Static one.specs ≡ static → (typedef ≡ false → is_fun ≡ false → linked ≡ false → IsComplete after.types one.type)
         → IsDeclaration opens scope (meaning_by true linked static typedef is_fun at false puts (if linked then linked_number scope.next_object (thing_named one.name scope.things) else scope.next_object) (literals_since scope after)) after
     unfilled_by at puts true is_fun linked static t f l s complete =
-        plain_either at false (not (linked || static)) puts (plain_declared opens scope after made.good made_leads made.body_is (λ home backs known. held_after true is_fun linked t f l home backs (λ x. absurd cc) known))
+        plain_either at false (not (linked || static)) puts (plain_declared opens scope after made.good made_leads made.body_is none_once (λ home backs known. held_after true is_fun linked t f l home backs (λ x. absurd cc) known))
     unfilled_by at puts false true linked static t f l s complete =
-        plain_either at false (not (linked || static)) puts (plain_declared opens scope after made.good made_leads made.body_is (λ home backs known. held_after false true linked t f l home backs (λ x y. absurd cc) known))
+        plain_either at false (not (linked || static)) puts (plain_declared opens scope after made.good made_leads made.body_is none_once (λ home backs known. held_after false true linked t f l home backs (λ x y. absurd cc) known))
     unfilled_by at puts false false true static t f l s complete =
-        plain_declared opens scope after made.good made_leads made.body_is (λ home backs known. held_after false false true t f l home backs (λ x y z. absurd cc) known)
+        plain_declared opens scope after made.good made_leads made.body_is none_once (λ home backs known. held_after false false true t f l home backs (λ x y z. absurd cc) known)
     unfilled_by at puts false false false true t f l s complete =
-        plain_declared opens scope after made.good made_leads made.body_is
+        plain_declared opens scope after made.good made_leads made.body_is none_once
         (λ home backs known. held_after false false false t f l home backs (λ x y z. static_there home one.type scope one s) known)
     unfilled_by at puts false false false false t f l s complete =
         begun_declared opens scope after made.good made_leads made.body_is at None (own_object one scope) (length scope.objects) (omega arith) (own_found one scope t f l) refl
-        (ap static_puts s) refl refl (complete refl refl refl)
+        (ap static_puts s) refl refl (complete refl refl refl) (one_once t f l)
         (λ home backs known contains. held_after false false false t f l home backs (λ x y z. own_there home one.type scope one s contains) known)
         (λ home backs known contains literals. tt)
 

@@ -1,16 +1,15 @@
 -- Expressions in statements: what they leave of a scope, and the statements that they are (ISO C99, 6.8.3).
-use Rattle.std.proofs.Common.{◌≡◌, ℕ, Bool, true, false, ◌||◌, if◌then◌else◌, List, [], ◌∷◌, Option, None, Some, refl, sym, ap, ◌∙◌, subst}
-use Rattle.cx_core.specs.Statements.{CBody, IsVoid, IsVoidExpr, with_objects}
-use Rattle.cx_core.specs.Trees.{CTy, ty, void, basic, enum_type, pointer, array, record_type, function, form_of_type, CExpr, expr, convert, type_of, place_of}
+use Rattle.std.proofs.Common.{◌≡◌, ℕ, Bool, true, false, ◌||◌, if◌then◌else◌, List, refl, sym, ap, ◌∙◌, subst}
+use Rattle.cx_core.specs.Statements.{IsVoid, IsVoidExpr}
+use Rattle.cx_core.specs.Trees.{CTy, ty, void, basic, enum_type, pointer, array, record_type, function, CExpr, expr, convert, type_of, place_of}
 use Rattle.cx_core.specs.Typing.{CHome, IsTyped}
 use Rattle.cx_rules.proofs.UnitNodesAgree.{s_dropped_walk}
-use Rattle.cx_rules.specs.Nodes.{dropped_node}
 use Rattle.cx_rules.specs.Operands.{COperand, value_of, holds_nothing, dropped}
 use Rattle.cx_rules.specs.Scope.{CScope}
 use Rattle.cx_rules.specs.Types.{is_void, void_type}
 use Rattle.cx_rules.specs.Units.{seen_expr}
 use Rattle.cx_tree.specs.Trees.{ExprTree}
-use Rattle.cx_typed.proofs.Goes.{go_gives, go_here_then, go_chain, go_settled}
+use Rattle.cx_typed.proofs.Goes.{go_here_then, go_chain, go_settled}
 use Rattle.cx_typed.proofs.Single.{no_less}
 use Rattle.cx_typed.proofs.Values.{value_is}
 use Rattle.cx_typed.specs.Operands.{IsOperandType}

@@ -1,8 +1,8 @@
 -- Statements that are blocks, and branches and bodies that are made so (ISO C99, 6.8.2, 6.8.4p3, 6.8.5p5).
-use Rattle.std.proofs.Common.{◌≡◌, ◌⊎◌, inl, inr, ℕ, ◌<◌, Bool, List, [], ◌∷◌, ◌++◌, length, Option, None, Some, refl, sym, ap, ◌∙◌, subst, append-nil, arith}
+use Rattle.std.proofs.Common.{◌≡◌, ◌⊎◌, inl, inr, ℕ, ◌<◌, List, [], ◌++◌, length, None, Some, refl, sym, ◌∙◌, subst, append-nil, arith}
 use Rattle.std.specs.List.{Contains}
 use Rattle.cr_base.specs.declared.refusal.Place.{Place as TextPlace}
-use Rattle.cx_core.specs.Statements.{CBody, AreBlockObjects, IsTypedStmt, IsTypedStmtForm, AreTypedStmts, IsBegin, with_objects, labels_in, labels_in_form, cases_in_form, defaults_in_form}
+use Rattle.cx_core.specs.Statements.{CBody, AreBlockObjects, IsTypedStmt, IsTypedStmtForm, AreTypedStmts, with_objects, labels_in, labels_in_form, cases_in_form, defaults_in_form, objects_in_form}
 use Rattle.cx_core.specs.Trees.{CStmt, stmt, CStmtForm, label, case, default, block, expression, if_then, switch, while, do_while, for_loop, goto, continue, break, returns, begin, CStmts, no_stmts, more_stmts}
 use Rattle.cx_core.specs.Typing.{CHome}
 use Rattle.cx_rules.proofs.UnitNodesAgree.{s_scope_begins, s_whole_ends, s_stmt_walk}
@@ -14,10 +14,12 @@ use Rattle.cx_rules.specs.UnitWalk.{CWhere, CStated, as_block, labels_of}
 use Rattle.cx_tree.specs.Trees.{StmtTree}
 use Rattle.cx_typed.proofs.Goes.{go_chain}
 use Rattle.cx_typed.specs.Walked.{IsGood, Ends}
-use Rattle.cx_typed_units.proofs.Around.{back, back_leads, back_none, back_good, back_backs, place_entered, stands_inside}
+use Rattle.cx_typed_units.proofs.Around.{back_leads, back_none, back_good, back_backs, place_entered, stands_inside}
 use Rattle.cx_typed_units.proofs.Blocks.{are_front, all_inside}
-use Rattle.cx_typed_units.proofs.Stretches.{home_in, backs_in}
+use Rattle.cx_typed_units.proofs.Stretches.{backs_in}
 use Rattle.cx_typed_units.specs.Labels.{AddsLabels, AddsOf}
+use Rattle.cx_typed_units.proofs.Once.{block_once}
+use Rattle.cx_typed_units.specs.Once.{AreOnce}
 use Rattle.cx_typed_units.specs.Statements.{IsSwitchable, StandsIn, IsPlace, own_objects, IsStated, StmtGoes, IsScoped}
 use Rattle.cx_typed_units.specs.Stretches.{Leads, Backs, IsHeldAt, AreIn}
 
@@ -117,6 +119,7 @@ scoped_goes opens where_is tree scope goes place =
       none = back_none opens scope place.good inner held.leads held.good;
       adds = λ switchable. block_adds one.objects one.stmt scope inner (held.adds switchable);
       labels_are = block_labels one.objects one.stmt ∙ held.labels_are;
+      numbers = block_once scope.next_object inner.next_object one.objects one.stmt held.numbers;
       typed = λ body stands backs known.
           let here = back_backs opens scope place.good inner held.leads held.good body.home backs in
           block_by body one.objects one.stmt held.apart (held.blocks body.home here)
@@ -133,16 +136,18 @@ IsWhole opens where_is tree scope inner line objects form =
 module _ (opens : List ℕ) (where_is : CWhere) (tree : StmtTree) (scope : CScope) (place : IsPlace opens scope where_is) (inner : CScope)
     (leads : Leads opens (entered scope) inner) (good : IsGood opens inner) (at : TextPlace) (objects : List ℕ) (form : CStmtForm) where
   pub whole_is : (IsSwitchable where_is → AddsLabels scope.body inner.body (labels_in_form form) (cases_in_form form) (defaults_in_form form)) → labels_in_form form ≡ labels_of tree
+      → AreOnce scope.next_object inner.next_object (objects ++ objects_in_form form)
       → ((home : CHome) → Backs home opens (entered scope) inner → AreBlockObjects home objects)
       → ((body : CBody) → StandsIn where_is body → Backs body.home opens (entered scope) inner → IsHeldAt body.home scope.declared → AreIn body.home.scope objects → IsTypedStmtForm body [] objects form)
       → IsStated opens where_is tree scope (record { stmt = stmt at objects form; objects = [] }) (left (length scope.declared) scope.begins inner)
-  whole_is adds labels blocks typed = record {
+  whole_is adds labels numbers blocks typed = record {
     good = back_good opens scope place.good inner leads good;
     leads = back_leads opens scope place.good inner leads good;
     none = back_none opens scope place.good inner leads good;
     adds = adds;
     labels_are = labels;
     apart = inl refl;
+    numbers = numbers;
     blocks = λ home backs. tt;
     typed = λ body stands backs known inside.
         let here = back_backs opens scope place.good inner leads good body.home backs in (

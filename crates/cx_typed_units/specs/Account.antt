@@ -1,12 +1,13 @@
 -- What a unit keeps account of up to a place: numbers, objects, functions, and what it says of names with linkage (ISO C99, 6.2.2, 6.7, 6.9).
-use Rattle.std.specs.Prelude.{◌≡◌, ℕ, ◌<◌, Bool, true, false, ◌||◌, List, Option, None, Some, is_some, slice_get}
+use Rattle.std.specs.Prelude.{◌≡◌, ℕ, ◌<◌, Bool, true, false, ◌||◌, List, Option, Some, is_some, slice_get}
 use Rattle.cx_core.specs.declared.program.Linkage.{Linkage}
 use Rattle.cx_core.specs.declared.program.Linkage.TheVariants.{External, Internal}
-use Rattle.cx_core.specs.Trees.{CTy, form_of_type, CTypes, CObject, CFun, CDoes, declares, defines, calls, uses, CMention}
+use Rattle.cx_core.specs.Trees.{form_of_type, CTypes, CObject, CFun, CDoes, declares, defines, calls, uses, CMention}
 use Rattle.cx_core.specs.ValidTypes.{IsObjectForm}
 use Rattle.cx_rules.specs.Declare.{is_linked, thing_named}
 use Rattle.cx_rules.specs.Scope.{CMade, CThing, CScope}
 use Rattle.cx_typed.specs.Operands.{IsKnownType}
+use Rattle.cx_typed.specs.Scopes.{IsWellMade}
 use Rattle.cx_typed_units.specs.Fills.{Fills}
 
 pub record CAccount : Type 0 where
@@ -72,7 +73,8 @@ pub record IsKnownObject (opens : List ℕ) (account : CAccount) (one : CObject)
   pub no_text : one.is_text ≡ false
   pub named : is_linked one.linkage ≡ true → IsObjectNamed account.things one
 
--- a name with linkage has its object, of its type or of that with which it was initialised; while its initialiser is read, that isn't there yet
+-- a name with linkage has its object: of its type, or of the one that its initialiser gave, which later declarations say no less than; while
+-- the initialiser is read, its value isn't there yet
 pub record IsObjectThing (opens : List ℕ) (pending : Option (List ℕ)) (account : CAccount) (name : List ℕ) (thing : CThing) : Type 0 where
   pub index : ℕ
   pub one : CObject
@@ -80,13 +82,13 @@ pub record IsObjectThing (opens : List ℕ) (pending : Option (List ℕ)) (accou
   pub number_is : one.object ≡ thing.number
   pub linkage_is : one.linkage ≡ thing.linkage
   pub named : one.name ≡ Some name
-  pub type_is : is_some one.puts ≡ false → one.type ≡ thing.type
+  pub type_is : thing.is_defined ≡ false → one.type ≡ thing.type
   pub fills : Fills opens account.types one.type thing.type
   pub defined : is_some one.puts ≡ true → thing.is_defined ≡ true
   pub filled : (pending ≡ Some name → ⊥) → thing.is_defined ≡ true → is_some one.puts ≡ true
   -- one with internal linkage is defined in the unit (6.9p3)
   pub internal : thing.linkage ≡ Internal → (thing.is_defined || is_some thing.tentative) ≡ true
-  pub type_told : thing.linkage ≡ External → IsToldAs account.mentions name External (λ one. (one.type ≡ thing.type) × (is_declaring one.does ≡ true))
+  pub type_told : thing.linkage ≡ External → IsToldAs account.mentions name External (λ mention. (mention.type ≡ one.type) × (is_declaring mention.does ≡ true))
   pub does_told : thing.linkage ≡ External → IsToldAs account.mentions name External (λ one. one.does ≡ does_by (thing.is_defined || is_some thing.tentative))
 
 -- ---- functions
@@ -119,6 +121,10 @@ pub record IsKnownFun (account : CAccount) (one : CFun) : Type 0 where
 
 -- ---- all of them
 
+-- no two names with linkage are the same
+abbrev pub AreNamedApart : List CThing → Type 0
+AreNamedApart things = (first second : ℕ) (one other : CThing) → slice_get things first ≡ Some one → slice_get things second ≡ Some other → one.name ≡ other.name → first ≡ second
+
 pub record IsAccounted (opens : List ℕ) (pending : Option (List ℕ)) (account : CAccount) : Type 0 where
   -- each number stands for one object
   pub objects_differ : (first second : ℕ) (one other : CObject) → slice_get account.objects first ≡ Some one → slice_get account.objects second ≡ Some other → one.object ≡ other.object → first ≡ second
@@ -126,8 +132,10 @@ pub record IsAccounted (opens : List ℕ) (pending : Option (List ℕ)) (account
   pub apart : (first second : ℕ) (one : CObject) (other : CMade) → slice_get account.objects first ≡ Some one → slice_get account.literals second ≡ Some other → one.object ≡ other.object → ⊥
   pub objects_below : (index : ℕ) (one : CObject) → slice_get account.objects index ≡ Some one → one.object < account.next_object
   pub literals_below : (index : ℕ) (one : CMade) → slice_get account.literals index ≡ Some one → one.object < account.next_object
+  pub literals : (index : ℕ) (one : CMade) → slice_get account.literals index ≡ Some one → IsWellMade account.types one
   pub objects : (index : ℕ) (one : CObject) → slice_get account.objects index ≡ Some one → IsKnownObject opens account one
-  -- no two names with linkage are the same, and no two functions have one number
+  -- each name with linkage is found, and no two functions have one number
+  pub things_differ : AreNamedApart account.things
   pub listed : (index : ℕ) (one : CThing) → slice_get account.things index ≡ Some one → thing_named one.name account.things ≡ Some one
   pub object_things : (name : List ℕ) (one : CThing) → thing_named name account.things ≡ Some one → one.is_function ≡ false → IsObjectThing opens pending account name one
   pub function_things : (name : List ℕ) (one : CThing) → thing_named name account.things ≡ Some one → one.is_function ≡ true → IsFunctionThing opens pending account name one

@@ -8,7 +8,7 @@ use Rattle.cx_rules.specs.Readings.{Seen, seen_gives, seen_chain, seen_here, see
 use Rattle.cx_rules.specs.Scope.{CScope}
 use Rattle.cx_rules.specs.Shapes.{CSpecs, CShape}
 use Rattle.cx_rules.specs.UnitWalk as unit
-use Rattle.cx_tree.specs.Trees.{InitialiserTree, InitDeclaratorTree, DeclTree, StmtTree, Label, Case, Default, Block, ExprStmt, If, Switch, While, Do, For, Goto, Continue, Break, Return, OptionStmtTree, no_stmt, some_stmt, ItemTree, Statement, Declared, ItemTrees, no_items, more_items}
+use Rattle.cx_tree.specs.Trees.{InitialiserTree, InitDeclaratorTree, DeclTree, StmtTree, Label, Case, Default, Block, ExprStmt, If, Switch, While, Do, For, Goto, Continue, Break, Return, OptionStmtTree, no_stmt, some_stmt, Statement, Declared, ItemTrees, no_items, more_items}
 use Rattle.cx_typed.specs.Declarators.{ShapeGoes}
 use Rattle.cx_typed.specs.Initialised.{InitialiserGoes, NothingToFill}
 use Rattle.cx_typed.specs.Operands.{IsKnownType}

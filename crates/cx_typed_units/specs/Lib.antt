@@ -1,7 +1,9 @@
 pub mod Account
+pub mod Covers
 pub mod Fills
 pub mod Forms
 pub mod Labels
+pub mod Once
 pub mod Rest
 pub mod Spelled
 pub mod Statements

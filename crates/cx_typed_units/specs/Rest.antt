@@ -1,10 +1,11 @@
 -- What stays of a scope behind an expression, a type or an initialiser: all but its declarations, its types, its literals, its mentions and
 -- the number of the next object.
-use Rattle.std.specs.Prelude.{◌≡◌, ℕ, Bool, true, false, List, Some, slice_get}
-use Rattle.cx_core.specs.Trees.{CObject, CFun, CDoes, declares, defines, calls, uses, CMention}
+use Rattle.std.specs.Prelude.{◌≡◌, ◌⊎◌, ℕ, Bool, true, false, List, Option, Some, None, slice_get}
+use Rattle.cx_core.specs.declared.program.Linkage.TheVariants.{External}
+use Rattle.cx_core.specs.Trees.{CTy, CObject, CFun, CDoes, declares, defines, calls, uses, CMention}
 use Rattle.cx_rules.specs.Pieces.{CTarget}
 use Rattle.cx_rules.specs.Readings.{Seen, seen_gives, seen_chain, seen_here, seen_becomes, seen_look}
-use Rattle.cx_rules.specs.Scope.{CThing, CLabels, CScope}
+use Rattle.cx_rules.specs.Scope.{CMeant, an_object, a_function, CDeclared, ordinary, CThing, CLabels, CScope}
 use Rattle.cx_rules.specs.Shapes.{CSpecs}
 use Rattle.cx_rules.specs.Units.{seen_expr, seen_type_name, seen_initialiser}
 use Rattle.cx_rules.specs.Walk as walk
@@ -53,3 +54,21 @@ is_defining uses = false
 -- what is told of as defined was so before
 abbrev pub DefinesNone : List CMention → List CMention → Type 0
 DefinesNone before after = (index : ℕ) (one : CMention) → slice_get after index ≡ Some one → is_defining one.does ≡ true → slice_get before index ≡ Some one
+
+-- the type of a declared name that is mentioned where it is used: of a function, or of an object with external linkage
+abbrev pub linked_type : Option CMeant → Option CTy
+linked_type (Some (an_object number type is_register External)) = Some type
+linked_type (Some (a_function number type linkage)) = Some type
+linked_type _ = None
+
+-- a mention says of a name what was said before
+pub record WasSaid (mentions : List CMention) (now : CMention) : Type 0 where
+  pub index : ℕ
+  pub one : CMention
+  pub at : slice_get mentions index ≡ Some one
+  pub name_is : one.name ≡ now.name
+  pub type_is : one.type ≡ now.type
+
+-- or what the visible declaration of the name says
+abbrev pub IsSaid : List CMention → List CDeclared → CMention → Type 0
+IsSaid mentions declared now = WasSaid mentions now ⊎ (linked_type (ordinary now.name declared) ≡ Some now.type)

@@ -1,5 +1,5 @@
 -- Statements and declarations whose expressions, specifiers, declarators and initialisers are spelled as tokens spell them (ISO C99, 6.7, 6.8).
-use Rattle.std.specs.Prelude.{◌≡◌, List, [], ◌∷◌, IfSome}
+use Rattle.std.specs.Prelude.{List, [], ◌∷◌, IfSome}
 use Rattle.cx_tree.specs.Trees.{InitDeclaratorTree, DeclTree, ForFirstTree, FirstValue, FirstDeclared, StmtTree, Label, Case, Default, Block, ExprStmt, If, Switch, While, Do, For, Goto, Continue, Break, Return, OptionStmtTree, no_stmt, some_stmt, Statement, Declared, ItemTrees, no_items, more_items}
 use Rattle.cx_typed.specs.Spelled.{IsSpelled, IsSpelledOption, AreSpelledSpecs, IsSpelledDeclarator, IsSpelledInit}
 use Rattle.cx_typed_units.specs.Statements.{StmtGoes, ItemsGo}

@@ -1,12 +1,12 @@
 -- What statements and declarations in blocks give where the walk over them finds no broken node (ISO C99, 6.8).
-use Rattle.std.specs.Prelude.{◌≡◌, ◌⊎◌, ℕ, Bool, true, false, List, [], ◌∷◌, IfSome}
+use Rattle.std.specs.Prelude.{◌≡◌, ◌⊎◌, ℕ, true, false, List, [], ◌∷◌, ◌++◌, IfSome}
 use Rattle.cx_core.specs.Conversions.{IsPromoted}
-use Rattle.cx_core.specs.Statements.{CBody, AreBlockObjects, IsTypedStmt, IsTypedElse, AreTypedStmts, labels_in, labels_in_list, labels_in_else, cases_in_else, defaults_in_else}
+use Rattle.cx_core.specs.Statements.{CBody, AreBlockObjects, IsTypedStmt, IsTypedElse, AreTypedStmts, labels_in, labels_in_list, labels_in_else, cases_in_else, defaults_in_else, objects_in, objects_in_else, objects_in_list}
 use Rattle.cx_core.specs.Trees.{CStmt, stmt, begin, COtherwise}
 use Rattle.cx_core.specs.Typing.{CHome}
 use Rattle.cx_core.specs.ValidTypes.{IsComplete}
 use Rattle.cx_rules.specs.declared.kinds.SpecsPlace.{SpecsPlace}
-use Rattle.cx_rules.specs.declared.kinds.SpecsPlace.TheVariants.{Block as InBlock, ForClause}
+use Rattle.cx_rules.specs.declared.kinds.SpecsPlace.TheVariants.{ForClause}
 use Rattle.cx_rules.specs.Readings.{Seen, seen_gives, seen_chain, seen_here, seen_becomes, seen_look}
 use Rattle.cx_rules.specs.Scope.{CScope}
 use Rattle.cx_rules.specs.Types.{is_void}
@@ -16,6 +16,7 @@ use Rattle.cx_tree.specs.Trees.{OptionExprTree, no_expr, some_expr, DeclTree, Fo
 use Rattle.cx_typed.specs.Operands.{IsKnownType}
 use Rattle.cx_typed.specs.Walked.{IsGood, Ends, ExprGoes}
 use Rattle.cx_typed_units.specs.Labels.{AddsLabels, AddsOf, AddsOfList}
+use Rattle.cx_typed_units.specs.Once.{AreOnce}
 use Rattle.cx_typed_units.specs.Stretches.{IsOrderly, Leads, DeclaresNone, Backs, IsHeldAt, AreIn}
 
 -- ---- where a statement stands
@@ -53,6 +54,8 @@ pub record IsStated (opens : List ℕ) (where_is : CWhere) (tree : StmtTree) (be
   pub labels_are : labels_in one.stmt ≡ labels_of tree
   -- it is a block itself, or its objects are those of the block around it
   pub apart : (one.objects ≡ []) ⊎ (own_objects one.stmt ≡ [])
+  -- each object is that of one block
+  pub numbers : AreOnce before.next_object after.next_object (one.objects ++ objects_in one.stmt)
   pub blocks : (home : CHome) → Backs home opens before after → AreBlockObjects home one.objects
   pub typed : (body : CBody) → StandsIn where_is body → Backs body.home opens before after → IsHeldAt body.home before.declared
       → AreIn body.home.scope one.objects → IsTypedStmt body [] one.stmt
@@ -69,6 +72,7 @@ pub record AreItems (opens : List ℕ) (where_is : CWhere) (labels : List (List 
   pub leads : Leads opens before after
   pub adds : IsSwitchable where_is → AddsOfList before.body after.body (stmts_of all.stmts)
   pub labels_are : labels_in_list (stmts_of all.stmts) ≡ labels
+  pub numbers : AreOnce before.next_object after.next_object (all.objects ++ objects_in_list (stmts_of all.stmts))
   pub blocks : (home : CHome) → Backs home opens before after → AreBlockObjects home all.objects
   pub held : (home : CHome) → Backs home opens before after → IsHeldAt home before.declared → AreIn home.scope all.objects → IsHeldAt home after.declared
   pub typed : (body : CBody) (declares : List ℕ) → StandsIn where_is body → Backs body.home opens before after → IsHeldAt body.home before.declared
@@ -98,6 +102,7 @@ pub record IsDeclaration (opens : List ℕ) (before : CScope) (all : CMeant) (af
   pub leads : Leads opens before after
   pub body_is : after.body ≡ before.body
   pub begun : AreBegun all.stmts
+  pub numbers : AreOnce before.next_object after.next_object all.objects
   pub blocks : (home : CHome) → Backs home opens before after → AreBlockObjects home all.objects
   pub held : (home : CHome) → Backs home opens before after → IsHeldAt home before.declared → AreIn home.scope all.objects → IsHeldAt home after.declared
   pub typed : (body : CBody) (declares : List ℕ) → Backs body.home opens before after → IsHeldAt body.home before.declared
@@ -115,6 +120,7 @@ pub record IsScoped (opens : List ℕ) (where_is : CWhere) (labels : List (List 
   pub none : DeclaresNone before after
   pub adds : IsSwitchable where_is → AddsOf before.body after.body one
   pub labels_are : labels_in one ≡ labels
+  pub numbers : AreOnce before.next_object after.next_object (objects_in one)
   pub typed : (body : CBody) → StandsIn where_is body → Backs body.home opens before after → IsHeldAt body.home before.declared → IsTypedStmt body [] one
 
 pub record IsElse (opens : List ℕ) (where_is : CWhere) (labels : List (List ℕ)) (before : CScope) (other : COtherwise) (after : CScope) : Type 0 where
@@ -123,6 +129,7 @@ pub record IsElse (opens : List ℕ) (where_is : CWhere) (labels : List (List �
   pub none : DeclaresNone before after
   pub adds : IsSwitchable where_is → AddsLabels before.body after.body (labels_in_else other) (cases_in_else other) (defaults_in_else other)
   pub labels_are : labels_in_else other ≡ labels
+  pub numbers : AreOnce before.next_object after.next_object (objects_in_else other)
   pub typed : (body : CBody) → StandsIn where_is body → Backs body.home opens before after → IsHeldAt body.home before.declared → IsTypedElse body other
 
 abbrev pub ElseGoes : OptionStmtTree → Type 0

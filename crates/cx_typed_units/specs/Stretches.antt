@@ -1,5 +1,5 @@
 -- What a program has of a stretch of a function's statements, and what they do to a scope (ISO C99, 6.2.1, 6.2.2, 6.2.4, 6.8).
-use Rattle.std.specs.Prelude.{◌≡◌, ℕ, ◌≤◌, ◌<◌, Bool, true, false, List, [], ◌∷◌, ◌++◌, length, Option, None, Some, IsSome, IfSome, slice_get}
+use Rattle.std.specs.Prelude.{◌≡◌, ℕ, ◌≤◌, ◌<◌, Bool, true, false, not, ◌&&◌, ◌||◌, List, [], ◌∷◌, ◌++◌, length, Option, None, Some, IsSome, IfSome, is_some, slice_get}
 use Rattle.std.specs.List.{Contains}
 use Rattle.cx_core.specs.declared.program.Linkage.{Linkage}
 use Rattle.cx_core.specs.declared.program.Linkage.TheVariants.{Internal, Nothing}
@@ -21,13 +21,14 @@ use Rattle.cx_typed_units.specs.Rest.{is_defining}
 
 -- ---- what stays of a scope
 
--- a name with linkage stands for what it stood for, and its type says no less
+-- a name with linkage stands for what it stood for, its type says no less, and a definition stays
 pub record IsSameThing (opens : List ℕ) (types : CTypes) (one other : CThing) : Type 0 where
   pub number_is : other.number ≡ one.number
   pub linkage_is : other.linkage ≡ one.linkage
   pub function_is : other.is_function ≡ one.is_function
   pub fills : Fills opens types one.type other.type
   pub defined : one.is_defined ≡ true → other.is_defined ≡ true
+  pub tentative : is_some one.tentative ≡ true → is_some other.tentative ≡ true
 
 abbrev pub IsKept : List ℕ → CTypes → CThing → Option CThing → Type 0
 IsKept opens types one found = IsSome found × IfSome found (IsSameThing opens types one)
@@ -62,6 +63,25 @@ pub record IsOrderly (opens : List ℕ) (scope : CScope) : Type 0 where
       → (is_linked linkage ≡ true) × IsThingOf opens scope name number type linkage true
   pub things : (name : List ℕ) (one : CThing) → thing_named name scope.things ≡ Some one → IsKnownThing opens scope one
   pub numbers : (index : ℕ) (object : CObject) → slice_get scope.objects index ≡ Some object → object.object < scope.next_object
+
+-- a function is defined by its body, an object by its initialiser or by a tentative definition (6.9p5, 6.9.2p2)
+abbrev pub has_definition : CThing → Bool
+has_definition one = one.is_defined || (not one.is_function && is_some one.tentative)
+
+-- what a mention says that the unit defines, it defines, with the same linkage
+pub record IsDefinedAs (thing : CThing) (one : CMention) : Type 0 where
+  pub linkage_is : thing.linkage ≡ one.linkage
+  pub defined : has_definition thing ≡ true
+
+-- what the unit has of a name says all that a mention of it says
+pub record IsCovered (opens : List ℕ) (types : CTypes) (things : List CThing) (one : CMention) : Type 0 where
+  pub thing : CThing
+  pub there : thing_named one.name things ≡ Some thing
+  pub fills : Fills opens types one.type thing.type
+  pub defined : is_defining one.does ≡ true → IsDefinedAs thing one
+
+abbrev pub AreCovered : List ℕ → CScope → Type 0
+AreCovered opens scope = (index : ℕ) (one : CMention) → slice_get scope.mentions index ≡ Some one → IsCovered opens scope.types scope.things one
 
 -- the declarations, types, mentions and literals of a scope go on in a later one
 pub record Continues (opens : List ℕ) (before after : CScope) : Type 0 where
@@ -154,11 +174,9 @@ pub record HoldsAll (home : CHome) (opens : List ℕ) (scope : CScope) : Type 0 
   pub objects_inside : (index : ℕ) (one : CObject) → slice_get scope.objects index ≡ Some one → one.linkage ≡ Nothing → Contains home.scope one.object
   pub literals_inside : (index : ℕ) (one : CMade) → slice_get scope.literals index ≡ Some one → Contains home.scope one.object
 
--- what is stored in a static object is typed; one with linkage may be declared with another type behind it
-pub record IsFilled (home : CHome) (one : CObject) (puts : CPuts) : Type 0 where
-  pub type : CTy
-  pub same : one.linkage ≡ Nothing → one.type ≡ type
-  pub static : IsStatic (home_of home.program home.mentions home.unit) type puts
+-- what is stored in a static object is typed
+abbrev pub IsFilled : CHome → CObject → CPuts → Type 0
+IsFilled home one puts = IsStatic (home_of home.program home.mentions home.unit) one.type puts
 
 pub record AreTypedThere (home : CHome) (scope : CScope) : Type 0 where
   pub held : IsHeldAt home scope.declared
@@ -179,7 +197,8 @@ pub record Leads (opens : List ℕ) (before after : CScope) : Type 0 where
   pub objects : (number : ℕ) (one : CObject) → one.linkage ≡ Nothing → slice_get before.objects number ≡ Some one → slice_get after.objects number ≡ Some one
   pub things : (name : List ℕ) (one : CThing) → thing_named name before.things ≡ Some one → IsKept opens after.types one (thing_named name after.things)
   pub orderly : IsOrderly opens before → IsOrderly opens after
+  pub covered : IsOrderly opens before → AreCovered opens before → AreCovered opens after
   pub functions_are : after.functions ≡ before.functions
   pub statics : (number : ℕ) → is_static_object before number ≡ true → is_static_object after number ≡ true
   pub keeps : (pending : Option (List ℕ)) → IsAccounted opens pending (account_of before) → IsAccounted opens pending (account_of after)
-  pub typed : AreTypedUpTo opens before → AreTypedUpTo opens after
+  pub typed : (pending : Option (List ℕ)) → IsAccounted opens pending (account_of before) → AreTypedUpTo opens before → AreTypedUpTo opens after

@@ -23,14 +23,15 @@ use Rattle.cx_typed_work.proofs.Nodes.{scalar_comes}
 use Rattle.cx_typed_work.proofs.Outcomes.{comes_and}
 use Rattle.cx_typed_work.specs.Operands.{IsScalarIn, IsValueOfType, IsGiven, IsGivenBy, IsOperandOf, may_lack}
 use Rattle.cx_typed_work.specs.Scenes.{IsTypedMemory, AreSameShapes}
-use Rattle.cx_typed_work.specs.Steps.{AreGivenArguments, StepLeaves}
+use Rattle.cx_typed_work.specs.Calls.{IsTypedCall}
+use Rattle.cx_typed_work.specs.Steps.{StepLeaves}
 use Rattle.cx_typed_work.specs.Works.{AnyPart, chosen_parts, IsWorkOf, IsTypedWork}
 
 -- ---- what a step leaves
 
 abbrev pub DidLeaves : CHome → CExpr → Blocks → CDid → Type 0
 DidLeaves home node blocks (did work after) = IsTypedWork home node work × AreSameShapes blocks after × IsTypedMemory home.program after
-DidLeaves home node blocks (asks_call called work) = IsTypedWork home node work × AreGivenArguments home.program called.args
+DidLeaves home node blocks (asks_call called work) = IsTypedWork home node work × IsTypedCall home.program called
 
 pub at_node_leaves : (home : CHome) (node : CExpr) (blocks : Blocks) (place : Place) (outcome : Result CDid CWhy) → Comes (DidLeaves home node blocks) outcome → StepLeaves home node blocks (at_node place outcome)
 at_node_leaves home node blocks place (Ok (did work after)) leaves = leaves
@@ -77,7 +78,7 @@ part_carried home node part marks (chooses own first) is one left = (refl, refl,
 part_carried home node part marks (tests own other second) is one left = (refl, refl, one.among (tests own other second) left)
 part_carried home node part marks (carries own other chosen_part) is one left = (refl, refl, one.among (carries own other chosen_part) left)
 part_carried home node part marks (updates own update stage other) is one left = (refl, refl, one.among (updates own update stage other) left)
-part_carried home node part marks (fills own other put others value) is one left = (refl, refl, one.among (fills own other put others value) left)
+part_carried home node part marks (fills own other one_put others value) is one left = (refl, refl, one.among (fills own other one_put others value) left)
 part_carried home node part marks (waits own other) is one left = (refl, refl, one.among (waits own other) left)
 
 either_true : (one other : Bool) → IsTrue one → IsTrue (one || other)

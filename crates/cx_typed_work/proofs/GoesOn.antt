@@ -6,7 +6,7 @@ use Rattle.cx_mean.specs.Work.{CWork, finished, needs, chooses, tests, carries, 
 use Rattle.cx_typed_work.specs.Steps.{ExpressionsGoOn}
 use Rattle.cx_typed_work.specs.Works.{operands_of, first_part, second_part, chosen_parts, value_of_put, IfOperands, IfPart, AnyPart, IsWorkOf, AreWorksOf}
 
-either_false : (one other : Bool) → (one || other) ≡ false → (one ≡ false) × (other ≡ false)
+pub either_false : (one other : Bool) → (one || other) ≡ false → (one ≡ false) × (other ≡ false)
 either_false true other e = absurd (true≢false e)
 either_false false other e = (refl, e)
 

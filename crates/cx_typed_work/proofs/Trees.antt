@@ -151,7 +151,7 @@ carries_by home frame blocks node part marks chosen pick is one work steps below
     inside_leaves home node part blocks (carried node marks) (step_at (setting_of home.program) frame blocks pick chosen) (steps part pick (inl one.part_typed) work below)
     (λ after left_is. record { typed = inl is; left = part_carried home node part marks after is one left_is.left })
 
-comma_part : (home : CHome) (type : CTy) (place : Place) (one other : CExpr) → IsTyped home (expr type place (comma one other)) → IsPartOf home (expr type place (comma one other)) other
+pub comma_part : (home : CHome) (type : CTy) (place : Place) (one other : CExpr) → IsTyped home (expr type place (comma one other)) → IsPartOf home (expr type place (comma one other)) other
 comma_part home type place one other is = record { part_typed = is.1.1; type_is = sym is.1.2; lacks = λ lacks. lacks; among = λ work left. inl left }
 
 carries_leaves : (home : CHome) (frame : Frame) (blocks : Blocks) (node : CExpr) (marks : Marks) (chosen : CWork) (pick : ℕ) → IsTypedNode home node → AnyPart (chosen_parts node) (λ part. IsWorkOf home part chosen)
@@ -223,16 +223,11 @@ updates_leaves home frame blocks node update stage marks pick scene (inr is) one
 
 -- the steps of nodes whose operands are finished, and of the puts of compound literals
 pub record NodesStep (home : CHome) (frame : Frame) (blocks : Blocks) : Type 0 where
-  pub of_needs : (node : CExpr) (parts : CExprs) (operands : CWorks) → IsTypedNode home node → operands_of node ≡ Some parts → AreWorksOf home parts operands → are_finished operands ≡ true
+  pub of_needs : (node : CExpr) (operands : CWorks) → IsTypedNode home node → IfOperands (operands_of node) (λ parts. AreWorksOf home parts operands) → are_finished operands ≡ true
       → StepLeaves home node blocks (needs_step (setting_of home.program) frame blocks node (operands_in operands))
   pub of_put : (node : CExpr) (marks : Marks) (one : CPut) (others : CPuts) (operand : COperand) → IsTypedNode home node → IsFilling node one others → IsOperandOf home (value_of_put one) operand
       → StepLeaves home node blocks (at_node (place_of_put one) (put_step (setting_of home.program) frame blocks node marks one others operand))
   pub put_typed : (node : CExpr) (one : CPut) (others : CPuts) → IsTypedNode home node → IsFilling node one others → IsTypedNode home (value_of_put one)
-
-own_needs : (home : CHome) (frame : Frame) (blocks : Blocks) (node : CExpr) (operands : CWorks) (found : Option CExprs) → operands_of node ≡ found → IsTypedNode home node → NodesStep home frame blocks
-    → IfOperands found (λ parts. AreWorksOf home parts operands) → are_finished operands ≡ true → StepLeaves home node blocks (needs_step (setting_of home.program) frame blocks node (operands_in operands))
-own_needs home frame blocks node operands None e typed nodes are all = absurd are
-own_needs home frame blocks node operands (Some parts) e typed nodes are all = nodes.of_needs node parts operands typed e are all
 
 fills_leaves : (home : CHome) (frame : Frame) (blocks : Blocks) (node : CExpr) (marks : Marks) (one : CPut) (others : CPuts) (value : CWork) (pick : ℕ) → NodesStep home frame blocks → IsTypedNode home node → IsFilling node one others
     → IsWorkOf home (value_of_put one) value → PartSteps home frame blocks value → pick < one_or (is_finished value) (ready value)
@@ -252,7 +247,7 @@ mutual
   tree_steps home frame blocks scene nodes (needs own operands) = λ node pick typed is below.
       subst (λ n. StepLeaves home node blocks (step_at (setting_of home.program) frame blocks pick (needs n operands))) (sym is.0)
       (needs_leaves home frame blocks node operands pick (operands_of node) refl typed is.1 (each_steps home frame blocks scene nodes operands) below
-      (own_needs home frame blocks node operands (operands_of node) refl typed nodes is.1))
+      (nodes.of_needs node operands typed is.1))
   tree_steps home frame blocks scene nodes (chooses own first) = λ node pick typed is below.
       subst (λ n. StepLeaves home node blocks (step_at (setting_of home.program) frame blocks pick (chooses n first))) (sym is.0)
       (chooses_leaves home frame blocks node first pick scene typed is.1 (tree_steps home frame blocks scene nodes first) below)

@@ -1,5 +1,6 @@
+pub mod Calls
+pub mod ExternalCalls
 pub mod Operands
 pub mod Scenes
-pub mod Sites
 pub mod Steps
 pub mod Works

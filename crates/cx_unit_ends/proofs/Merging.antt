@@ -8,7 +8,7 @@ use Rattle.cx_core.specs.declared.program.CoreObject.{CoreObject}
 use Rattle.cx_rules.specs.Scope.{CMade, CThing}
 use Rattle.cx_scope.specs.Objects.{AreAbove}
 use Rattle.cx_unit_ends.proofs.Ordering.{onto_nothing, onto_both}
-use Rattle.cx_unit_ends.specs.Ends.{final_as, final_object, made_object, names_object, objects_of, ordered_onto, put_object}
+use Rattle.cx_unit_ends.specs.Ends.{final_as, final_by, final_object, made_object, names_object, objects_of, ordered_onto, put_object}
 use Rattle.cx_unit_ends.specs.Merged.{is_first_below, taken_below, left_above, merged}
 
 -- each number is at least this one, and less than those behind it
@@ -98,7 +98,11 @@ onto_merged (one ∷ objects) others least rising =
 
 final_number : (one : CObject) (found : Option CThing) → (final_as one found).object ≡ one.object
 final_number one None = refl
-final_number one (Some thing) = refl
+final_number one (Some thing) = by_state thing.is_defined refl
+  where
+    by_state : (is_defined : Bool) → thing.is_defined ≡ is_defined → (if is_defined then one else final_by thing one).object ≡ one.object
+    by_state true e = refl
+    by_state false e = refl
 
 pub keeps_number : (things : List CThing) (one : CObject) → (final_object things one).object ≡ one.object
 keeps_number things one = final_number one (find (names_object one.object) things)

@@ -36,7 +36,7 @@ final_by thing one = record one { type = final_type thing; puts = final_puts thi
 
 abbrev pub final_as : CObject → Option CThing → CObject
 final_as one None = one
-final_as one (Some thing) = record one { type = final_type thing; puts = final_puts thing one }
+final_as one (Some thing) = if thing.is_defined then one else final_by thing one
 
 abbrev pub names_object : ℕ → CThing → Bool
 names_object number thing = not thing.is_function && thing.number == number

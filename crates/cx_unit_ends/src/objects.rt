@@ -79,7 +79,13 @@ pub(crate) fn finished(
 {
     match object_thing(things, places, one.object) {
         None => Ok(one),
-        Some(thing) => finished_by(alloc, thing, one),
+        Some(thing) => {
+            if thing.is_defined {
+                Ok(one)
+            } else {
+                finished_by(alloc, thing, one)
+            }
+        }
     }
 }
 

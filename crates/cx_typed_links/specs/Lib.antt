@@ -1,0 +1,4 @@
+pub mod Embedding
+pub mod Homes
+pub mod Laws
+pub mod Links
