@@ -27,7 +27,7 @@ from random import Random
 from straight_generator import random_units
 from straight_oracle import NotOfTheForm, tokens_of, unit_of
 
-SECONDS = 20
+SECONDS = 120
 GCC = ["gcc", "-std=c99", "-pedantic-errors", "-fsyntax-only"]
 
 # ISO C99, 6.4.1

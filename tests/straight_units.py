@@ -31,7 +31,7 @@ from straight_generator import random_units
 from straight_oracle import Answer, answer_of, unit_of
 from straight_rows import ROWS, differing_rows
 
-SECONDS = 20
+SECONDS = 120
 GCC = ["gcc", "-std=c99", "-O0", "-w", "-fsanitize=signed-integer-overflow", "-fsanitize-undefined-trap-on-error"]
 
 
