@@ -1,4 +1,6 @@
 pub mod CallLeaves
+pub mod CalledExamples
+pub mod CalledRuns
 pub mod Examples
 pub mod HeldMoves
 pub mod HeldNodes
@@ -11,6 +13,15 @@ pub mod QuietCalls
 pub mod QuietRuns
 pub mod QuietSteps
 pub mod QuietWithout
+pub mod ReachCalls
+pub mod ReachExamples
+pub mod ReachMemory
+pub mod ReachMoves
+pub mod ReachNodes
+pub mod ReachStates
+pub mod ReachSteps
+pub mod ReachStores
+pub mod ReachValues
 pub mod Resumed
 pub mod StandLives
 pub mod Stands

@@ -168,6 +168,7 @@ pub quiet_calls_leave_rest : QuietCallsLeaveRest
 quiet_calls_leave_rest = record {
   without_calls = λ program e none. quiet_without program e none;
   stays = λ setting frame e before after operand quiet held steps. (steps_kept setting frame e before after (finished operand) quiet held steps).stays;
+  holds = λ setting frame e before now work quiet held steps. (steps_kept setting frame e before now work quiet held steps).held;
   calls = λ setting frame e before now work pick quiet held steps. calls_quietly_on setting frame e before now work pick quiet held steps;
   runs = λ setting state e before work purpose quiet held steps.
       let one = picked state.order (ready work) in

@@ -22,34 +22,34 @@ is_loop (for_loop first test next body) = true
 is_loop form = false
 
 -- `continue`, as `doing` says it
-abbrev continuing : Place → List CLevel → CBottom → Blocks → CStand
+abbrev pub continuing : Place → List CLevel → CBottom → Blocks → CStand
 continuing place [] bottom blocks = stand (goes_nowhere place) blocks
 continuing place (level ∷ outer) bottom blocks = elim (is_loop level.form) as (λ _. CStand) [
   | true ↦ turn_ended level outer bottom blocks
   | false ↦ continuing place outer bottom (without_objects level.slots blocks)
 ]
 
-abbrev puts_in : Option CPuts → CPuts
+abbrev pub puts_in : Option CPuts → CPuts
 puts_in None = no_puts
 puts_in (Some puts) = puts
 
 -- a put's value is evaluated, or what is behind the puts follows
-abbrev first_put : ℕ → CPuts → CBehind → CMove → CMove
+abbrev pub first_put : ℕ → CPuts → CBehind → CMove → CMove
 first_put number no_puts behind after = after
 first_put number (more_puts (put spot type value) others) behind after =
     values value (puts_it (place_of value) (record { object = number; spot = spot; type = type; others = others; behind = behind }))
 
 -- an object is reached whose initialiser is stored
-abbrev reached_object : Place → ℕ → Option CPuts → CSite → Result CCleared CWhy → Blocks → CStand
+abbrev pub reached_object : Place → ℕ → Option CPuts → CSite → Result CCleared CWhy → Blocks → CStand
 reached_object place number puts site (Ok one) blocks = putting number (puts_in puts) (in_body site) one.blocks
 reached_object place number puts site (Err why) blocks = stand (goes_nowhere place) blocks
 
-abbrev way_of_switch : ℤ → CStmt → Option CWay → Option CWay
+abbrev pub way_of_switch : ℤ → CStmt → Option CWay → Option CWay
 way_of_switch value body (Some way) = Some way
 way_of_switch value body None = way_to default_case body
 
 -- where the way of a `switch` leads, or what follows behind it
-abbrev switched_by : Option CWay → CLevel → List CLevel → CBottom → Blocks → CStand
+abbrev pub switched_by : Option CWay → CLevel → List CLevel → CBottom → Blocks → CStand
 switched_by None level outer bottom blocks = next_in (with_rest nothing_left level ∷ outer) bottom blocks
 switched_by (Some way) level outer bottom blocks = stand (following way (site_at (with_rest nothing_left level ∷ outer) bottom)) blocks
 

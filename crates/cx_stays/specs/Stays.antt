@@ -152,7 +152,11 @@ pub record QuietCallsLeaveRest : Type 0 where
       calls_only_quiet setting.program e ≡ true → HoldsCells (blocks_of before) →
       EvaluatesIn setting frame (begun e) before (finished operand) after →
       KeepsMadeBeside operand.marks.writes (blocks_of before) (blocks_of after)
-  -- and each function that a step of it calls is a quiet one
+  -- and each cell of a live block is one that a machine holds still, at every point of it
+  pub holds : (setting : CSetting) (frame : Frame) (e : CExpr) (before now : World) (work : CWork) →
+      calls_only_quiet setting.program e ≡ true → HoldsCells (blocks_of before) →
+      EvaluatesIn setting frame (begun e) before work now → HoldsCells (blocks_of now)
+  -- each function that a step of it calls is a quiet one
   pub calls : (setting : CSetting) (frame : Frame) (e : CExpr) (before now : World) (work : CWork) (pick : ℕ) →
       calls_only_quiet setting.program e ≡ true → HoldsCells (blocks_of before) →
       EvaluatesIn setting frame (begun e) before work now → CallsQuietly (step_at setting frame (blocks_of now) pick work)

@@ -1,8 +1,17 @@
+pub mod AlignedTypes
 pub mod Begins
+pub mod BlockCalls
+pub mod BlockChanges
+pub mod BlockMoves
+pub mod BlockRuns
+pub mod BlockStates
+pub mod BlockSteps
+pub mod BlockStores
 pub mod Calling
 pub mod CallsOutside
 pub mod Constants
 pub mod Evaluating
+pub mod ExampleBlocks
 pub mod Expressions
 pub mod FirstStates
 pub mod GoingOn

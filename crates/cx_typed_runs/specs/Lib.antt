@@ -1,3 +1,4 @@
+pub mod Blocks
 pub mod Runs
 pub mod Sites
 pub mod States
