@@ -92,6 +92,23 @@ row('ended -1 in 13 steps', PARAMS, steps=14, word='count')
 row(calls('steps used', [put(97), put(97)]), 'int putchar(int); int main(void) { for (;;) putchar(97); }', steps=10)
 row('steps used in 500 steps', 'int main(void) { for (;;) ; }', steps=500, word='count')
 
+
+def around(before, expected, text, **more):
+    """A bound one step short of what a run comes to behind so many steps, at it, and one past it."""
+    for steps in before, before + 1, before + 2:
+        row(f'steps used in {before} steps' if steps == before else expected, text, steps=steps, word='count', **more)
+
+
+comment('Bounds around what stops a run behind the call of `main`, its body, and a statement or a first object: an undefined step is counted, a call '
+        'that gets no answer and an object that finds no place aren\'t.')
+ASKS = 'int putchar(int); int main(void) { return putchar(1); }'
+around(3, 'U3 on line 1 of unit 0 in 4 steps', 'int main(void) { return 1 / 0; }')
+around(3, 'U2 on line 2 of unit 0 in 4 steps', 'int main(void) { return$n2147483647 + 1; }')
+around(3, 'refused putchar in 3 steps', ASKS, host='without putchar')
+around(3, 'host failed in 3 steps', ASKS, host='/0')
+around(3, 'store full 4 3 in 3 steps', 'int main(void) { int a, b; return 0; }', store='region:7:9')
+around(0, 'store full 100 64 in 0 steps', 'char big[100]; int main(void) { return 0; }', store='region:64:9')
+
 # ---- orders
 
 comment('Orders: the number of the order modulo the number of ready operands, where there are two or more.')
@@ -488,6 +505,10 @@ ends(3, pairs('', 'return (&(struct s){ 3 })->x;'))
 ends(5, pairs('int x2;', 'return (struct s){ x2 = 4, x2 + 1 }.y;'))
 row(calls('ended 0', [put(1), put(2)]), LIBRARY + PAIR + 'int main(void) { return (struct s){ putchar(1), putchar(2) }.y; }', order='1,1,1')
 ends(6, pairs('int x3, x4;', 'for (; x3 < 3; x3++) x4 += ++(struct s){ x3 }.x; return x4;'))
+LIVES = 'struct s { int x; int y; }; struct s o, *p = &o; int i'
+breaks('U1', LIVES + ', r; int main(void) { struct s *q; a: r = (q = &(struct s){ 1, 2 })->y + p->x; p = q; if (i++ < 1) goto a; return r; }')
+breaks('U1', LIVES + '; int main(void) { struct s *q; a: q = &(struct s){ p->x = 3 }; p = q; if (i++ < 1) goto a; return 0; }')
+ends(2, LIVES + ', r; int main(void) { struct s *q; a: r = (q = &(struct s){ 1, 2 })->y + p->x; p = q; if (i++ < 0) goto a; return r; }')
 
 # ---- units
 
@@ -648,6 +669,14 @@ def random_rows(count):
 
 
 random_rows(50)
+
+# ---- declarations behind an initialiser
+
+comment('Declarations behind an initialiser say more than it does: the object keeps the type that it gave.')
+ends(3, 'enum e { A }; unsigned x = 3; extern enum e x; int main(void) { return x; }')
+ends(1, 'void f(void) { extern int (*p)(int); } int (*p)() = 0; int main(void) { return p == 0; }')
+ends(5, 'int h(int a) { return a + 1; } void f(void) { extern int (*p)(int); } int (*p)() = h; int main(void) { extern int (*p)(int); return p(4); }')
+ends(3, 'enum e { A }; unsigned x = 3; extern enum e x; int main(void) { return x; }$uextern unsigned x; int g(void) { return x; }')
 
 
 def main():

@@ -2,11 +2,12 @@
 """Runs of C programs by `c2rs run-c`, against gcc's programs and against the rules of undefined steps.
 
     runs.py --c2rs PROGRAM       all of what follows
-    runs.py --gcc-only           the programs of tests/programs/ by gcc alone, with its checks for undefined steps
+    runs.py --gcc-only           the programs of tests/programs/ and the worked units by gcc alone, with its checks for undefined steps
 
 Each program of tests/programs/, with the input that stands beside it, is built and run by gcc too: both write the same bytes and have the
 same status. Each program of tests/undefined/ has one undefined step, on the line that names its rule, and that line and rule are told.
-What else is run has its answers here. Ends with 1 if anything differs.
+What else is run has its answers here and in worked_jobs.py. The last line says how much memory a loop of a million steps took, and how long and how
+much one of 10 million, which has to take less than 10 seconds, and a list of 500,000 nodes. Ends with 1 if anything differs.
 """
 
 import sys
@@ -18,8 +19,9 @@ import os
 import re
 import subprocess
 import tempfile
-from dataclasses import dataclass
 from pathlib import Path
+
+from worked_jobs import BOTH, CRATES, DEEP, LONG_LIST, LOOP, LOOPS, OTHERS, UNITS, Shown, ended, run_c, told
 
 TESTS = Path(__file__).resolve().parent
 PROGRAMS, UNDEFINED = TESTS / "programs", TESTS / "undefined"
@@ -47,47 +49,31 @@ RULES = {
     "U16": "overlap",
 }
 
+# Units that write by each function that does.
+FAILING_OUTPUTS = (
+    ("putchar", "int putchar(int); int main(void) { putchar('a'); return 0; }"),
+    ("puts", 'int puts(const char *); int main(void) { puts("a"); return 0; }'),
+    ("printf", 'int printf(const char *, ...); int main(void) { printf("%d", 1); return 0; }'),
+)
 
-@dataclass(frozen=True)
-class Shown:
-    """What a program wrote to standard output and standard error, and its status."""
-
-    written: bytes
-    report: str
-    status: int
-
-
-@dataclass(frozen=True)
-class Row:
-    """A unit, words before its name, its input, and what `run-c` has to show of it."""
-
-    title: str
-    text: str
-    words: tuple = ()
-    given: bytes = b""
-    wanted: Shown = Shown(b"", "", 0)
-
-
-FAILING_OUTPUT = "int putchar(int);\nint main(void) { putchar('a'); return 0; }\n"
+# The most processor seconds of a run of 10 million steps, and how often it is tried on a machine that does more.
+MOST_SECONDS = 10
+TRIES = 3
 
 ROWS = (
-    Row("an order of operands", "int x = 1; int f(void) { x = 5; return 10; } int main(void) { return x + f(); }", (), b"",
-        Shown(b"", "c2rs: ended 11\n", 0)),
-    Row("another order", "int x = 1; int f(void) { x = 5; return 10; } int main(void) { return x + f(); }", ("--order", "1"), b"",
-        Shown(b"", "c2rs: ended 15\n", 0)),
-    Row("steps that are used up", "int putchar(int); int main(void) { putchar('a'); for (;;) ; }", ("--steps", "50"), b"",
-        Shown(b"a", "c2rs: steps used: 50\n", 7)),
-    Row("a call without its argument", 'int printf(const char *, ...); int main(void) { return printf("%d"); }', (), b"",
-        Shown(b"", "c2rs: call refused: printf\n", 13)),
-    Row("a call of another function", "int rand(void); int main(void) { return rand(); }", (), b"",
-        Shown(b"", "c2rs: call refused: rand\n", 13)),
-    Row("output before an undefined step",
-        'int puts(const char *);\nint main(void) {\n    int n = 0;\n    puts("before");\n    return 1 / n;\n}\n', (), b"",
-        Shown(b"before\n", "a.c:5: undefined: U3 division\n", 5)),
-    Row("a status past a byte", "int main(void) { return 300; }", (), b"", Shown(b"", "c2rs: ended 300\n", 0)),
-    Row("input of every byte",
-        "int getchar(void); int putchar(int); int main(void) { int c; while ((c = getchar()) != -1) putchar(c); return 0; }", (),
-        bytes(range(256)) * 64, Shown(bytes(range(256)) * 64, "c2rs: ended 0\n", 0)),
+    run_c("steps that are used up", "int putchar(int); int main(void) { putchar('a'); for (;;) ; }", told(7, "c2rs: steps used: 50", b"a"),
+          ("--steps", "50")),
+    run_c("a call of another function", "int rand(void); int main(void) { return rand(); }", told(13, "c2rs: call refused: rand")),
+    run_c("output before an undefined step",
+          'int puts(const char *);\nint main(void) {\n    int n = 0;\n    puts("before");\n    return 1 / n;\n}\n',
+          told(5, "a.c:5: undefined: U3 division", b"before\n")),
+    run_c("output before a call that is refused",
+          'int puts(const char *); int rand(void); int main(void) { puts("before"); return rand(); }',
+          told(13, "c2rs: call refused: rand", b"before\n")),
+    run_c("a status past a byte", "int main(void) { return 300; }", ended(300)),
+    run_c("input of every byte",
+          "int getchar(void); int putchar(int); int main(void) { int c; while ((c = getchar()) != -1) putchar(c); return 0; }",
+          ended(0, bytes(range(256)) * 64), given=bytes(range(256)) * 64),
 )
 
 
@@ -112,11 +98,11 @@ def program_difference(c2rs, program, folder):
     """How `run-c` differs from gcc's program, or None."""
     wanted = by_gcc(program, folder)
     shown = run([c2rs, "run-c", "--steps", "100000000", program.name], PROGRAMS, given_to(program))
-    ended = re.fullmatch(r"c2rs: ended (-?\d+)\n", shown.report)
-    if shown.status != 0 or not ended:
+    status = ended_status(shown.report)
+    if shown.status != 0 or status is None:
         return f"status {shown.status}: {shown.report}"
-    if int(ended[1]) % 256 != wanted.status:
-        return f"ended {ended[1]}, and gcc's program {wanted.status}"
+    if status % 256 != wanted.status:
+        return f"ended {status}, and gcc's program {wanted.status}"
     if shown.written != wanted.written:
         return f"wrote {shown.written[:400]!r}, and gcc's program {wanted.written[:400]!r}"
     return None
@@ -133,9 +119,41 @@ def undefined_difference(c2rs, program):
     return difference(run([c2rs, "run-c", program.name], UNDEFINED), wanted)
 
 
-def row_difference(c2rs, row, folder):
-    (folder / "a.c").write_text(row.text)
-    return difference(run([c2rs, "run-c", *row.words, "a.c"], folder, row.given), row.wanted)
+def write(files, folder):
+    for name, text in files:
+        (folder / name).parent.mkdir(parents=True, exist_ok=True)
+        (folder / name).write_text(text)
+
+
+def shown_of(c2rs, job):
+    """What a job over its files shows, in a folder of its own."""
+    with tempfile.TemporaryDirectory() as folder:
+        write(job.files, Path(folder))
+        return run([c2rs, *job.words], folder, job.given)
+
+
+def job_difference(c2rs, job):
+    return difference(shown_of(c2rs, job), job.wanted)
+
+
+def both_difference(c2rs, text, wanted):
+    """A unit is run, translated, and its crate is run."""
+    with tempfile.TemporaryDirectory() as folder:
+        write((("a.c", text),), Path(folder))
+        for words, shows in (("run-c", "a.c"), wanted), (("transpile", "-o", "out", "a.c"), Shown(b"", "", 0)), (("run-rust", "out"), wanted):
+            if differs := difference(run([c2rs, *words], folder), shows):
+                return f"{words[0]}: {differs}"
+    return None
+
+
+def loops_difference(c2rs):
+    """Loops that write one letter until their steps or units are used up."""
+    for job in LOOPS:
+        shown = shown_of(c2rs, job)
+        letters = b"a" * len(shown.written)
+        if not letters or shown != Shown(letters, job.wanted.report, job.wanted.status):
+            return f"{job.title}: {brief(shown)}"
+    return None
 
 
 def difference(shown, wanted):
@@ -146,11 +164,18 @@ def brief(shown):
     return f"status {shown.status}, report {shown.report[:200]!r}, output {shown.written[:200]!r}"
 
 
-def closed_difference(c2rs, folder):
-    """Where standard output is closed, a program that writes there fails."""
-    (folder / "a.c").write_text(FAILING_OUTPUT)
-    done = subprocess.run(["sh", "-c", '"$0" run-c a.c >&-', c2rs], cwd=folder, capture_output=True, timeout=SECONDS)
+def closed_difference(c2rs, text, output, folder):
+    """Where standard output is closed or full, a program that writes there fails."""
+    (folder / "a.c").write_text(text)
+    done = subprocess.run(["sh", "-c", f'"$0" run-c a.c >{output}', c2rs], cwd=folder, capture_output=True, timeout=SECONDS)
     return difference(Shown(done.stdout, done.stderr.decode(), done.returncode), Shown(b"", "c2rs: host failed\n", 9))
+
+
+def unreported_difference(c2rs, folder):
+    """Where standard error is full, the report of a run can't be written."""
+    (folder / "a.c").write_text("int main(void) { return 0; }")
+    done = subprocess.run(["sh", "-c", '"$0" run-c a.c 2>/dev/full', c2rs], cwd=folder, capture_output=True, timeout=SECONDS)
+    return difference(Shown(done.stdout, done.stderr.decode(), done.returncode), Shown(b"", "", 4))
 
 
 def together_difference(c2rs, folder):
@@ -161,15 +186,61 @@ def together_difference(c2rs, folder):
     return None if done.stdout == wanted and done.returncode == 0 else f"{done.stdout[-80:]!r}, status {done.returncode}"
 
 
-def differences(c2rs, folder):
+def measured(command, folder):
+    """What a program shows, its processor seconds, and the most memory that it had, in megabytes."""
+    with open(folder / "written", "w+b") as written, open(folder / "report", "w+b") as report:
+        begun = subprocess.Popen(command, cwd=folder, stdin=subprocess.DEVNULL, stdout=written, stderr=report)
+        _, status, usage = os.wait4(begun.pid, 0)
+        begun.returncode = os.waitstatus_to_exitcode(status)
+        written.seek(0)
+        report.seek(0)
+        shown = Shown(written.read(), report.read().decode(errors="replace"), begun.returncode)
+    return shown, usage.ru_utime + usage.ru_stime, usage.ru_maxrss * 1024 / 1e6
+
+
+def pace_differences(c2rs, folder, paces):
+    """Loops of one and of 10 million steps, and a list of 500,000 nodes; what they took is added to `paces`."""
+    (folder / "loop.c").write_text(LOOP)
+    (folder / "list.c").write_text(LONG_LIST)
+    short, _, less = measured([c2rs, "run-c", "--steps", "1000000", "loop.c"], folder)
+    yield "a loop of a million steps", difference(short, told(7, "c2rs: steps used: 1000000"))
+    for _ in range(TRIES):
+        shown, seconds, memory = measured([c2rs, "run-c", "--steps", "10000000", "loop.c"], folder)
+        if seconds < MOST_SECONDS:
+            break
+    paces.append(f"a million steps took {less:.1f} MB, 10 million {seconds:.2f} s and {memory:.1f} MB")
+    slow = f"{seconds:.2f} s" if MOST_SECONDS <= seconds else None
+    yield "a loop of 10 million steps", difference(shown, told(7, "c2rs: steps used: 10000000")) or slow
+    shown, seconds, memory = measured([c2rs, "run-c", "--steps", "1000000000", "list.c"], folder)
+    paces.append(f"a list of 500,000 nodes {seconds:.2f} s and {memory:.1f} MB")
+    yield "a list of 500,000 nodes", difference(shown, ended(0, b"124999750000\n"))
+
+
+def deep_difference(c2rs, folder):
+    """Calls of a function 100,000 deep end or come to want of memory, within 8 MiB of stack."""
+    (folder / "a.c").write_text(DEEP)
+    words = ["sh", "-c", 'ulimit -s 8192; "$0" run-c --steps 100000000 a.c', c2rs]
+    shown = run(words, folder)
+    return None if shown == told(10, "c2rs: out of memory") else difference(shown, ended(100000))
+
+
+def differences(c2rs, folder, paces):
     for program in sorted(PROGRAMS.glob("*.c")):
         yield program.name, program_difference(c2rs, program, folder)
     for program in sorted(UNDEFINED.glob("*.c")):
         yield program.name, undefined_difference(c2rs, program)
-    for row in ROWS:
-        yield row.title, row_difference(c2rs, row, folder)
-    yield "standard output is closed", closed_difference(c2rs, folder)
+    for job in (*ROWS, *UNITS, *OTHERS, *CRATES):
+        yield job.title, job_difference(c2rs, job)
+    for text, wanted in BOTH:
+        yield f"{text} on both sides", both_difference(c2rs, text, wanted)
+    yield "loops of calls on both sides", loops_difference(c2rs)
+    for name, text in FAILING_OUTPUTS:
+        for output in "&-", "/dev/full":
+            yield f"{name} where standard output is {output}", closed_difference(c2rs, text, output, folder)
+    yield "a report that can't be written", unreported_difference(c2rs, folder)
     yield "output and report in one pipe", together_difference(c2rs, folder)
+    yield "calls 100,000 deep", deep_difference(c2rs, folder)
+    yield from pace_differences(c2rs, folder, paces)
 
 
 def gcc_differences(folder):
@@ -178,6 +249,23 @@ def gcc_differences(folder):
     for program in sorted(PROGRAMS.glob("*.c")):
         plain, checked = by_gcc(program, folder), by_gcc(program, folder, CHECKS)
         yield program.name, difference(checked, plain)
+    for job in UNITS:
+        yield job.title, worked_by_gcc(job, folder)
+
+
+def worked_by_gcc(job, folder):
+    """Whether gcc's program of a worked unit shows what the unit is to show."""
+    [(name, text)] = job.files
+    (folder / name).write_text(text)
+    subprocess.run([*GCC, *CHECKS, "-o", folder / "worked", folder / name], check=True)
+    wanted = ended_status(job.wanted.report)
+    return difference(run([folder / "worked"], folder, job.given), Shown(job.wanted.written, "", wanted % 256))
+
+
+def ended_status(report):
+    """The status that a report says, or None."""
+    said = re.fullmatch(r"c2rs: ended (-?\d+)\n", report)
+    return int(said[1]) if said else None
 
 
 def main():
@@ -188,14 +276,15 @@ def main():
     if words.gcc_only == (words.c2rs is not None):
         parser.error("give --c2rs PROGRAM or --gcc-only")
     count = failed = 0
+    paces = []
     with tempfile.TemporaryDirectory() as folder:
-        found = gcc_differences(Path(folder)) if words.gcc_only else differences(words.c2rs.resolve(), Path(folder))
+        found = gcc_differences(Path(folder)) if words.gcc_only else differences(words.c2rs.resolve(), Path(folder), paces)
         for title, differs in found:
             count += 1
             if differs is not None:
                 failed += 1
                 print(f"{title}: {differs}")
-    print(f"{count} looked at, {failed} differ")
+    print("; ".join((f"{count} looked at, {failed} differ", *paces)))
     return 1 if failed else 0
 
 

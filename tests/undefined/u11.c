@@ -3,9 +3,8 @@ int main(void)
 {
     int list[4] = { 1, 2, 3, 4 };
     int *p = list, sum = 0;
-    while (p < list + 4) {
+    for (; p < list + 4;
+         p += 3) /* U11 */
         sum += *p;
-        p += 3; /* U11 */
-    }
     return sum;
 }

@@ -1,0 +1,15 @@
+pub mod Declared
+pub mod Initialisers
+pub mod Keeps
+pub mod Linked
+pub mod Lists
+pub mod Meanings
+pub mod Nodes
+pub mod Operands
+pub mod Renumbered
+pub mod Scopes
+pub mod Statements
+pub mod Trees
+pub mod UnitEnd
+pub mod UnitNodes
+pub mod Units

@@ -1,0 +1,10 @@
+pub mod ExampleFull
+pub mod Examples
+pub mod Full
+pub mod Moves
+pub mod Nodes
+pub mod Outside
+pub mod Standing
+pub mod States
+pub mod Steps
+pub mod Ways
