@@ -1,5 +1,5 @@
 -- How a run of C came out, in the words of both languages.
-use Rattle.std.specs.Prelude.{Bool, true, false}
+use Rattle.std.specs.Prelude.{ℕ, ◌<◌, Bool, true, false, ⊤}
 use Rattle.cx_exec.specs.declared.outcome.COutcome.{COutcome}
 use Rattle.cx_exec.specs.declared.outcome.COutcome.TheVariants as outcome
 use Rattle.run_ends.specs.declared.end.End.{End}
@@ -22,3 +22,14 @@ is_wrong StepsUsed = false
 is_wrong (StoreFull need left) = false
 is_wrong (CallRefused name) = false
 is_wrong HostFailed = false
+
+-- an end that the run of so many units may have over a store without limit: a run of C isn't wrong, an undefined step stands in one of the
+-- units, and no object lacks room
+abbrev pub MayEnd : (count : ℕ) → End → Type 0
+MayEnd count (Wrong cause) = ⊥
+MayEnd count (Undefined rule unit line) = unit < count
+MayEnd count (StoreFull need left) = ⊥
+MayEnd count (Ended status) = ⊤
+MayEnd count StepsUsed = ⊤
+MayEnd count (CallRefused name) = ⊤
+MayEnd count HostFailed = ⊤

@@ -1,5 +1,5 @@
 -- What the run of units means: that of their linked program, over a store without limit.
-use Rattle.std.specs.Prelude.{ℕ, ℤ, List, None, ⊤}
+use Rattle.std.specs.Prelude.{◌≡◌, ℕ, ℤ, List, None, ⊤}
 use Rattle.cr_base.specs.declared.refusal.Stop.{Stop}
 use Rattle.cr_base.specs.declared.refusal.Stop.TheVariants.{Refused, Memory}
 use Rattle.cx_core.specs.Trees.{CProgram, CUnit}
@@ -37,6 +37,12 @@ program_meaning program order steps = λ trail. record {
 -- what typed units mean: their linked program
 abbrev pub meaning_of : List CUnit → List ℕ → ℕ → Meaning
 meaning_of cores order steps = program_meaning (linked cores) order steps
+
+-- units of these bytes break no rule, and this is their linked program
+pub record IsProgramOf (units : List (List ℕ)) (program : CProgram) : Type 0 where
+  pub cores : List CUnit
+  pub unbroken : AreUnbroken units cores
+  pub linked : program ≡ linked cores
 
 -- units of these bytes break no rule, and the run of their program came to an end, from a host to a later one
 pub record AreRun (units : List (List ℕ)) (order : List ℕ) (steps : ℕ) (host later : HostState) (end : End) : Type 0 where

@@ -4,4 +4,4 @@
 mod end;
 mod run;
 
-pub use run::{run_program, run_units};
+pub use run::{checked_program, run_program, run_units};

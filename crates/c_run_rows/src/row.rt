@@ -3,10 +3,9 @@ use crate::asked::Asked;
 use crate::fault::RowFault;
 use crate::run::write_run;
 use crate::units::sources;
+use c_job::checked_program;
 use cr_base::{Refusal, Stop};
-use cx_core::Parts;
-use cx_linked::parts_of;
-use cx_units::check_units;
+use cx_core::Program;
 use std::alloc::{AllocError, Global};
 
 /// The answer to a row: how its program runs, or why it doesn't.
@@ -26,23 +25,19 @@ fn write_answer(alloc: Global, row: &str, out: &mut Answer) -> Option<RowFault> 
     };
     let mut asked = Asked::new(setting);
     match program(alloc, text, &mut asked) {
-        Ok(parts) => write_run(alloc, &parts, setting, &mut asked, out),
+        Ok(program) => write_run(alloc, &program, setting, &mut asked, out),
         Err(stop) => asked.fail(RowFault::of(stop)),
     }
     asked.fault()
 }
 
 // The program of the units of a text, or the first rule that they break. Only for want of memory is there no unit.
-fn program(alloc: Global, text: &str, asked: &mut Asked) -> Result<Parts, Stop> {
+fn program(alloc: Global, text: &str, asked: &mut Asked) -> Result<Program, Stop> {
     let sources = sources(alloc, text, asked);
     if sources.is_empty() {
         return Err(Stop::Memory);
     }
-    let units = check_units(alloc, sources.as_slice())?;
-    match parts_of(alloc, units.as_slice()) {
-        Ok(parts) => Ok(parts),
-        Err(_) => Err(Stop::Memory),
-    }
+    checked_program(alloc, sources.as_slice())
 }
 
 fn write_fault(fault: RowFault, out: &mut Answer) {

@@ -7,9 +7,8 @@ use crate::asked::Asked;
 use crate::fault::RowFault;
 use crate::host::RowHost;
 use crate::store::region;
-use cx_core::Parts;
-use cx_exec::{COutcome, CRun, run_parts};
-use cx_grounded::layouts_of;
+use cx_core::Program;
+use cx_exec::{COutcome, CRun, run_c};
 use mem_bytes::{ListStore, Store};
 use std::alloc::Global;
 
@@ -19,7 +18,7 @@ const MOST_STEPS: u64 = 1_000_000_000;
 /// Writes how a program runs.
 pub(crate) fn write_run<'a>(
     alloc: Global,
-    parts: &Parts,
+    program: &Program,
     setting: &'a str,
     asked: &mut Asked<'a>,
     out: &mut Answer,
@@ -35,7 +34,7 @@ pub(crate) fn write_run<'a>(
     if store == "list" {
         run_ordered(
             alloc,
-            parts,
+            program,
             steps,
             &mut ListStore::new(alloc),
             counts,
@@ -43,7 +42,7 @@ pub(crate) fn write_run<'a>(
             out,
         );
     } else if let Some(mut store) = region(alloc, store, asked) {
-        run_ordered(alloc, parts, steps, &mut store, counts, asked, out);
+        run_ordered(alloc, program, steps, &mut store, counts, asked, out);
     }
 }
 
@@ -73,7 +72,7 @@ fn order(alloc: Global, word: &str, asked: &mut Asked) -> Vec<u32> {
 
 fn run_ordered<S: Store>(
     alloc: Global,
-    parts: &Parts,
+    program: &Program,
     steps: u64,
     store: &mut S,
     counts: bool,
@@ -88,7 +87,7 @@ fn run_ordered<S: Store>(
     let mut host = RowHost::asked(alloc, asked);
     run_hosted(
         alloc,
-        parts,
+        program,
         steps,
         store,
         counts,
@@ -102,7 +101,7 @@ fn run_ordered<S: Store>(
 // Runs a program over a store, under an order, with the answers of a host.
 fn run_hosted<S: Store>(
     alloc: Global,
-    parts: &Parts,
+    program: &Program,
     steps: u64,
     store: &mut S,
     counts: bool,
@@ -114,14 +113,7 @@ fn run_hosted<S: Store>(
     requires steps { steps ≤ MOST_STEPS }
     requires empty { S.memory store.old ≡ [] }
 {
-    let layouts = match layouts_of(alloc, &parts.types) {
-        Ok(layouts) => layouts,
-        Err(_) => {
-            asked.fail(RowFault::Memory);
-            return;
-        }
-    };
-    match run_parts(alloc, parts, &layouts, order, steps, store, host) {
+    match run_c(alloc, program, order, steps, store, host) {
         Ok(run) => {
             write_ended(&run, counts, out);
             host.write_made(out);

@@ -2,3 +2,4 @@ pub mod Between
 pub mod Looping
 pub mod Outcomes
 pub mod Runs
+pub mod Sizes

@@ -6,4 +6,4 @@ mod run;
 mod stop;
 
 pub use outcome::{COutcome, CRun};
-pub use run::{run_c, run_parts};
+pub use run::run_c;

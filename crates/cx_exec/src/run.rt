@@ -13,8 +13,8 @@ use crate::outcome::{COutcome, CRun};
 use crate::stop::outcome_of;
 use cr_base::{Items, Memory};
 use cx_access::Setting;
-use cx_core::{Parts, Program};
-use cx_layout::{Layouts, types_are_grounded};
+use cx_core::Program;
+use cx_layout::{LayoutFault, Layouts, types_are_grounded};
 use cx_machine::{Control, Machine, Stop, goes_to_statics};
 use cx_moves::{Move, Site};
 use cx_outside::Kept;
@@ -37,7 +37,8 @@ fn layouts_of(alloc: Global, program: &Program) -> Result<Layouts, Memory>
     types_are_grounded();
     match Layouts::build(alloc, &program.parts().types) {
         Ok(layouts) => Ok(layouts),
-        Err(_) => Err(Memory),
+        Err(LayoutFault::Memory) => Err(Memory),
+        Err(LayoutFault::TooLarge) => unreachable!(),
     }
 }
 
@@ -161,60 +162,6 @@ fn run_in<S: Store, H: Host>(
     let mut kept = Kept::new(alloc);
     let far = steps_on(&mut kept, &mut machine, store, host, setting, steps);
     ended(alloc, kept, far)
-}
-
-/// Runs the parts of a program, whose records have these layouts, as `run_c` runs a program. A step that no typed program takes, since
-/// its operands aren't of the types that its form asks for, leaves the run where it stands.
-///
-/// # Errors
-///
-/// `Memory` for want of memory.
-pub fn run_parts<S: Store, H: Host>(
-    alloc: Global,
-    parts: &Parts,
-    layouts: &Layouts,
-    order: &[u32],
-    steps: u64,
-    store: &mut S,
-    host: &mut H,
-) -> Result<CRun, Memory>
-    requires layouts { layouts.now ≡ layouts_of (view_types parts.now.types) }
-    requires steps { steps ≤ 1000000000 }
-    requires empty { S.memory store.old ≡ [] }
-
-    // The outcome is how far the meaning comes under the order and the trail within the steps.
-    ensures outcome { IfOk result (λ run.
-        IsProgress run.outcome (progress_within (record { program = view_program parts.now; order = order.now; limit = S.limit store.old; trail = run.trail }) steps)) }
-
-    // It takes all answers of the trail; those of an allocation are 0 exactly where the limit of the store
-    // refuses the block, and 1 otherwise, since the meaning goes astray by any other.
-    ensures trail { IfOk result (λ run.
-        (world_within (record { program = view_program parts.now; order = order.now; limit = S.limit store.old; trail = run.trail }) steps).answers ≡ []) }
-
-    // The steps that it took.
-    ensures taken { IfOk result (λ run.
-        TookSteps (record { program = view_program parts.now; order = order.now; limit = S.limit store.old; trail = run.trail }) steps run.outcome run.steps) }
-
-    // The calls that it made, with the answers of the host.
-    ensures told { IfOk result (λ run. (H.state host.new).made ≡ option_map
-        (λ made. made ++ (world_within (record { program = view_program parts.now; order = order.now; limit = S.limit store.old; trail = run.trail }) steps).made)
-        (H.state host.old).made) }
-    ensures given { IfOk result (λ run.
-        AreGiven (world_within (record { program = view_program parts.now; order = order.now; limit = S.limit store.old; trail = run.trail }) steps).made
-        (H.state host.old).left (H.state host.new).left) }
-    ensures takes { IfOk result (λ run.
-        AreTaken (H.state host.old).takes (world_within (record { program = view_program parts.now; order = order.now; limit = S.limit store.old; trail = run.trail }) steps).made) }
-
-    // The call at which the host stopped it.
-    ensures asks { IfOk result (λ run. AsksHost (H.state host.old) run.outcome
-        (progress_within (record { program = view_program parts.now; order = order.now; limit = S.limit store.old; trail = run.trail }) steps)) }
-    ensures failed { IfOk result (λ run. HasFailed (H.state host.old) (H.state host.new) run.outcome) }
-{
-    let setting = Setting {
-        program: parts,
-        layouts,
-    };
-    run_in(alloc, &setting, order, steps, store, host)
 }
 
 /// Runs a program over a store in which no block was made, with the answers of a host, for `steps` steps at most, at most

@@ -1,4 +1,5 @@
-//! Whether the records of units have layouts. Those of typed units do; as long as no law says so, it is asked.
+//! Whether the records of types have layouts. Those of typed units and programs do (`types_are_grounded` of `cx_layout`); of types of
+//! which that isn't known it is asked.
 
 ghost use Rattle.std.specs.Prelude.{◌≡◌, true, map, option_map, IfOk};
 ghost use Rattle.std.specs.Option.{option_copied};

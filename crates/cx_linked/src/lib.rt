@@ -8,4 +8,4 @@ mod numbers;
 mod parts;
 mod program;
 
-pub use program::{link, parts_of};
+pub use program::{link, program_of};

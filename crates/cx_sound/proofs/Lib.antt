@@ -1,2 +1,2 @@
 mod Example
-mod Sound
+pub mod Sound

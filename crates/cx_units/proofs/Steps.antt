@@ -2,7 +2,7 @@
 use Rattle.std.proofs.Common.{rules, arith, ◌≡◌, ℕ, zero, suc, ◌+◌, ◌<◌, ◌≤◌, ◌⊎◌, inl, inr, List, [], ◌∷◌, ◌++◌, map, take, length, Option, Some, None, option_map, refl, sym, ap, ◌∙◌, subst, slice_get, unwrap_or}
 use Rattle.std.proofs.Math.Seq.{take-length}
 use Rattle.std.proofs.lemmas.Option.{slice_get_within}
-use Rattle.std.specs.Prelude.{IfErr, Result, Ok, Err}
+use Rattle.std.specs.Prelude.{IfErr, IfOk, Result, Ok, Err}
 use Rattle.std.specs.Result.{IsErrAnd}
 use Rattle.cr_base.specs.declared.refusal.Refusal.{Refusal}
 use Rattle.cr_base.specs.declared.refusal.Stop.{Stop}
@@ -26,6 +26,11 @@ use Rattle.cx_units.specs.declared.source.Source.{Source}
 pub kept_error : {X : Type 0} (P : Stop → Type 0) (stop : Stop) (r : Result X Stop) → IsErrAnd r (λ e. e ≡ stop) → P stop → IfErr r P
 kept_error P stop (Ok found) same known = tt
 kept_error P stop (Err e) same known = subst P (sym same) known
+
+-- what holds in any case holds where something was found
+pub whenever : {X E : Type 0} (P : Type 0) (r : Result X E) → P → IfOk r (λ found. P)
+whenever P (Ok found) known = known
+whenever P (Err e) known = tt
 
 -- ---- a unit
 

@@ -1,5 +1,5 @@
 -- The bytes of units as they were got.
-use Rattle.std.specs.Prelude.{◌≡◌, ℕ, ◌<◌, ◌≤◌, List, [], ◌∷◌, length, ⊤}
+use Rattle.std.specs.Prelude.{◌≡◌, ℕ, ◌<◌, ◌≤◌, List, [], ◌∷◌, length, All, ⊤}
 use Rattle.cr_base.specs.declared.refusal.Stop.{Stop}
 use Rattle.cr_base.specs.declared.refusal.Stop.TheVariants.{Refused, Memory}
 use Rattle.cx_lex.specs.declared.token.Token.{Token}
@@ -18,6 +18,11 @@ AreOf [] [] = ⊤
 AreOf (source ∷ sources) (unit ∷ units) = IsOf source unit × AreOf sources units
 AreOf [] (unit ∷ units) = ⊥
 AreOf (source ∷ sources) [] = ⊥
+
+-- a unit was got whole, as bytes: each is a number below 256 (ISO C99, 3.6)
+abbrev pub IsGot : Source → Type 0
+IsGot (Bytes given) = All (λ byte. byte < 256) given
+IsGot TooLarge = ⊥
 
 -- why a unit with such bytes is stopped: by the first rule that it breaks, under its own number, or for want of memory
 abbrev pub StopsUnit : ℕ → (List ℕ → Type 0) → Stop → Type 0

@@ -1,11 +1,11 @@
 //! The typed units of bytes, or the first rule that they break.
 
-ghost use Rattle.std.specs.Prelude.{◌≡◌, ℕ, ◌<◌, List, map, length, IfOk, IfErr};
+ghost use Rattle.std.specs.Prelude.{◌≡◌, ℕ, ◌<◌, List, map, length, All, IfOk, IfErr};
 ghost use Rattle.cr_base.specs.declared.refusal.Stop.TheVariants as stop;
 ghost use Rattle.cr_base.specs.declared.rule.Rule.TheVariants.{M1};
 ghost use Rattle.cx_core.specs.Views.{view_unit};
 ghost use Rattle.cx_units.specs.Broken.{AreTyped, AreUnbroken, IsTypedAs};
-ghost use Rattle.cx_units.specs.Sources.{AreOf, AreSpelled, IsOf, StopsUnit, StopsUnits, stopped_in};
+ghost use Rattle.cx_units.specs.Sources.{AreOf, AreSpelled, IsGot, IsOf, StopsUnit, StopsUnits, stopped_in};
 
 use crate::source::Source;
 use cr_base::{Items, Memory, Refusal, Rule, Stop};
@@ -55,6 +55,7 @@ fn typed(alloc: Global, tokens: &[Token], unit: u32) -> Result<CoreUnit, Stop>
 // The typed unit of bytes.
 fn typed_bytes(alloc: Global, bytes: &[u8], unit: u32) -> Result<CoreUnit, Stop>
     ensures typed { IfOk result (λ core. IsTypedAs unit bytes.now (view_unit core)) }
+    ensures got { IfOk result (λ core. All (λ byte. byte < 256) bytes.now) }
     ensures refused { IfErr result (λ why. StopsUnit unit (λ given. bytes.now ≡ given) why) }
 {
     if bytes.len() > MOST_BYTES {
@@ -66,6 +67,7 @@ fn typed_bytes(alloc: Global, bytes: &[u8], unit: u32) -> Result<CoreUnit, Stop>
 
 fn typed_source(alloc: Global, source: &Source, unit: u32) -> Result<CoreUnit, Stop>
     ensures typed { IfOk result (λ core. (bytes : List ℕ) → IsOf source.now bytes → IsTypedAs unit bytes (view_unit core)) }
+    ensures got { IfOk result (λ core. IsGot source.now) }
     ensures refused { IfErr result (λ why. StopsUnit unit (IsOf source.now) why) }
 {
     match source {
@@ -88,6 +90,7 @@ fn number_of(place: usize) -> Result<u32, Memory>
 fn all_typed(alloc: Global, sources: &[Source]) -> Result<Items<CoreUnit>, Stop>
     ensures typed { IfOk result (λ cores. (units : List (List ℕ)) → AreOf sources.now units → AreTyped 0 units (map view_unit cores)) }
     ensures count { IfOk result (λ cores. length cores ≡ length sources.now) }
+    ensures got { IfOk result (λ cores. All IsGot sources.now) }
     ensures refused { IfErr result (λ why. StopsUnits sources.now why) }
 {
     let mut cores = Items::new(alloc);
@@ -103,6 +106,7 @@ fn all_typed(alloc: Global, sources: &[Source]) -> Result<Items<CoreUnit>, Stop>
 pub fn check_units(alloc: Global, sources: &[Source]) -> Result<Items<CoreUnit>, Stop>
     requires some { 0 < length sources.now }
     ensures unbroken { IfOk result (λ cores. (units : List (List ℕ)) → AreOf sources.now units → AreUnbroken units (map view_unit cores)) }
+    ensures got { IfOk result (λ cores. All IsGot sources.now) }
     ensures refused { IfErr result (λ why. StopsUnits sources.now why) }
 {
     let cores = all_typed(alloc, sources)?;

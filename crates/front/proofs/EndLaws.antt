@@ -116,7 +116,7 @@ when_7 job (not_rust name line) s t u v a b r leaves is now = other (not_rust na
 when_7 job (ill_typed name item) s t u v a b r leaves is now = other (ill_typed name item) a b r 7 now (λ (x : 7 ≡ 4). omega arith) (λ (x : 7 ≡ 10). omega arith) (λ (x : 7 ≡ 11). omega arith) is
 
 -- status 8
-pub when_8 : (job : Option Job) (ending : Ending) (s t : ShelfState) (u v : HostState) (a b : SinkState) (r : ℕ) → Leaves job ending s t u v → IsTold ending a b r → r ≡ 8 → ForRun job (λ one. (need : ℕ) × (left : ℕ) × CameTo one (end.StoreFull need left) s t u v × Appended (tale.full_report need left) a.written b.written)
+when_8 : (job : Option Job) (ending : Ending) (s t : ShelfState) (u v : HostState) (a b : SinkState) (r : ℕ) → Leaves job ending s t u v → IsTold ending a b r → r ≡ 8 → ForRun job (λ one. (need : ℕ) × (left : ℕ) × CameTo one (end.StoreFull need left) s t u v × Appended (tale.full_report need left) a.written b.written)
 when_8 job done s t u v a b r leaves is now = other done a b r 8 now (λ (x : 8 ≡ 4). omega arith) (λ (x : 8 ≡ 10). omega arith) (λ (x : 8 ≡ 0). omega arith) is
 when_8 job (refused file refusal) s t u v a b r leaves is now = other (refused file refusal) a b r 8 now (λ (x : 8 ≡ 4). omega arith) (λ (x : 8 ≡ 10). omega arith) (λ (x : 8 ≡ 1). omega arith) is
 when_8 job usage s t u v a b r leaves is now = other usage a b r 8 now (λ (x : 8 ≡ 4). omega arith) (λ (x : 8 ≡ 10). omega arith) (λ (x : 8 ≡ 2). omega arith) is
@@ -136,6 +136,18 @@ when_8 job (told tale.host_failed) s t u v a b r leaves is now = other (told tal
 when_8 job (told (tale.call_refused name)) s t u v a b r leaves is now = other (told (tale.call_refused name)) a b r 8 now (λ (x : 8 ≡ 4). omega arith) (λ (x : 8 ≡ 10). omega arith) (λ (x : 8 ≡ 13). omega arith) is
 when_8 job (not_rust name line) s t u v a b r leaves is now = other (not_rust name line) a b r 8 now (λ (x : 8 ≡ 4). omega arith) (λ (x : 8 ≡ 10). omega arith) (λ (x : 8 ≡ 11). omega arith) is
 when_8 job (ill_typed name item) s t u v a b r leaves is now = other (ill_typed name item) a b r 8 now (λ (x : 8 ≡ 4). omega arith) (λ (x : 8 ≡ 10). omega arith) (λ (x : 8 ≡ 11). omega arith) is
+
+-- no run has it, since the store has no limit
+lacks_room : (job : Option Job) (s t : ShelfState) (u v : HostState) (a b : SinkState)
+    → ForRun job (λ one. (need : ℕ) × (left : ℕ) × CameTo one (end.StoreFull need left) s t u v × Appended (tale.full_report need left) a.written b.written) → ⊥
+lacks_room None s t u v a b has = has
+lacks_room (Some (transpile directory names)) s t u v a b has = has
+lacks_room (Some too_many) s t u v a b has = has
+lacks_room (Some (run_c given order names)) s t u v a b has = has.2.may_come
+lacks_room (Some (run_rust given directory)) s t u v a b has = has.2.may_come
+
+pub never_8 : (job : Option Job) (ending : Ending) (s t : ShelfState) (u v : HostState) (a b : SinkState) (r : ℕ) → Leaves job ending s t u v → IsTold ending a b r → r ≢ 8
+never_8 job ending s t u v a b r leaves is now = lacks_room job s t u v a b (when_8 job ending s t u v a b r leaves is now)
 
 -- status 9
 pub when_9 : (job : Option Job) (ending : Ending) (s t : ShelfState) (u v : HostState) (a b : SinkState) (r : ℕ) → Leaves job ending s t u v → IsTold ending a b r → r ≡ 9 → ForRun job (λ one. CameTo one end.HostFailed s t u v × Appended tale.failed_report a.written b.written)

@@ -1,6 +1,6 @@
 -- What the jobs that run a program leave, from what their steps leave.
 use Rattle.std.proofs.Common.{◌≡◌, ℕ, ◌<◌, true, false, true≢false, List, map, length, Option, Some, inl, inr, refl, sym, subst}
-use Rattle.c_job.specs.Ends.{is_wrong}
+use Rattle.c_job.specs.Ends as c_ends
 use Rattle.c_job.specs.Meaning as units
 use Rattle.cr_base.specs.declared.refusal.Stop.{Stop}
 use Rattle.cr_base.specs.declared.refusal.Stop.TheVariants as stop
@@ -21,38 +21,49 @@ use Rattle.front.specs.declared.unread.Unread.TheVariants.{NotRead, NotMain, Mem
 use Rattle.front.proofs.SourceLaws.{where_map}
 use Rattle.rs_tree.specs.Text.{main_path}
 use Rattle.run_ends.specs.Runs.{HasFailed, IsRun, Meaning}
-use Rattle.run_ends.specs.Told.{Tale, name_at, tale_of}
+use Rattle.run_ends.specs.Told.{IsPlacedIn, Tale, name_at, tale_of}
 use Rattle.run_ends.specs.declared.end.End.{End}
 use Rattle.run_ends.specs.declared.end.End.TheVariants as end
-use Rattle.rust_job.specs.Ends.{is_undefined}
+use Rattle.rust_job.specs.Ends as rust_ends
 use Rattle.rust_job.specs.Meaning as crate
 use Rattle.shelf.specs.declared.file.File.{File}
 use Rattle.shelf.specs.Shelf.{ShelfState}
 
 -- ---- units
 
-right_units : (steps : ℕ) (order : List ℕ) (names : List (List ℕ)) (by : End) → is_wrong by ≡ false → MayCome (run_c steps order names) by
-right_units steps order names (end.Ended code) e = tt
-right_units steps order names (end.Undefined rule unit line) e = tt
-right_units steps order names (end.Wrong cause) e = absurd (true≢false e)
-right_units steps order names end.StepsUsed e = tt
-right_units steps order names (end.StoreFull need left) e = tt
-right_units steps order names (end.CallRefused name) e = tt
-right_units steps order names end.HostFailed e = tt
+-- an undefined step of a run of units stands in one of them
+pub placed_units : (count many : ℕ) (by : End) → count ≡ many → c_ends.MayEnd count by → IsPlacedIn many by
+placed_units count many (end.Ended code) same may = tt
+placed_units count many (end.Undefined rule unit line) same may = subst (λ n. unit < n) same may
+placed_units count many (end.Wrong cause) same may = tt
+placed_units count many end.StepsUsed same may = tt
+placed_units count many (end.StoreFull need left) same may = tt
+placed_units count many (end.CallRefused name) same may = tt
+placed_units count many end.HostFailed same may = tt
+
+-- a run of a crate has none
+pub placed_crate : (by : End) → rust_ends.MayEnd by → IsPlacedIn 0 by
+placed_crate (end.Ended code) may = tt
+placed_crate (end.Undefined rule unit line) may = absurd may
+placed_crate (end.Wrong cause) may = tt
+placed_crate end.StepsUsed may = tt
+placed_crate (end.StoreFull need left) may = tt
+placed_crate (end.CallRefused name) may = tt
+placed_crate end.HostFailed may = tt
 
 -- the units that are held, with what was got of them
 abbrev HeldUnits : List (List ℕ) → List Source → (List ℕ → Option (List ℕ)) → Type 0
 HeldUnits names sources held = (units : List File) × (units_of held names ≡ Some units) × AreOf sources (bytes_of units)
 
 pub units_ran : (steps : ℕ) (order : List ℕ) (names : List (List ℕ)) (sources : List Source) (by : End) (tale : Tale) (s t : ShelfState) (u v : HostState) → AreGot names sources s t
-    → ((list : List (List ℕ)) → AreOf sources list → units.AreRun list order steps u v by) → is_wrong by ≡ false → HasFailed u v by → tale ≡ tale_of names steps by → IsToldOf (run_c steps order names) tale s t u v
+    → ((list : List (List ℕ)) → AreOf sources list → units.AreRun list order steps u v by) → c_ends.MayEnd (length sources) by → HasFailed u v by → tale ≡ tale_of names steps by → IsToldOf (run_c steps order names) tale s t u v
 units_ran steps order names sources by tale s t u v got ran right failed is = record {
   end = by;
   tale_is = is;
   came = record {
     kept = got.kept;
     unfailed = got.unfailed;
-    may_come = right_units steps order names by right;
+    may_come = subst (λ n. c_ends.MayEnd n by) got.count right;
     failed = failed;
     run = where_map (HeldUnits names sources) (λ held. (meaning : Meaning) × JobMeans held (run_c steps order names) meaning × IsRun meaning u v by) s.held (λ held told has.
         let one = ran (bytes_of has.0) has.2 in (
@@ -83,15 +94,6 @@ within_units names sources count (stop.Refused refusal) same stops = subst (λ (
 
 -- ---- crates
 
-right_crate : (steps : ℕ) (directory : List ℕ) (by : End) → is_undefined by ≡ false → MayCome (run_rust steps directory) by
-right_crate steps directory (end.Ended code) e = tt
-right_crate steps directory (end.Undefined rule unit line) e = absurd (true≢false e)
-right_crate steps directory (end.Wrong cause) e = tt
-right_crate steps directory end.StepsUsed e = tt
-right_crate steps directory (end.StoreFull need left) e = tt
-right_crate steps directory (end.CallRefused name) e = tt
-right_crate steps directory end.HostFailed e = tt
-
 crate_ran : (directory : List ℕ) (files : List File) (steps : ℕ) (tale : Tale) (s t : ShelfState) (u v : HostState) → IsGotWhole directory files s t → IsTaleOf files steps tale u v → IsToldOf (run_rust steps directory) tale s t u v
 crate_ran directory files steps tale s t u v got of = record {
   end = of.end;
@@ -99,7 +101,7 @@ crate_ran directory files steps tale s t u v got of = record {
   came = record {
     kept = got.got.kept;
     unfailed = got.got.unfailed;
-    may_come = right_crate steps directory of.end of.right;
+    may_come = of.right;
     failed = of.failed;
     run = where_map (λ held. AreHeldIn held directory files) (λ held. (meaning : Meaning) × JobMeans held (run_rust steps directory) meaning × IsRun meaning u v of.end) s.held (λ held told here. (
       crate.meaning_of of.run.whole steps,

@@ -86,11 +86,21 @@ nine_failed (end.StoreFull need left) u v e failed = cc
 nine_failed (end.CallRefused name) u v e failed = cc
 nine_failed end.HostFailed u v e failed = failed
 
+-- what a run came to isn't astray
+not_astray : (takes : Call → Bool) (by : End) (come : Progress) → IsEnd takes by come → come ≡ progress.astray → ⊥
+not_astray takes (end.Ended code) come is e = let h : progress.ended code ≡ progress.astray = sym is ∙ e in cc (h)
+not_astray takes (end.Undefined rule unit line) come is e = let h : progress.undefined rule unit line ≡ progress.astray = sym is ∙ e in cc (h)
+not_astray takes (end.Wrong cause) come is e = let h : progress.wrong cause ≡ progress.astray = sym is ∙ e in cc (h)
+not_astray takes end.StepsUsed come is e = let h : progress.going ≡ progress.astray = sym is ∙ e in cc (h)
+not_astray takes (end.StoreFull need left) come is e = let h : progress.full need left ≡ progress.astray = sym is ∙ e in cc (h)
+not_astray takes (end.CallRefused name) come is e = let h : progress.asks_for is.0 ≡ progress.astray = sym is.1 ∙ e in cc (h)
+not_astray takes end.HostFailed come is e = let h : progress.asks_for is.0 ≡ progress.astray = sym is.1 ∙ e in cc (h)
+
 -- a run comes to the status to which it always comes, or the host failed
 pub come_to_status : (meaning : Meaning) (u v : HostState) (by : End) (k : ℕ) → IsRun meaning u v by → HasFailed u v by → AlwaysComesTo meaning u k → (end_status by ≡ k) ⊎ ((end_status by ≡ 9) × Rose u.faults v.faults)
 come_to_status meaning u v by k run failed always =
     let status = status_is u.takes by (meaning run.trail).progress run.comes in
-    elim (always run.trail (may_answer (meaning run.trail) u v run.tied)) [
+    elim (always run.trail (may_answer (meaning run.trail) u v run.tied) (not_astray u.takes by (meaning run.trail).progress run.comes)) [
       | inl is ↦ inl (sym status ∙ is)
       | inr nine ↦ inr (sym status ∙ nine, nine_failed by u v (sym status ∙ nine) failed)
     ]

@@ -9,7 +9,7 @@ use Rattle.front.specs.declared.unread.Unread.TheVariants.{NotRead, NotMain, Mem
 use Rattle.run_ends.specs.Runs.{HasFailed}
 use Rattle.run_ends.specs.Told.{Tale, name_at, tale_of}
 use Rattle.run_ends.specs.declared.end.End.{End}
-use Rattle.rust_job.specs.Ends.{is_undefined}
+use Rattle.rust_job.specs.Ends.{MayEnd}
 use Rattle.rust_job.specs.Meaning.{AreIllTyped, AreNotRust, AreRun}
 use Rattle.shelf.specs.declared.file.File.{File}
 
@@ -30,7 +30,7 @@ pub record IsTaleOf (files : List File) (steps : ℕ) (tale : Tale) (host later 
   pub end : End
   pub tale_is : tale ≡ tale_of [] steps end
   pub run : AreRun files steps host later end
-  pub right : is_undefined end ≡ false
+  pub right : MayEnd end
   pub failed : HasFailed host later end
 
 -- where all files were got

@@ -8,10 +8,10 @@ use Rattle.cr_base.specs.declared.rule.URule.{URule}
 use Rattle.ext_calls.specs.declared.call.Call.{Call}
 use Rattle.ext_calls.specs.Host.{HostState}
 use Rattle.rs_mean.specs.declared.cause.Cause.{Cause}
-use Rattle.run_ends.specs.declared.end.End.TheVariants.{Ended, Undefined, Wrong, StepsUsed, StoreFull, CallRefused, HostFailed}
+use Rattle.run_ends.specs.declared.end.End.TheVariants.{Ended, Undefined, Wrong, StepsUsed, CallRefused, HostFailed}
 use Rattle.run_ends.specs.Runs.{Meaning, MayAnswer, Progress}
 use Rattle.run_ends.specs.Runs as progress
-use Rattle.run_ends.specs.Told.{name_at, ended_report, undefined_report, wrong_report, steps_report, full_report, failed_report, refused_report}
+use Rattle.run_ends.specs.Told.{name_at, ended_report, undefined_report, wrong_report, steps_report, failed_report, refused_report}
 use Rattle.shelf.specs.declared.file.File.{File}
 use Rattle.shelf.specs.Shelf.{ShelfState}
 use Rattle.shelf.specs.Sink.{SinkState, Appended}
@@ -147,12 +147,6 @@ abbrev pub StepsWereUsed : List (List ℕ) → ShelfState → ShelfState → Sin
 StepsWereUsed words before after unwritten written host later = ForRun (job_of words) (λ job.
     CameTo job StepsUsed before after host later × Appended (steps_report (steps_of job)) unwritten.written written.written)
 
--- status 8: an object doesn't fit the store
-abbrev pub StoreWasFull : List (List ℕ) → ShelfState → ShelfState → SinkState → SinkState → HostState → HostState → Type 0
-StoreWasFull words before after unwritten written host later = ForRun (job_of words) (λ job.
-    (need : ℕ) × (left : ℕ) × CameTo job (StoreFull need left) before after host later
-    × Appended (full_report need left) unwritten.written written.written)
-
 -- status 9: the host's count of faults rose at one more call that it takes
 abbrev pub HostHasFailed : List (List ℕ) → ShelfState → ShelfState → SinkState → SinkState → HostState → HostState → Type 0
 HostHasFailed words before after unwritten written host later = ForRun (job_of words) (λ job.
@@ -252,7 +246,7 @@ HoldsNoCrate words before = ForCrate (job_of words) (λ job directory. Holds bef
     × (((path : List ℕ) × NotRustBy files path) ⊎ ((name : List ℕ) × (item : ℕ) × IllTypedBy files name item))))
 
 -- the status of a run that comes so far, where a host takes these calls. That of a run that goes astray says nothing: it is the one to which
--- every clause yields, and no typed program comes there.
+-- every clause yields.
 abbrev pub status_at : (takes : Call → Bool) → Progress → ℕ
 status_at takes progress.going = 7
 status_at takes (progress.ended status) = 0
@@ -262,9 +256,10 @@ status_at takes (progress.full need left) = 8
 status_at takes (progress.asks_for call) = if takes call then 9 else 13
 status_at takes progress.astray = 10
 
--- a run comes to a status under every trail that a host may answer, up to one more call that the host takes
+-- a run comes to a status under every trail that a host may answer, up to one more call that the host takes. A trail with another answer to
+-- an allocation than the store's, or with none, leads astray: no run is answered so, and nothing is asked of it.
 abbrev pub AlwaysComesTo : Meaning → HostState → (status : ℕ) → Type 0
-AlwaysComesTo meaning host status = (trail : List ℤ) → MayAnswer host (meaning trail) →
+AlwaysComesTo meaning host status = (trail : List ℤ) → MayAnswer host (meaning trail) → ((meaning trail).progress ≡ progress.astray → ⊥) →
     (status_at host.takes (meaning trail).progress ≡ status) ⊎ (status_at host.takes (meaning trail).progress ≡ 9)
 
 -- the words are the job to run a program, which is held, and its run always comes to a status

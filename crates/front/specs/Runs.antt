@@ -1,5 +1,6 @@
 -- What the jobs that run a program leave, by how they ended.
 use Rattle.std.specs.Prelude.{◌≡◌, ℕ, ◌<◌, ◌⊎◌, true, List, [], length, Option, Some, slice_get, ⊤}
+use Rattle.c_job.specs.Ends as c_ends
 use Rattle.c_job.specs.Meaning as c
 use Rattle.cr_base.specs.Count.{Rose}
 use Rattle.cr_base.specs.declared.refusal.Refusal.{Refusal}
@@ -18,7 +19,7 @@ use Rattle.rs_tree.specs.Tree.{CrateTree}
 use Rattle.run_ends.specs.Runs.{Meaning, IsRun, HasFailed}
 use Rattle.run_ends.specs.Told.{Tale, tale_of}
 use Rattle.run_ends.specs.declared.end.End.{End}
-use Rattle.run_ends.specs.declared.end.End.TheVariants.{Undefined, Wrong}
+use Rattle.rust_job.specs.Ends as rust_ends
 use Rattle.rust_job.specs.Meaning as rust
 use Rattle.shelf.specs.declared.called.Kind.TheVariants.{Get}
 use Rattle.shelf.specs.declared.file.File.{File}
@@ -51,11 +52,13 @@ JobMeans held too_many meaning = ⊥
 JobMeans held (run_c steps order names) meaning = UnitsMean held steps order names meaning
 JobMeans held (run_rust steps directory) meaning = CrateMeans held steps directory meaning
 
--- a run of units isn't wrong, and a run of a crate isn't undefined
+-- a run of units isn't wrong, and what is undefined stands in one of them; a run of a crate isn't undefined. No object lacks room, since the
+-- store has no limit.
 abbrev pub MayCome : Job → End → Type 0
-MayCome (run_c steps order names) (Wrong cause) = ⊥
-MayCome (run_rust steps directory) (Undefined rule unit line) = ⊥
-MayCome job end = ⊤
+MayCome (run_c steps order names) end = c_ends.MayEnd (length names) end
+MayCome (run_rust steps directory) end = rust_ends.MayEnd end
+MayCome (transpile directory names) end = ⊥
+MayCome too_many end = ⊥
 
 -- the run of a job came to an end: no `get` failed and nothing was put; what the shelf held has a meaning, and a run of that, with the answers
 -- of the host, came to this end

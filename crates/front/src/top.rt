@@ -4,7 +4,7 @@ ghost use Rattle.front.specs.Job.{built_of, for_units, is_run, job_of, run_c, tr
 ghost use Rattle.front.specs.Leaves.{Leaves, LeavesShelf};
 ghost use Rattle.front.specs.Outcome.{ending_of};
 ghost use Rattle.jobs.specs.Asked.{IsBounded, asked_of, files_of};
-ghost use Rattle.front.specs.Run.{is_status, Ran, Translated, EndedRun, RefusedUnits, RefusedWords, CannotRead, CannotWrite, UndefinedRun, WrongRun, StepsWereUsed, StoreWasFull, HostHasFailed, OutOfMemory, NotCrate, CallWasRefused, Yields, YieldsToGet, YieldsToRun, BreaksRule, BreaksNone, LacksFile, HoldsNoCrate, ComesTo, KeepsOthers, ReadsTooLarge, is_too_many};
+ghost use Rattle.front.specs.Run.{is_status, Ran, Translated, EndedRun, RefusedUnits, RefusedWords, CannotRead, CannotWrite, UndefinedRun, WrongRun, StepsWereUsed, HostHasFailed, OutOfMemory, NotCrate, CallWasRefused, Yields, YieldsToGet, YieldsToRun, BreaksRule, BreaksNone, LacksFile, HoldsNoCrate, ComesTo, KeepsOthers, ReadsTooLarge, is_too_many};
 
 use crate::outcome::Outcome;
 use crate::report::tell;
@@ -26,7 +26,7 @@ use std::alloc::Global;
 /// no job), 3 (a file can't be read), 4 (a file, or the report, can't be written), 5 (the run of units is undefined), 6 (the run of a crate is
 /// wrong), 7 (a run goes on after its steps), 8 (an object doesn't fit the store, which a store without limit never says), 9 (the host
 /// failed), 10 (want of memory), 11 (the files are no well-typed crate of the subset) and 13 (the host doesn't take a call).
-/// docs/MEANINGS.md says in prose what each clause says.
+/// README.md says in prose what each clause says.
 pub fn run<F: Shelf, O: Sink, E: Sink, H: Host>(
     alloc: Global,
     words: &[String],
@@ -64,9 +64,7 @@ pub fn run<F: Shelf, O: Sink, E: Sink, H: Host>(
     ensures steps_used { result ≡ 7 → StepsWereUsed (map string_bytes words.now)
         (F.state shelf.old) (F.state shelf.new) (E.state err.old) (E.state err.new)
         (H.state host.old) (H.state host.new) }
-    ensures store_full { result ≡ 8 → StoreWasFull (map string_bytes words.now)
-        (F.state shelf.old) (F.state shelf.new) (E.state err.old) (E.state err.new)
-        (H.state host.old) (H.state host.new) }
+    ensures room { result ≢ 8 }
     ensures host_failed { result ≡ 9 → HostHasFailed (map string_bytes words.now)
         (F.state shelf.old) (F.state shelf.new) (E.state err.old) (E.state err.new)
         (H.state host.old) (H.state host.new) }

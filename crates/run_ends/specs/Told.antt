@@ -1,5 +1,5 @@
 -- What is told of the end of a run: its exit status, and the line that is reported.
-use Rattle.std.specs.Prelude.{ℕ, ℤ, List, [], ◌++◌, codes, decimal, slice_get, unwrap_or}
+use Rattle.std.specs.Prelude.{ℕ, ◌<◌, ℤ, List, [], ◌++◌, codes, decimal, slice_get, unwrap_or, ⊤}
 use Rattle.std.specs.Fmt.{signed_decimal}
 use Rattle.cr_base.specs.declared.rule.URule.{URule}
 use Rattle.rs_mean.specs.declared.cause.Cause.{Cause}
@@ -26,7 +26,12 @@ pub data Tale : Type 0 where
   -- the host doesn't take a call of the function with this name
   call_refused : (name : List ℕ) → Tale
 
--- the name of the unit with a number; no program has a step in another unit
+-- an undefined step stands in one of so many units
+abbrev pub IsPlacedIn : (count : ℕ) → End → Type 0
+IsPlacedIn count (end.Undefined rule unit line) = unit < count
+IsPlacedIn count end = ⊤
+
+-- the name of the unit with a number, where there is such a unit
 abbrev pub name_at : List (List ℕ) → ℕ → List ℕ
 name_at names number = unwrap_or (slice_get names number) []
 

@@ -1,5 +1,5 @@
-ghost use Rattle.std.specs.Prelude.{◌≡◌, map};
-ghost use Rattle.run_ends.specs.Told.{name_at, status_of, tale_of, told_of};
+ghost use Rattle.std.specs.Prelude.{◌≡◌, ◌<◌, length, map};
+ghost use Rattle.run_ends.specs.Told.{IsPlacedIn, name_at, status_of, tale_of, told_of};
 
 use crate::end::End;
 use cr_base::{Name, URule};
@@ -33,17 +33,16 @@ pub enum Told<'a> {
 
 // The name of the unit with a number.
 fn name_at<'a>(names: &[&'a str], number: u32) -> &'a str
+    requires { number < length names.now }
     ensures { result.now ≡ name_at (map (λ name. name.now) names.now) number }
 {
-    match names.get(number as usize) {
-        Some(name) => name,
-        None => "",
-    }
+    names[number as usize]
 }
 
 impl<'a> Told<'a> {
     /// What is told of an end, where the units have these names and so many steps or units were given.
     pub fn of(end: End, names: &[&'a str], steps: u64) -> Told<'a>
+        requires { IsPlacedIn (length names.now) end }
         ensures { told_of result ≡ tale_of (map (λ name. name.now) names.now) steps end }
     {
         match end {

@@ -1,5 +1,5 @@
 -- How a run of a crate came out, in the words of both languages.
-use Rattle.std.specs.Prelude.{Bool, true, false}
+use Rattle.std.specs.Prelude.{Bool, true, false, ⊤}
 use Rattle.rs_exec.specs.declared.outcome.ROutcome.{ROutcome}
 use Rattle.rs_exec.specs.declared.outcome.ROutcome.TheVariants as outcome
 use Rattle.run_ends.specs.declared.end.End.{End}
@@ -22,3 +22,13 @@ is_undefined StepsUsed = false
 is_undefined (StoreFull need left) = false
 is_undefined (CallRefused name) = false
 is_undefined HostFailed = false
+
+-- an end that the run of a crate may have over a store without limit: a run of Rust isn't undefined in C, and no object lacks room
+abbrev pub MayEnd : End → Type 0
+MayEnd (Undefined rule unit line) = ⊥
+MayEnd (StoreFull need left) = ⊥
+MayEnd (Ended status) = ⊤
+MayEnd (Wrong cause) = ⊤
+MayEnd StepsUsed = ⊤
+MayEnd (CallRefused name) = ⊤
+MayEnd HostFailed = ⊤

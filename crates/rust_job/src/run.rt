@@ -8,7 +8,7 @@ ghost use Rattle.rs_tree.specs.Views.{crate_view, module_view};
 ghost use Rattle.run_ends.specs.Runs.{HasFailed, IsRun};
 ghost use Rattle.run_ends.specs.Told.{name_at};
 ghost use Rattle.rs_types.specs.Checked.{place};
-ghost use Rattle.rust_job.specs.Ends.{is_undefined};
+ghost use Rattle.rust_job.specs.Ends.{MayEnd, is_undefined};
 ghost use Rattle.rust_job.specs.Meaning.{AreRun, IsIllTypedBy, StopsFiles, UnlessMemory, meaning_of};
 
 use crate::end::end_of;
@@ -106,7 +106,7 @@ pub fn run_files<H: Host>(
 ) -> Result<End, CrateFault>
     requires units { units ≤ 1000000000 }
     ensures run { IfOk result (AreRun files.now.list units (H.state host.old) (H.state host.new)) }
-    ensures right { IfOk result (λ end. is_undefined end ≡ false) }
+    ensures right { IfOk result MayEnd }
     ensures failed { IfOk result (HasFailed (H.state host.old) (H.state host.new)) }
     ensures stops { IfErr result (StopsFiles files.now.list) }
     ensures uncalled { IfErr result (λ why. UnlessMemory why (H.state host.new ≡ H.state host.old)) }

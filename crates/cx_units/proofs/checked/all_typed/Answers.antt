@@ -1,10 +1,13 @@
-use Rattle.std.proofs.Common.{rules, arith, ◌≡◌, ℕ, List, [], ◌∷◌, ◌+◌, ◌++◌, suc, map, length, take, Some, slice_get, refl, sym, ap, subst, ◌∙◌, length-append}
+use Rattle.std.proofs.Common.{rules, arith, ◌≡◌, ℕ, List, [], ◌∷◌, ◌+◌, ◌<◌, ◌++◌, suc, map, length, take, Some, All, slice_get, refl, sym, ap, subst, ◌∙◌, length-append}
+use Rattle.std.proofs.Math.Seq.{take-length}
 use Rattle.std.proofs.lemmas.List.{map-append}
+use Rattle.std.proofs.lemmas.List.Elements.{All-more}
 use Rattle.std.proofs.lemmas.Option.{slice_get_read}
 use Rattle.cx_core.specs.Trees.{CUnit}
 use Rattle.cx_core.specs.Views.{view_unit}
 use Rattle.cx_units.specs.Broken.{IsTypedAs}
-use Rattle.cx_units.specs.Sources.{IsOf, StopsUnit, StopsUnits}
+use Rattle.cx_units.specs.Sources.{IsGot, IsOf, StopsUnit, StopsUnits}
+use Rattle.cx_units.specs.declared.source.Source.{Source}
 use Rattle.cx_units.proofs.Steps.{AreTypedTo, kept_error, stops_there, typed_all, typed_next}
 use Rattle.cx_units.proofs.checked.all_typed.Goals as goal
 
@@ -33,9 +36,16 @@ loop-place-preserved c =
           (subst (λ (n : ℕ). AreTypedTo c.args.sources.now ((map view_unit c.loop-place.cores) ++ view_unit c.in_ok-core.core ∷ []) n) next
           (typed_next c.args.sources.now (map view_unit c.loop-place.cores) c.loop-place.place c.index-sources-place.result (view_unit c.in_ok-core.core) c.loop-place.invariant.1 is
           (λ bytes of. subst (λ (n : ℕ). IsTypedAs n bytes (view_unit c.in_ok-core.core)) number (c.in_ok-core.ensures.typed bytes of)))),
+      All-more IsGot c.args.sources.now c.loop-place.place c.index-sources-place.result (search rules) c.loop-place.invariant.2
+          (subst IsGot c.index-sources-place.is c.in_ok-core.ensures.got),
     )
 
 pub returns-clause-typed : goal.returns-clause-typed
 returns-clause-typed c =
     let all : c.loop-place.place ≡ length c.args.sources.now = search rules in
     typed_all c.args.sources.now (map view_unit c.loop-place.cores) (subst (λ (n : ℕ). AreTypedTo c.args.sources.now (map view_unit c.loop-place.cores) n) all c.loop-place.invariant.1)
+
+pub returns-clause-got : goal.returns-clause-got
+returns-clause-got c =
+    let all : c.loop-place.place ≡ length c.args.sources.now = search rules in
+    subst (λ (sources : List Source). All IsGot sources) (ap (λ n. take n c.args.sources.now) all ∙ take-length c.args.sources.now) c.loop-place.invariant.2

@@ -2,7 +2,7 @@
 use Rattle.std.proofs.Common.{map, string_bytes}
 use Rattle.front.specs.Job.{job_of}
 use Rattle.front.specs.Outcome.{ending_of}
-use Rattle.front.proofs.EndLaws.{when_5, when_6, when_7, when_8, when_9, when_10, when_11, when_13}
+use Rattle.front.proofs.EndLaws.{when_5, when_6, when_7, never_8, when_9, when_10, when_11, when_13}
 use Rattle.front.proofs.RunLaws.{statuses, when_0, when_0_run, when_1, when_2, when_3, when_4}
 use Rattle.front.proofs.StayLaws.{keeps_others, uncalled}
 use Rattle.front.proofs.WhenLaws.{no_job_told, when_too_many, when_broken, when_missing, when_no_crate, when_comes, when_sound}
@@ -38,8 +38,8 @@ returns-clause-wrong g c = when_6 (job_of (map string_bytes c.args.words.now)) (
 pub returns-clause-steps_used : goal.returns-clause-steps_used
 returns-clause-steps_used g c = when_7 (job_of (map string_bytes c.args.words.now)) (ending_of c.outcome_of-outcome.result) _ _ _ _ _ _ c.tell.result c.outcome_of-outcome.ensures c.tell.ensures.told
 
-pub returns-clause-store_full : goal.returns-clause-store_full
-returns-clause-store_full g c = when_8 (job_of (map string_bytes c.args.words.now)) (ending_of c.outcome_of-outcome.result) _ _ _ _ _ _ c.tell.result c.outcome_of-outcome.ensures c.tell.ensures.told
+pub returns-clause-room : goal.returns-clause-room
+returns-clause-room g c = never_8 (job_of (map string_bytes c.args.words.now)) (ending_of c.outcome_of-outcome.result) _ _ _ _ _ _ c.tell.result c.outcome_of-outcome.ensures c.tell.ensures.told
 
 pub returns-clause-host_failed : goal.returns-clause-host_failed
 returns-clause-host_failed g c = when_9 (job_of (map string_bytes c.args.words.now)) (ending_of c.outcome_of-outcome.result) _ _ _ _ _ _ c.tell.result c.outcome_of-outcome.ensures c.tell.ensures.told
