@@ -129,14 +129,17 @@ for objects in 20 2000; do
   done
 done
 
-# rows_of NAME: the rows behind are asked of this program.
+# rows_of GROUP: the rows behind are of this group.
 rows_of() {
-  rows="$top/crates/$1/out/$1"
-  (cd "$top/crates/$1" && rt run -- >"$work/build.log" 2>&1 </dev/null)
-  [ -x "$rows" ] || { echo "the program $1 wasn't built"; exit 1; }
+  rows="$work/$1"
+  printf '#!/bin/sh\nexec "%s/tests/rows_of" %s\n' "$top" "$1" >"$rows"
+  chmod +x "$rows"
 }
 
-rows_of text_rows
+(cd "$top/crates/rows" && rt run -- >"$work/build.log" 2>&1 </dev/null)
+[ -x "$top/crates/rows/out/rows" ] || { echo "the program rows wasn't built"; exit 1; }
+
+rows_of texts
 
 # c_unit SIZE: a unit of this many bytes of ordinary C, whose end is blanks.
 c_unit() {
@@ -237,7 +240,7 @@ paced() {
   }'
 }
 
-rows_of store_rows
+rows_of stores
 for store in list region; do
   paced "$store" mixed 1000 250000 4
   for live in 100 1000 10000; do
@@ -256,7 +259,7 @@ crate_row() {
   }'
 }
 
-rows_of crate_rows
+rows_of crates
 crate_row 0 >"$work/no_statements.row"
 for size in 65536 262144 1048576; do
   crate_row "$size" >"$work/statements.row"
@@ -377,7 +380,7 @@ full() {
 }
 
 [ -x /usr/bin/time ] || { echo "skipped: the memory of a full region (/usr/bin/time isn't there)"; exit 0; }
-rows_of store_rows
+rows_of stores
 blocks='alloc 16777216 1 | alloc 16777216 1 | alloc 16777216 1 | alloc 16777216 1'
 full '1 MiB' 'region 1048576 65552 | alloc 1048576 1'
 full '64 MiB' "region 67108864 4194320 | $blocks"

@@ -1,4 +1,4 @@
-"""What gcc and the program of crates/check_rows say of statements in functions of their own, behind one line of declarations."""
+"""What gcc and the rows of crates/check_rows say of statements in functions of their own, behind one line of declarations."""
 
 import re
 import subprocess

@@ -1,12 +1,13 @@
 #!/usr/bin/env python3
 """Runs of crates against the programs that rustc makes.
 
-Each row of crates/crate_rows/stdin that asks for a run over a list store, and whose answer in crates/crate_rows/stdout is that
+Each row of crates/rows/stdin, of the group `crates`, that asks for a run over a list store, and whose answer in crates/rows/stdout is that
 it ended, is built by rustc with the `main.rs` of a crate of one module. The program has to end with the same status
 and to write what the calls of the answer write. Rows that call something else than `putchar` and `puts` are left out,
 and so are those whose answers no C library gives. Prints how many programs agreed.
 """
 
+import itertools
 import os
 import re
 import subprocess
@@ -27,8 +28,11 @@ fn main() {
 
 
 def lines_of(name):
-    with open(f"{TOP}/crates/crate_rows/{name}", encoding="utf-8") as file:
-        return file.read().split("\n")
+    """The lines of the group `crates` in a file of crates/rows."""
+    with open(f"{TOP}/crates/rows/{name}", encoding="utf-8") as file:
+        lines = file.read().split("\n")
+    begin = lines.index("= crates") + 1
+    return list(itertools.takewhile(lambda line: not line.startswith("= "), lines[begin:]))
 
 
 def bytes_of(text):

@@ -31,14 +31,22 @@ built() {
   fi
 }
 
-built text_rows || exit 1
-text_rows=$program
-built store_rows || exit 1
-store_rows=$program
-built crate_rows || exit 1
-crate_rows=$program
-built check_rows || exit 1
-check_rows=$program
+# group NAME: a program for the rows of this group alone, as those that compare answers want it. It is $rows then.
+group() {
+  rows="$work/$1"
+  printf '#!/bin/sh\nexec "%s/tests/rows_of" %s\n' "$top" "$1" >"$rows"
+  chmod +x "$rows"
+}
+
+built rows || exit 1
+group texts
+text_rows=$rows
+group stores
+store_rows=$rows
+group crates
+crate_rows=$rows
+group checks
+check_rows=$rows
 built c2rs || exit 1
 
 # The exit status of a unit, as gcc builds it.
@@ -195,7 +203,7 @@ every_form() {
     skip 'the crate with every form (rustc isn'"'"'t there)'
     return
   fi
-  row=$(grep -A 1 '^# A crate in which each form of the subset stands' "$top/crates/crate_rows/stdin" | tail -1)
+  row=$(grep -A 1 '^# A crate in which each form of the subset stands' "$top/crates/rows/stdin" | tail -1)
   mkdir -p "$work/every/src"
   while read -r name text; do
     printf '%s' "$text" | sed 's/\$n/\n/g; s/\$7c/|/g; s/\$24/$/g' >"$work/every/$name"

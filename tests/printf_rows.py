@@ -1,7 +1,7 @@
 #!/usr/bin/env python3
-"""What `printf` writes, by gcc's program: rows for the program `host_rows`, and worked examples for `std_host`.
+"""What `printf` writes, by gcc's program: rows of the group `hosts`, and worked examples for `std_host`.
 
-    printf_rows.py --rows        rows of `host_rows` with their answers, `ROW<tab>ANSWER`
+    printf_rows.py --rows        rows of the group with their answers, `ROW<tab>ANSWER`
     printf_rows.py --examples    the text of crates/std_host/proofs/PrintfExamples.antt
 
 Each line of TABLE is a format with its arguments. A C program prints each of them by `printf`, and writes the count that `printf`

@@ -1,5 +1,5 @@
 #!/usr/bin/env python3
-"""The rows of crates/c_run_rows, with the answers that they must have.
+"""The rows of the group `runs` of crates/rows, with the answers that they must have.
 
 run_rows.py FOLDER writes FOLDER/stdin and FOLDER/stdout. No answer comes from the program itself:
 - the worked runs of crates/cx_mean/proofs/Example*.antt say what their definitions compute to, here under C text of the same programs;

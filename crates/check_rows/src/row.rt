@@ -9,7 +9,7 @@ use cx_tree::Unit;
 use std::alloc::{AllocError, Global};
 
 /// The answer to a row.
-pub(crate) fn answer_to(alloc: Global, row: &str) -> Result<String, AllocError> {
+pub fn answer_to(alloc: Global, row: &str) -> Result<String, AllocError> {
     let mut out = Answer::new(alloc);
     if row.is_empty() || row.starts_with('#') {
         out.text(row);

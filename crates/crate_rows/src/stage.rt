@@ -38,7 +38,7 @@ const STAGES: [(&str, Stage); 7] = [
 
 /// All stages.
 #[derive(Clone, Copy)]
-pub(crate) struct Stages;
+pub struct Stages;
 
 impl Answers for Stages {
     fn answer(&self, alloc: Global, stage: &str, asked: &mut Asked<'_>, out: &mut Answer) {

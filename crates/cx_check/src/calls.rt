@@ -15,10 +15,10 @@ ghost use Rattle.cx_rules.specs.Units.{seen_expr, seen_initialiser};
 ghost use Rattle.cx_scope.specs.Views.{view_scope};
 ghost use Rattle.cx_tree.specs.Views.{expr_view, declarator_view, initialiser_view, spec_view, specs as spec_trees};
 
-use cr_base::{Boxed, Int, Items, Refusal, Rule, Stop};
+use cr_base::{Boxed, Int, Refusal, Rule, Stop};
 use cx_context::Context;
 use cx_core::{CoreExpr, Ty};
-use cx_init::{Filled, Stored, filled_object};
+use cx_init::{Filled, StoredValues, filled_object};
 use cx_kinds::Known;
 use cx_layout::Layouts;
 use cx_operands::{Operand, operand_constant};
@@ -150,7 +150,7 @@ fn stored_walked(
     scope: &mut Scope,
     layouts: &mut Layouts,
     fixed: bool,
-) -> Result<Items<Stored>, Stop>
+) -> Result<StoredValues, Stop>
     requires laid { IsLaid (view_scope scope.old).types layouts.old }
     ensures tells { Tells (λ made stored. map view_stored made ≡ stored) result (view_scope scope.new)
         (seen_initialiser (declared_target (view_scope scope.old).types fixed (view_type ty.now)) (initialiser_view init.now) (view_scope scope.old)) }

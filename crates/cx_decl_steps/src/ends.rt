@@ -21,7 +21,7 @@ use cx_contents::{Content, complete, literals_since};
 use cx_context::Context;
 use cx_core::{CoreStmt, Put, StmtForm, Ty};
 use cx_entities::clashes_completed;
-use cx_init::{Filled, Stored, filled_object};
+use cx_init::{Filled, StoredValues, filled_object};
 use cx_stmt_breaks::declares_rule;
 use std::alloc::Global;
 
@@ -30,7 +30,7 @@ fn filled_by(
     context: &Context,
     t: &Ty,
     has_init: bool,
-    stored: Items<Stored>,
+    stored: StoredValues,
 ) -> Result<Filled, Memory>
     ensures { IfOk result (λ made. view_filled made ≡ steps.filled_by has_init (scope_of context.now).types (view_type t.now) (map view_stored stored)) }
 {
@@ -47,7 +47,7 @@ fn unfilled(context: &Context, t: &Ty) -> Result<Filled, Memory>
 {
     let alloc = context.alloc();
     let own = t.copy(alloc)?;
-    let made = filled_object(alloc, context.known(), own, Items::new(alloc))?;
+    let made = filled_object(alloc, context.known(), own, StoredValues::new(alloc))?;
     let ty = t.copy(alloc)?;
     Ok(Filled {
         ty,
@@ -268,7 +268,7 @@ pub fn declared_ended(
     site: Site<'_>,
     literals: u64,
     begun: &Begun,
-    stored: Items<Stored>,
+    stored: StoredValues,
 ) -> Result<Meant, Stop>
     ensures { Checks view_meant result (scope_of context.new)
         (steps.declared_ended literals site.entry.place (view_specs site.entry.specs.now) site.entry.line (view_begun site.entry.name.now begun.now) site.entry.has_init (map view_stored stored) (scope_of context.old)) }

@@ -12,13 +12,13 @@ ghost use Rattle.cx_shapes.specs.Views.{view_shape, view_specs};
 ghost use Rattle.cx_tree.specs.Views.{decl_view, init_declarator_view, initialiser_view, spec_view, specs as spec_trees};
 ghost use Rattle.cx_rules.specs.UnitWalk as unit;
 
-use cr_base::{Boxed, Items, Stop};
+use cr_base::{Boxed, Stop};
 use cx_context::Context;
 use cx_core::Ty;
 use cx_decl_steps::{
     Begun, Meant, Site, declared_begins, declared_ended, empty_seen, name_or_none,
 };
-use cx_init::{Stored, Target};
+use cx_init::{StoredValues, Target};
 use cx_rules::SpecsPlace;
 use cx_shapes::{Shape, Specs, declarator_line, specs_line};
 use cx_tree::{Decl, InitDeclarator, Initialiser, Spec};
@@ -30,11 +30,11 @@ fn init_of(
     context: &mut Context,
     target: &Target,
     init: &Option<Boxed<Initialiser>>,
-) -> Result<Items<Stored>, Stop>
+) -> Result<StoredValues, Stop>
     ensures { Checks (map view_stored) result (scope_of context.new) (walks.init_walk (view_target target.now) (option_map initialiser_view init.now) (scope_of context.old)) }
 {
     match init {
-        None => Ok(Items::new(context.alloc())),
+        None => Ok(StoredValues::new(context.alloc())),
         Some(one) => initialiser(context, one.get(), target),
     }
 }

@@ -1,5 +1,7 @@
+pub mod Ascents
 pub mod Initials
 pub mod Ordering
 pub mod PartsLaws
+pub mod Rising
 pub mod Taking
 pub mod TextBytes

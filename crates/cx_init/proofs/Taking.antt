@@ -15,7 +15,7 @@ kept_last part (first ∷ others) one =
     ap (λ rest. if is_within part first.path then rest else first ∷ rest) (kept_last part others one)
     ∙ one_of (is_within part first.path) first (kept_outside part others) (if is_within part one.path then [] else one ∷ [])
 
-one_outside : (inside : Bool) (one : CStored) (others kept : List CStored) → inside ≡ false → others ≡ kept → one ∷ others ≡ (if inside then kept else one ∷ kept)
+pub one_outside : (inside : Bool) (one : CStored) (others kept : List CStored) → inside ≡ false → others ≡ kept → one ∷ others ≡ (if inside then kept else one ∷ kept)
 one_outside inside one others kept none is = rw (none, is) refl
 
 or_none : (a b : Bool) → (a || b) ≡ false → (a ≡ false) × (b ≡ false)

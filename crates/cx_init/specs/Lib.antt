@@ -1,3 +1,4 @@
+pub mod Ascending
 pub mod Constants
 pub mod Orders
 pub mod Parts

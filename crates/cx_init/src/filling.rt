@@ -8,10 +8,11 @@ ghost use Rattle.cx_operands.specs.Views.{view_operand};
 ghost use Rattle.cx_parts.specs.Views.{view_at};
 ghost use Rattle.cx_rules.specs.Pieces.{filled, from_whole, next_of, outside, text_stored_at, value_stored, with_more};
 
-use crate::stored::{Filling, Stored, Target, value_stored};
+use crate::stored::{Filling, Target, value_stored};
 use crate::taken::drop_within;
 use crate::targets::from_whole;
 use crate::texts::text_stored;
+use crate::values::StoredValues;
 use cr_base::{Items, Memory, Place};
 use cx_core::Types;
 use cx_kinds::Known;
@@ -26,7 +27,7 @@ pub fn fill(
     known: Known,
     target: &Target,
     at: Option<&At>,
-    more: Items<Stored>,
+    more: StoredValues,
     filling: &mut Filling,
 ) -> Result<(), Memory>
     requires { IsKnown known }
@@ -60,8 +61,8 @@ fn add(
     alloc: Global,
     base: &Option<At>,
     at: Option<&At>,
-    more: Items<Stored>,
-    stored: &mut Items<Stored>,
+    more: StoredValues,
+    stored: &mut StoredValues,
 ) -> Result<(), Memory>
     ensures { OnOk result (map view_stored stored.new ≡ with_more (from_whole (option_map view_at base.now) (option_map (λ one. view_at one.now) at.entry)) (map view_stored more) (map view_stored stored.old)) }
 {
@@ -77,7 +78,7 @@ fn empty_part(
     alloc: Global,
     base: &Option<At>,
     at: Option<&At>,
-    stored: &mut Items<Stored>,
+    stored: &mut StoredValues,
 ) -> Result<(), Memory>
     ensures { OnOk result (map view_stored stored.new ≡ outside (from_whole (option_map view_at base.now) (option_map (λ one. view_at one.now) at.entry)) (map view_stored stored.old)) }
 {
@@ -126,7 +127,7 @@ pub fn value_at(
     target: &Target,
     value: Operand,
     at: Option<&At>,
-) -> Result<Items<Stored>, Memory>
+) -> Result<StoredValues, Memory>
     ensures { IfOk result (λ made. map view_stored made ≡ value_stored (view_types types.now) (view_target target.now) (view_operand value) (option_map (λ one. view_at one.now) at.entry)) }
 {
     let place = whole_place(alloc, &target.base, at)?;
@@ -160,7 +161,7 @@ pub fn text_at(
     place: Place,
     bytes: &[u8],
     at: Option<&At>,
-) -> Result<Items<Stored>, Memory>
+) -> Result<StoredValues, Memory>
     requires { IsKnown known }
     ensures { IfOk result (λ made. map view_stored made ≡ text_stored_at (types_in known.entry) place (view_target target.now) bytes.now (option_map (λ one. view_at one.now) at.entry)) }
 {

@@ -12,6 +12,7 @@ mod stored;
 mod taken;
 mod targets;
 mod texts;
+mod values;
 
 pub use constants::may_initialise;
 pub use facts::assignable_at;
@@ -22,3 +23,4 @@ pub use targets::{
     begin_list, is_text_target, list_at_text, next_at, object_target, part_target, whole_at,
 };
 pub use texts::fits_text;
+pub use values::StoredValues;

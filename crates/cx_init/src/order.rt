@@ -2,12 +2,12 @@
 
 ghost use Rattle.std.specs.Prelude.{◌≡◌, ◌≤◌, [], ◌∷◌, if◌then◌else◌, map, length, Some, IfOk, OnOk};
 ghost use Rattle.cx_core.specs.Views.{view_type};
-ghost use Rattle.cx_init.specs.Orders.{kept_flags, chosen, ordered_onto, place_among};
+ghost use Rattle.cx_init.specs.Orders.{all_rise, chosen, kept_flags, ordered_onto, place_among, rises, rises_to};
 ghost use Rattle.cx_init.specs.Views.{view_stored};
 ghost use Rattle.cx_kinds.specs.Known.{IsKnown, types_in};
 ghost use Rattle.cx_rules.specs.Initial.{takes_away, kept_by, kept, put_in_order, in_order};
 
-use crate::paths::comes_before;
+use crate::paths::{comes_before, stands_behind};
 use crate::stored::Stored;
 use cr_base::{Items, Memory};
 use cx_core::Ty;
@@ -82,8 +82,40 @@ fn put_in_order(sorted: &mut Vec<Stored>, one: Stored) -> Result<(), Memory>
     Ok(())
 }
 
+// Whether a later value stands behind an earlier one, and leaves it.
+fn rises(known: Known, t: &Ty, earlier: &[u64], later: &[u64]) -> bool
+    requires { IsKnown known }
+    ensures { result ≡ rises (types_in known.entry) (view_type t.now) earlier.now later.now }
+{
+    stands_behind(earlier, later) && !takes_away(known, t, later, earlier)
+}
+
+// Whether the next value, where there is one, stands behind a value and leaves it.
+fn rises_to(known: Known, t: &Ty, one: &Stored, others: &[Stored]) -> bool
+    requires { IsKnown known }
+    ensures { result ≡ rises_to (types_in known.entry) (view_type t.now) (view_stored one.now) (map view_stored others.now) }
+{
+    match others.first() {
+        None => true,
+        Some(next) => rises(known, t, one.path.as_slice(), next.path.as_slice()),
+    }
+}
+
+// Whether each value stands behind the one before, and leaves it.
+fn all_rise(known: Known, t: &Ty, stored: &[Stored]) -> bool
+    requires { IsKnown known }
+    ensures { result ≡ all_rise (types_in known.entry) (view_type t.now) (map view_stored stored.now) }
+{
+    for index in 0..stored.len() {
+        if !rises_to(known, t, &stored[index], &stored[index + 1..]) {
+            return false;
+        }
+    }
+    true
+}
+
 /// What later values leave of what an initialiser stores in an object of a type, in the order of the places; a whole part stands before
-/// what is stored in it. Refused only for want of memory.
+/// what is stored in it. Values that come in the order of their places are the answer as they are. Refused only for want of memory.
 pub(crate) fn kept_in_order(
     alloc: Global,
     known: Known,
@@ -93,6 +125,9 @@ pub(crate) fn kept_in_order(
     requires { IsKnown known }
     ensures { IfOk result (λ made. map view_stored made ≡ in_order (kept (types_in known.entry) (view_type t.now) (map view_stored stored))) }
 {
+    if all_rise(known, t, stored.as_slice()) {
+        return Ok(stored);
+    }
     let flags = kept_flags(alloc, known, t, stored.as_slice())?;
     chosen_in_order(alloc, flags, stored)
 }

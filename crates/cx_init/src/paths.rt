@@ -1,6 +1,7 @@
 //! Paths of parts, compared.
 
 ghost use Rattle.std.specs.Prelude.{◌≡◌};
+ghost use Rattle.cx_init.specs.Ascending.{stands_behind};
 ghost use Rattle.cx_rules.specs.Initial.{comes_before};
 ghost use Rattle.cx_rules.specs.Pieces.{is_within};
 
@@ -32,4 +33,11 @@ pub(crate) fn comes_before(first: &[u64], second: &[u64]) -> bool
     } else {
         *index < *other
     }
+}
+
+// Whether a later path stands behind an earlier one: the earlier one comes before it, and is another one.
+pub(crate) fn stands_behind(earlier: &[u64], later: &[u64]) -> bool
+    ensures { result ≡ stands_behind earlier.now later.now }
+{
+    !comes_before(later, earlier)
 }

@@ -11,6 +11,7 @@ ghost use Rattle.cx_rules.specs.Pieces.{filled_object};
 
 use crate::order::kept_in_order;
 use crate::stored::Stored;
+use crate::values::StoredValues;
 use cr_base::{Boxed, Items, Memory, Spot};
 use cx_core::{Put, Ty, TyForm};
 use cx_kinds::{Known, record_at, size_of};
@@ -248,13 +249,13 @@ pub fn filled_object(
     alloc: Global,
     known: Known,
     ty: Boxed<Ty>,
-    stored: Items<Stored>,
+    stored: StoredValues,
 ) -> Result<Filled, Memory>
     requires { IsKnown known }
     ensures { IfOk result (λ made. view_filled made ≡ filled_object (types_in known.entry) (view_type ty) (map view_stored stored)) }
 {
     let least = least_length(stored.as_slice())?;
-    let sorted = kept_in_order(alloc, known, ty.get(), stored)?;
+    let sorted = kept_in_order(alloc, known, ty.get(), stored.into_items())?;
     let ty = completed(alloc, ty, least)?;
     let puts = puts_listed(alloc, known, ty.get(), sorted)?;
     Ok(Filled { ty, puts })

@@ -7,6 +7,7 @@ ghost use Rattle.cx_operands.specs.Views.{view_operand};
 ghost use Rattle.cx_parts.specs.Views.{view_at};
 ghost use Rattle.cx_rules.specs.Pieces.{stored_value};
 
+use crate::values::StoredValues;
 use cr_base::{Boxed, Items, Memory};
 use cx_core::{CoreExpr, Ty, Types};
 use cx_operands::Operand;
@@ -26,7 +27,7 @@ pub struct Stored {
 /// What is stored so far, and where the next value stands, where there is a place for one.
 #[derive(Drop)]
 pub struct Filling {
-    pub stored: Items<Stored>,
+    pub stored: StoredValues,
     pub next: Option<At>,
 }
 
@@ -46,10 +47,10 @@ pub fn value_stored(
     types: &Types,
     value: Operand,
     at: Option<At>,
-) -> Result<Items<Stored>, Memory>
+) -> Result<StoredValues, Memory>
     ensures { IfOk result (λ made. map view_stored made ≡ stored_value (view_types types.now) (view_operand value) (option_map view_at at)) }
 {
-    let mut made = Items::new(alloc);
+    let mut made = StoredValues::new(alloc);
     match at {
         None => Ok(made),
         Some(at) => {

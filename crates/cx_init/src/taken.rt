@@ -7,24 +7,28 @@ ghost use Rattle.cx_rules.specs.Pieces.{is_within, kept_outside};
 
 use crate::paths::is_within;
 use crate::stored::Stored;
+use crate::values::StoredValues;
 use cr_base::{Items, Memory};
 use std::alloc::Global;
 use std::mem;
 
-/// What was stored in a part goes. Refused only for want of memory.
+/// What was stored in a part goes; nothing was where the part stands behind all that is stored. Refused only for want of memory.
 pub(crate) fn drop_within(
     alloc: Global,
     part: &[u64],
-    stored: &mut Items<Stored>,
+    stored: &mut StoredValues,
 ) -> Result<(), Memory>
     ensures { OnOk result (map view_stored stored.new ≡ kept_outside part.now (map view_stored stored.old)) }
 {
+    if stored.stand_before(part) {
+        return Ok(());
+    }
     if !holds_within(part, stored.as_slice()) {
         return Ok(());
     }
-    let all = mem::replace(stored, Items::new(alloc));
-    let kept = kept_outside(alloc, part, all)?;
-    *stored = kept;
+    let all = mem::replace(stored, StoredValues::new(alloc));
+    let kept = kept_outside(alloc, part, all.into_items())?;
+    *stored = StoredValues::of(kept);
     Ok(())
 }
 

@@ -11,8 +11,9 @@ ghost use Rattle.cx_core.specs.Views.{view_type};
 ghost use Rattle.std.specs.Option.{option_and_then};
 
 use crate::filling::{copy_at, whole_place};
-use crate::stored::{Filling, Stored, Target};
+use crate::stored::{Filling, Target};
 use crate::taken::drop_within;
+use crate::values::StoredValues;
 use cr_base::{Items, Memory};
 use cx_core::Ty;
 use cx_kinds::{Known, is_character_array, is_function, is_void};
@@ -90,7 +91,7 @@ pub fn is_text_target(target: &Target) -> bool
 }
 
 // What was stored in what the list is for goes (6.7.8p19).
-fn empty_base(alloc: Global, target: &Target, stored: &mut Items<Stored>) -> Result<(), Memory>
+fn empty_base(alloc: Global, target: &Target, stored: &mut StoredValues) -> Result<(), Memory>
     ensures { OnOk result (map view_stored stored.new ≡ outside (view_target target.now).base (map view_stored stored.old)) }
 {
     match &target.base {
@@ -108,7 +109,7 @@ pub fn begin_list(
     alloc: Global,
     known: Known,
     target: &Target,
-    stored: Items<Stored>,
+    stored: StoredValues,
 ) -> Result<Filling, Memory>
     requires { IsKnown known }
     ensures { IfOk result (λ made. view_filling made ≡ begins_at (types_in known.entry) (view_target target.now) (outside (view_target target.now).base (map view_stored stored))) }
@@ -131,11 +132,7 @@ fn first_in(alloc: Global, known: Known, base: &Option<At>) -> Result<Option<At>
 
 /// The same of a list that holds one string literal for an array of characters: that stands for the whole array (ISO C99, 6.7.8p14).
 /// Refused only for want of memory.
-pub fn list_at_text(
-    alloc: Global,
-    target: &Target,
-    stored: Items<Stored>,
-) -> Result<Filling, Memory>
+pub fn list_at_text(alloc: Global, target: &Target, stored: StoredValues) -> Result<Filling, Memory>
     ensures { IfOk result (λ made. view_filling made ≡ record { stored = outside (view_target target.now).base (map view_stored stored); next = whole_at (view_target target.now) }) }
 {
     let mut stored = stored;

@@ -12,6 +12,7 @@ ghost use Rattle.cx_rules.specs.Initial.{as_scalar, byte_value, bytes_from, fits
 ghost use Rattle.cx_rules.specs.Pieces.{bytes_stored, text_fits_at};
 
 use crate::stored::Stored;
+use crate::values::StoredValues;
 use cr_base::{Boxed, Int, Items, Memory, Place, convert};
 use cx_core::{Basic, CoreExpr, Ty, TyForm, Types, basic_of};
 use cx_forms::whole_node;
@@ -63,12 +64,12 @@ pub fn text_stored(
     place: Place,
     bytes: &[u8],
     at: Option<At>,
-) -> Result<Items<Stored>, Memory>
+) -> Result<StoredValues, Memory>
     requires { IsKnown known }
     ensures { IfOk result (λ made. map view_stored made ≡ bytes_stored (types_in known.entry) place bytes.now (option_map view_at at)) }
 {
     match at {
-        None => Ok(Items::new(alloc)),
+        None => Ok(StoredValues::new(alloc)),
         Some(at) => text_in(alloc, known, place, bytes, &at),
     }
 }
@@ -79,7 +80,7 @@ fn text_in(
     place: Place,
     bytes: &[u8],
     at: &At,
-) -> Result<Items<Stored>, Memory>
+) -> Result<StoredValues, Memory>
     requires { IsKnown known }
     ensures { IfOk result (λ made. map view_stored made ≡ text_in (types_in known.entry) place (view_at at.now) bytes.now (form_of_type (view_type at.now.ty))) }
 {
@@ -98,7 +99,7 @@ fn text_in(
         | TyForm::Enum(_)
         | TyForm::Pointer(_)
         | TyForm::Record(_)
-        | TyForm::Function(_) => Ok(Items::new(alloc)),
+        | TyForm::Function(_) => Ok(StoredValues::new(alloc)),
     }
 }
 
@@ -111,11 +112,11 @@ fn bytes_from(
     element: &Ty,
     length: Option<u64>,
     bytes: &[u8],
-) -> Result<Items<Stored>, Memory>
+) -> Result<StoredValues, Memory>
     requires { IsKnown known }
     ensures { IfOk result (λ made. map view_stored made ≡ bytes_from (types_in known.entry) place (view_at at.now) (view_type element.now) length 0 bytes.now) }
 {
-    let mut made = Items::new(alloc);
+    let mut made = StoredValues::new(alloc);
     for index in 0..bytes.len() {
         if !has_element(known, element, length, index as u64) {
             return Ok(made);

@@ -10,9 +10,9 @@ ghost use Rattle.cx_parts.specs.Views.{view_at};
 ghost use Rattle.cx_rules.specs.Pieces.{holds_text, is_text, text_parts};
 ghost use Rattle.cx_tree.specs.Views.{designator_view, designators as designator_trees, entries as entry_trees, entry_view, expr_view, initialiser_view};
 
-use cr_base::{Items, Name, Stop};
+use cr_base::{Name, Stop};
 use cx_context::Context;
-use cx_init::{Filling, Stored, Target, begin_list, fill, is_text_target, list_at_text};
+use cx_init::{Filling, StoredValues, Target, begin_list, fill, is_text_target, list_at_text};
 use cx_parts::At;
 use cx_tree::{Designator, Entry, Expr, Initialiser};
 
@@ -77,7 +77,7 @@ pub fn list_begins(
     context: &Context,
     target: &Target,
     entries: &[Entry],
-    stored: Items<Stored>,
+    stored: StoredValues,
 ) -> Result<Filling, Stop>
     ensures { Checks view_filling result (scope_of context.now) (steps.list_begins (view_target target.now) (entry_trees (map entry_view entries.now)) (map view_stored stored) (scope_of context.now)) }
 {
@@ -96,7 +96,7 @@ pub fn list_given(
     context: &Context,
     target: &Target,
     at: &Option<At>,
-    stored: Items<Stored>,
+    stored: StoredValues,
     filling: &mut Filling,
 ) -> Result<(), Stop>
     ensures { Checks (λ _. view_filling filling.new) result (scope_of context.now) (steps.list_given (view_target target.now) (option_map view_at at.now) (view_filling filling.old) (map view_stored stored) (scope_of context.now)) }
@@ -108,7 +108,7 @@ pub fn list_given(
         context.known(),
         target,
         at.as_ref(),
-        Items::new(alloc),
+        StoredValues::new(alloc),
         filling,
     )?;
     Ok(())

@@ -15,7 +15,7 @@ use cx_breaks::literal_rule;
 use cx_context::{Context, LiteralBegun};
 use cx_core::{CoreExpr, Form, Put, Ty};
 use cx_forms::object_node;
-use cx_init::{Filled, Stored, filled_object};
+use cx_init::{Filled, StoredValues, filled_object};
 use cx_operands::Operand;
 use cx_operators::a_place;
 use std::alloc::Global;
@@ -116,7 +116,7 @@ pub fn literal_ended(
     begun: LiteralBegun,
     line: u32,
     ty: Boxed<Ty>,
-    stored: Items<Stored>,
+    stored: StoredValues,
 ) -> Result<Operand, Stop>
     ensures { Checks view_operand result (scope_of context.new) (steps.literal_ended begun.literals begun.object line (view_type ty) (map view_stored stored) (scope_of context.old)) }
 {

@@ -4,7 +4,7 @@ use Rattle.cx_core.specs.declared.expr.Op2.TheVariants.{Add, Subtract}
 use Rattle.cx_core.specs.Layouts.{layouts_of}
 use Rattle.cr_world.specs.Known.{known_table}
 use Rattle.cx_core.specs.Trees.{CProgram}
-use Rattle.cx_mean.proofs.Programs.{runs_with, ordered, int_t, n, var, val, set, set_by, two, calls, run, give, skip, in_block, putchar, program, program_of, main_fun, fun, taking, static, local, put_at, answers, silent, runs, seen, ends, printed}
+use Rattle.cx_mean.proofs.Programs.{runs_with, ordered, int_t, n, var, val, set, set_by, two, both_true, calls, run, give, skip, in_block, putchar, program, program_of, main_fun, fun, taking, static, local, put_at, answers, silent, runs, seen, ends, printed}
 use Rattle.cx_core.specs.Trees.{no_types_yet}
 use Rattle.cx_mean.specs.Run.{going, ended}
 
@@ -125,6 +125,14 @@ numbers_kept : ordered (program [] (run (putchar (n 9)) ∷ give (two Add (putch
     ≡ seen (printed 9 ∷ printed 2 ∷ printed 1 ∷ []) (ended (pos 0))
 unfolding layouts_of known_table
 numbers_kept = refl
+
+-- the first operand of `&&` takes its steps in any order, and the second one waits for its value (6.5.13p4):
+-- `return (putchar(1) + putchar(2)) && putchar(3);`, answered by 0, 4 and 0
+choice_waits : ordered (program [] (give (both_true (two Add (putchar (n 1)) (putchar (n 2))) (putchar (n 3))) ∷ [])) (1 ∷ [])
+    (answers (pos 0 ∷ pos 4 ∷ [])) 40
+    ≡ seen (printed 2 ∷ printed 1 ∷ printed 3 ∷ []) (ended (pos 0))
+unfolding layouts_of known_table
+choice_waits = refl
 
 -- three arguments: the third, then of the two left the second
 -- `return f(putchar(1), putchar(2), putchar(3));` with `int f(int, int, int) { return 7; }`

@@ -5,9 +5,9 @@ use Rattle.cx_core.specs.declared.expr.Op1.TheVariants.{Minus, Not}
 use Rattle.cx_core.specs.declared.expr.Op2.TheVariants.{Multiply, Divide, Remainder, Add, Subtract, ShiftLeft, ShiftRight, Less, Greater, LessOrEqual, GreaterOrEqual, Equal, NotEqual}
 use Rattle.cx_core.specs.declared.ty.Basic.TheVariants.{Truth, Short}
 use Rattle.cx_core.specs.Layouts.{layouts_of}
-use Rattle.cx_core.specs.Trees.{CExpr, CObject, CTy}
+use Rattle.cx_core.specs.Trees.{CExpr, expr, binary, CObject, CTy}
 use Rattle.cr_world.specs.Known.{known_table}
-use Rattle.cx_mean.proofs.Programs.{Both, plain, int_t, char_t, unsigned_t, long_t, void_t, to, array_of, to_void, n, number, number_as, var, var_as, val, val_as, get, set, set_by, post_up, pre_down, two, two_as, one_as, conv, addr, first_of, star, null_as, both_true, either_true, choose, sequence, run, give, when, decl, skip, program, with_locals, in_block, static, local, put_at, runs, ends, gives, all_end, all_break, breaks_at, putchar, seen, printed}
+use Rattle.cx_mean.proofs.Programs.{Both, at, plain, int_t, char_t, unsigned_t, long_t, void_t, to, array_of, to_void, n, number, number_as, var, var_as, val, val_as, get, set, set_by, post_up, pre_down, two, two_as, one_as, conv, addr, first_of, star, null_as, both_true, either_true, choose, sequence, run, give, when, decl, skip, program, with_locals, in_block, static, local, put_at, runs, ends, gives, all_end, all_break, breaks_at, putchar, seen, printed}
 use Rattle.cx_mean.specs.Run.{ended, undefined}
 
 -- each of these values breaks a rule
@@ -102,6 +102,11 @@ u3 = two Divide (n 1) (n 0) ∷ two Remainder (n 1) (n 0) ∷ two Divide lowest 
 divisions : gives (x1 ∷ []) u3 ≡ all_break U3 u3
 unfolding layouts_of x1 u3 lowest
 divisions = refl
+
+-- a step is undefined at the line of its own node, which isn't that of the statement: `return 1 +`, and `1 / 0;` on line 2 (6.5.5p5)
+own_line : runs (program [] (give (two Add (n 1) (expr int_t (at 2) (binary Divide (n 1) (n 0)))) ∷ [])) 40 ≡ breaks_at 2 U3
+unfolding layouts_of
+own_line = refl
 
 -- ---- U4: shifts
 

@@ -4,9 +4,9 @@ use Rattle.cr_base.specs.declared.rule.URule.TheVariants.{U5, U6, U13, U14, U15,
 use Rattle.cx_core.specs.declared.expr.Op2.TheVariants.{Add}
 use Rattle.cx_core.specs.Conversions.{same_basic}
 use Rattle.cx_core.specs.Layouts.{layouts_of}
-use Rattle.cx_core.specs.Trees.{CExpr, CObject, CTy, CProgram, CStmt, stmt, block, no_types_yet}
+use Rattle.cx_core.specs.Trees.{CExpr, CObject, CTy, CProgram, CStmt, stmt, block, call, expr, no_types_yet}
 use Rattle.cr_world.specs.Known.{known_table}
-use Rattle.cx_mean.proofs.Programs.{Both, at, stmts, int_t, char_t, size_t, void_t, to, array_of, to_void, n, number_as, var, var_as, val, val_as, get, set, two, two_as, conv, addr, first_of, star, null_as, fun_pointer, taking, taking_unlisted, both_true, sequence, calls, calls_as, calls_by, run, run_void, give, when, decl_to, skip, program, program_of, main_fun, fun, in_block, static, local, put_at, runs, ends, breaks_at}
+use Rattle.cx_mean.proofs.Programs.{Both, at, exprs, stmts, int_t, char_t, size_t, void_t, to, array_of, to_void, n, number_as, var, var_as, val, val_as, get, set, two, two_as, conv, addr, first_of, star, null_as, fun_pointer, taking, taking_unlisted, both_true, sequence, calls, calls_as, calls_by, run, run_void, give, when, decl_to, skip, program, program_of, main_fun, fun, in_block, static, local, put_at, runs, ends, breaks_at}
 
 x1 : CObject
 x1 = static 1 int_t (put_at 0 (n 1) ∷ [])
@@ -100,6 +100,11 @@ missing_assigned = refl
 missing_tested : may_give (when (f 0) skip ∷ []) ≡ breaks_at 1 U14
 unfolding layouts_of may_give f
 missing_tested = refl
+
+-- a condition without a value (6.9.1p12) is undefined at its own line, which is the second one: `if (` and `f(0)) ;`
+missing_tested_below : may_give (when (expr int_t (at 2) (call 1 (exprs (n 0 ∷ [])))) skip ∷ []) ≡ breaks_at 2 U14
+unfolding layouts_of may_give
+missing_tested_below = refl
 
 missing_chosen : may_give (give (both_true (n 1) (f 0)) ∷ []) ≡ breaks_at 1 U14
 unfolding layouts_of may_give f

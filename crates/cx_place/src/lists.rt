@@ -15,7 +15,7 @@ use crate::placing::Placing;
 use crate::values::{text_given, value_given};
 use cr_base::{Items, Memory};
 use cx_init::{
-    Filling, Stored, Target, begin_list, fill, is_text_target, list_at_text, part_target,
+    Filling, StoredValues, Target, begin_list, fill, is_text_target, list_at_text, part_target,
 };
 use cx_kinds::Known;
 use cx_parts::At;
@@ -62,7 +62,7 @@ fn list_start(
     known: Known,
     target: &Target,
     is_text: bool,
-    stored: Items<Stored>,
+    stored: StoredValues,
 ) -> Result<Filling, Memory>
     requires { IsKnown known }
     ensures { IfOk result (λ made. view_filling made ≡ list_start (types_in known.entry) (view_target target.now) is_text (map view_stored stored)) }
@@ -86,7 +86,7 @@ pub(crate) fn begin(
     ensures { OnOk result (view_placing placing.new ≡ list_begun (types_in known.entry) (view_target target.now) (entries_of (map view_entry entries.now)) (view_placing placing.old)) }
 {
     let is_text = is_text_target(target) && holds_text(entries);
-    let stored = mem::replace(&mut placing.filling.stored, Items::new(alloc));
+    let stored = mem::replace(&mut placing.filling.stored, StoredValues::new(alloc));
     let filling = list_start(alloc, known, target, is_text, stored)?;
     placing.filling = filling;
     Ok(())
@@ -103,7 +103,7 @@ fn end(
     requires { IsKnown known }
     ensures { OnOk result (view_placing placing.new ≡ list_ended (types_in known.entry) (view_target target.now) (option_map (λ one. view_at one.now) at.entry) (view_placing placing.old)) }
 {
-    let none = Items::new(alloc);
+    let none = StoredValues::new(alloc);
     fill(alloc, known, target, at, none, &mut placing.filling)?;
     placing.rules.push(None)
 }

@@ -17,7 +17,7 @@ use crate::placing::Placing;
 use crate::rules::{text_rule, value_rule};
 use cr_base::{Items, Memory, Place, Rule};
 use cx_core::Ty;
-use cx_init::{Filling, Stored, Target, is_text_target, text_at, value_at, whole_at};
+use cx_init::{Filling, StoredValues, Target, is_text_target, text_at, value_at, whole_at};
 use cx_kinds::{Known, has_size, is_array, is_function};
 use cx_operands::Operand;
 use cx_parts::{At, whole_of};
@@ -26,7 +26,7 @@ use std::alloc::Global;
 // What is stored in a whole object, and for each part in post-order the rule that it breaks, if it breaks one.
 #[derive(Drop)]
 pub(crate) struct Whole {
-    pub(crate) stored: Items<Stored>,
+    pub(crate) stored: StoredValues,
     pub(crate) rules: Items<Option<Rule>>,
 }
 
@@ -126,7 +126,7 @@ fn nothing_placed(alloc: Global) -> Placing
 {
     Placing {
         filling: Filling {
-            stored: Items::new(alloc),
+            stored: StoredValues::new(alloc),
             next: None,
         },
         rules: Items::new(alloc),

@@ -8,6 +8,7 @@ pub mod Worked
 pub mod WorkedDeclarations
 pub mod WorkedExpressions
 pub mod WorkedInitialisers
+pub mod WorkedMeanings
 pub mod WorkedMentions
 pub mod WorkedPuts
 pub mod WorkedTypes

@@ -15,10 +15,10 @@ ghost use Rattle.cx_tree.specs.Trees.{Single};
 ghost use Rattle.cx_tree.specs.Views.{designator_view, designators as designator_trees, expr_view, initialiser_view};
 
 use crate::walk::{expr, initialiser_list};
-use cr_base::{Items, Memory, Stop};
+use cr_base::{Memory, Stop};
 use cx_context::Context;
 use cx_core::Ty;
-use cx_init::{Stored, Target};
+use cx_init::{StoredValues, Target};
 use cx_init_steps::{is_text, text_parts, whole_given, whole_text};
 use cx_kinds::{Known, has_size, is_array, is_function};
 use cx_parts::{At, whole_of};
@@ -31,20 +31,20 @@ pub fn initialiser(
     context: &mut Context,
     init: &Initialiser,
     target: &Target,
-) -> Result<Items<Stored>, Stop>
+) -> Result<StoredValues, Stop>
     ensures { Checks (map view_stored) result (scope_of context.new) (walks.initialiser_walk (view_target target.now) (initialiser_view init.now) (scope_of context.old)) }
 {
     match init {
         Initialiser::Single(value) => whole_single(context, value.get(), target),
         Initialiser::Braced(list) => {
-            let empty = Items::new(context.alloc());
+            let empty = StoredValues::new(context.alloc());
             initialiser_list(context, list.get(), target, empty)
         }
     }
 }
 
 // A value that isn't in braces, for a whole object.
-fn whole_single(context: &mut Context, value: &Expr, target: &Target) -> Result<Items<Stored>, Stop>
+fn whole_single(context: &mut Context, value: &Expr, target: &Target) -> Result<StoredValues, Stop>
     ensures { Checks (map view_stored) result (scope_of context.new) (walks.initialiser_walk (view_target target.now) (Single (expr_view value.now)) (scope_of context.old)) }
 {
     let line = expr_line(value);
@@ -89,7 +89,7 @@ pub fn stored_for(
     t: &Ty,
     init: &Initialiser,
     is_static: bool,
-) -> Result<Items<Stored>, Stop>
+) -> Result<StoredValues, Stop>
     ensures { Checks (map view_stored) result (scope_of context.new) (check_initialiser (declared_target (scope_of context.old).types is_static (view_type t.now)) (initialiser_view init.now) (scope_of context.old)) }
 {
     let target = whole_target(context, is_static, t)?;

@@ -26,7 +26,7 @@ use cx_expr_steps::{
     index_seen, letter_seen, name_seen, number_seen, sizeof_seen, sizeof_type_seen, step_seen,
     text_seen, unary_seen,
 };
-use cx_init::{Filling, Stored, Target, next_at, object_target, part_target, whole_at};
+use cx_init::{Filling, StoredValues, Target, next_at, object_target, part_target, whole_at};
 use cx_init_steps::{
     element_seen, is_text, list_begins, list_given, literal_begins, literal_ended,
     member_designated, text_given, text_parts, value_given,
@@ -651,7 +651,7 @@ fn literal_of(
     let is_inside = context.is_inside();
     let target = object_target(context.alloc(), !is_inside, ty.get())?;
     let begun = literal_begins(context, ty.get())?;
-    let empty = Items::new(context.alloc());
+    let empty = StoredValues::new(context.alloc());
     let stored = initialiser_list(context, list, &target, empty)?;
     literal_ended(context, begun, line, ty, stored)
 }
@@ -662,8 +662,8 @@ pub(crate) fn initialiser_list(
     context: &mut Context,
     list: &InitialiserList,
     target: &Target,
-    stored: Items<Stored>,
-) -> Result<Items<Stored>, Stop>
+    stored: StoredValues,
+) -> Result<StoredValues, Stop>
     ensures { Checks (map view_stored) result (scope_of context.new) (walks.list_walk (view_target target.now) (map view_stored stored) (initialiser_list_view list.now) (scope_of context.old)) }
 {
     let entries = list.entries.as_slice();
@@ -766,7 +766,7 @@ fn given(
         Initialiser::Single(value) => single_given(context, value.get(), target, at, filling),
         Initialiser::Braced(list) => {
             let inner = part_target(context.alloc(), target, at.as_ref())?;
-            let empty = Items::new(context.alloc());
+            let empty = StoredValues::new(context.alloc());
             let earlier = mem::replace(&mut filling.stored, empty);
             let stored = initialiser_list(context, list.get(), &inner, earlier)?;
             list_given(context, target, at, stored, filling)

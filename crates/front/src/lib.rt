@@ -4,6 +4,7 @@
 
 mod crate_files;
 mod files;
+mod given;
 mod kept;
 mod laws;
 mod outcome;
@@ -16,6 +17,7 @@ mod ungot;
 mod units;
 mod unread;
 
+pub use given::run_given;
 pub use laws::{one_is_first, translated_break_none};
 pub use report::out_of_memory;
 pub use top::{run, run_surely};

@@ -49,8 +49,8 @@ const STAGES: [(&str, Stage); 9] = [
 
 /// All stages, over the files and streams of the system.
 #[derive(Clone, Copy)]
-pub(crate) struct Stages<'a, R> {
-    pub(crate) rt: &'a R,
+pub struct Stages<'a, R> {
+    pub rt: &'a R,
 }
 
 impl<'a, R: System> Answers for Stages<'a, R> {

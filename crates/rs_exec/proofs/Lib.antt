@@ -1,4 +1,2 @@
-pub mod Called
 pub mod Outcomes
 pub mod Started
-pub mod Turned

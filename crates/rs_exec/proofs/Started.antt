@@ -44,7 +44,7 @@ use Rattle.rs_machine.proofs.Pieces.{then_does, stops_first}
 use Rattle.rs_machine.proofs.Rules.{pure_does, fails_does, ends_does, memory_does}
 use Rattle.rs_exec.specs.Ends.{IsOutcome, RunsTo}
 use Rattle.rs_exec.specs.declared.outcome.RRun.{RRun}
-use Rattle.rs_exec.proofs.Turned.{Follows}
+use Rattle.rs_bodies.proofs.Turned.{Follows}
 
 none_left : {X : Type 0} (list : List X) (index : ℕ) → length list ≤ index → drop index list ≡ []
 none_left [] zero most = refl

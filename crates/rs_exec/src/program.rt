@@ -12,9 +12,9 @@ ghost use Rattle.rs_tree.specs.Views.{module_view};
 ghost use Rattle.rs_value.specs.Views.{typed_view};
 
 use crate::begins::begin_statics;
-use crate::calls::call_found;
 use ext_calls::Host;
 use mem_bytes::{Store, Value};
+use rs_bodies::call_found;
 use rs_layout::callee_among;
 use rs_machine::{Halt, Machine, ended};
 use rs_mean::Cause;

@@ -1,10 +1,9 @@
 -- What is told of numbers and truth values that were found at once, and what is done on the side of a test.
-use Rattle.std.proofs.Common.{◌≡◌, subst, sym, Bool, true, false, List, map, Option, Some, None, IfSome, if◌then◌else◌}
+use Rattle.std.proofs.Common.{ℤ, ◌≡◌, subst, sym, Bool, true, false, List, map, Option, Some, None, IfSome, if◌then◌else◌}
 use Rattle.mem_bytes.specs.declared.value.Value.TheVariants.{Whole}
 use Rattle.mem_bytes.specs.Memory.{Blocks}
 use Rattle.rs_forms.specs.declared.forms.Form.{Form}
 use Rattle.rs_forms.specs.declared.forms.Pair.{Pair}
-use Rattle.rs_forms.specs.declared.quick.Number.{Number}
 use Rattle.rs_forms.specs.Forms.{form_run, pair_run}
 use Rattle.rs_forms.proofs.Formed.{by_form}
 use Rattle.rs_mean.specs.Run.{Frame, Flow, run_expr, run_stmts, tests}
@@ -16,19 +15,20 @@ use Rattle.rs_machine.specs.Steps.{LookDoes}
 use Rattle.rs_machine.proofs.Pieces.{then_does}
 use Rattle.rs_machine.proofs.Rules.{pure_does}
 use Rattle.rs_tree.specs.declared.expr.RExpr.{RExpr}
+use Rattle.rs_tree.specs.declared.ty.IntegerTy.{IntegerTy}
 use Rattle.rs_tree.specs.declared.stmt.RStmt.{RStmt}
 use Rattle.rs_tree.specs.Tree.{Integer, ModuleTree, stmts}
 use Rattle.rs_tree.specs.Views.{expr_view, stmt_view}
 
--- the value of a number
-abbrev pub value_is : Number → Typed
-value_is one = typed (Integer one.ty) (Whole one.number)
+-- the value of a number of a type
+abbrev pub value_is : ℤ → IntegerTy → Typed
+value_is number ty = typed (Integer ty) (Whole number)
 
 -- a piece that gives a value gives the number that it is
-pub number_held : (piece : Run Typed) (value : Typed) (found : Option Number) (blocks : Blocks) → IfSome found (λ (one : Number). value ≡ value_is one) →
-    LookDoes piece (gives value) blocks → IfSome found (λ (one : Number). LookDoes piece (gives (value_is one)) blocks)
-number_held piece value None blocks is does = tt
-number_held piece value (Some one) blocks is does = subst (λ (given : Typed). LookDoes piece (gives given) blocks) is does
+pub number_held : (piece : Run Typed) (value : Typed) (number : ℤ) (found : Option IntegerTy) (blocks : Blocks) → IfSome found (λ (one : IntegerTy). value ≡ value_is number one) →
+    LookDoes piece (gives value) blocks → IfSome found (λ (one : IntegerTy). LookDoes piece (gives (value_is number one)) blocks)
+number_held piece value number None blocks is does = tt
+number_held piece value number (Some one) blocks is does = subst (λ (given : Typed). LookDoes piece (gives given) blocks) is does
 
 pub test_held : (piece : Run Typed) (value : Typed) (found : Option Bool) (blocks : Blocks) → IfSome found (λ (test : Bool). value ≡ truth test) →
     LookDoes piece (gives value) blocks → IfSome found (λ (test : Bool). LookDoes piece (gives (truth test)) blocks)
@@ -36,25 +36,25 @@ test_held piece value None blocks is does = tt
 test_held piece value (Some test) blocks is does = subst (λ (given : Typed). LookDoes piece (gives given) blocks) is does
 
 -- a place that is found at once, and then what it holds
-pub place_held : {A : Type 0} (place : Run A) (at : A) (next : A → Run Typed) (found : Option Number) (blocks : Blocks) → Stays place (gives at) →
-    IfSome found (λ (one : Number). LookDoes (next at) (gives (value_is one)) blocks) → IfSome found (λ (one : Number). LookDoes (seq place next) (gives (value_is one)) blocks)
-place_held place at next None blocks stays does = tt
-place_held place at next (Some one) blocks stays does = λ kept limit host. then_does _ (stays _) (does kept limit host)
+pub place_held : {A : Type 0} (place : Run A) (at : A) (next : A → Run Typed) (number : ℤ) (found : Option IntegerTy) (blocks : Blocks) → Stays place (gives at) →
+    IfSome found (λ (one : IntegerTy). LookDoes (next at) (gives (value_is number one)) blocks) → IfSome found (λ (one : IntegerTy). LookDoes (seq place next) (gives (value_is number one)) blocks)
+place_held place at next number None blocks stays does = tt
+place_held place at next number (Some one) blocks stays does = λ kept limit host. then_does _ (stays _) (does kept limit host)
 
 -- a literal
-pub literal_held : (piece : Run Typed) (found : Option Number) (blocks : Blocks) → IfSome found (λ (one : Number). piece ≡ pure (value_is one)) →
-    IfSome found (λ (one : Number). LookDoes piece (gives (value_is one)) blocks)
-literal_held piece None blocks is = tt
-literal_held piece (Some one) blocks is = subst (λ (run : Run Typed). LookDoes run (gives (value_is one)) blocks) (sym is)
-    (λ kept limit host. pure_does (value_is one) (state kept blocks limit host))
+pub literal_held : (piece : Run Typed) (number : ℤ) (found : Option IntegerTy) (blocks : Blocks) → IfSome found (λ (one : IntegerTy). piece ≡ pure (value_is number one)) →
+    IfSome found (λ (one : IntegerTy). LookDoes piece (gives (value_is number one)) blocks)
+literal_held piece number None blocks is = tt
+literal_held piece number (Some one) blocks is = subst (λ (run : Run Typed). LookDoes run (gives (value_is number one)) blocks) (sym is)
+    (λ kept limit host. pure_does (value_is number one) (state kept blocks limit host))
 
 -- what is held of a form is held of the expression
-pub number_formed : (frame : Frame) (which : RExpr) (form one : Form) (found : Option Number) (blocks : Blocks) →
+pub number_formed : (frame : Frame) (which : RExpr) (form one : Form) (number : ℤ) (found : Option IntegerTy) (blocks : Blocks) →
     ((around : Frame) → form_run around form ≡ run_expr around (expr_view which)) → form ≡ one →
-    IfSome found (λ (number : Number). LookDoes (form_run frame one) (gives (value_is number)) blocks) →
-    IfSome found (λ (number : Number). LookDoes (run_expr frame (expr_view which)) (gives (value_is number)) blocks)
-number_formed frame which form one None blocks is form_is does = tt
-number_formed frame which form one (Some number) blocks is form_is does = λ kept limit host. by_form frame which form one is form_is (does kept limit host)
+    IfSome found (λ (ty : IntegerTy). LookDoes (form_run frame one) (gives (value_is number ty)) blocks) →
+    IfSome found (λ (ty : IntegerTy). LookDoes (run_expr frame (expr_view which)) (gives (value_is number ty)) blocks)
+number_formed frame which form one number None blocks is form_is does = tt
+number_formed frame which form one number (Some ty) blocks is form_is does = λ kept limit host. by_form frame which form one is form_is (does kept limit host)
 
 -- what an operation gives of its operands, an expression with the form that has them gives
 pub operands_formed : {A : Type 0} (piece : A → Run Typed) (frame : Frame) (which : RExpr) (form one : Form) (found : Option A) (blocks : Blocks) →
@@ -65,19 +65,19 @@ operands_formed piece frame which form one None blocks is form_is does = tt
 operands_formed piece frame which form one (Some all) blocks is form_is does = λ given looks kept limit host. by_form frame which form one is form_is (does given looks kept limit host)
 
 -- two numbers, and what an operation gives of them
-pub operands_held : (modules : List ModuleTree) (left right : Run Typed) (operation : Pair) (first second : Number) (blocks : Blocks) →
-    LookDoes left (gives (value_is first)) blocks → LookDoes right (gives (value_is second)) blocks → (given : Typed) →
-    LookDoes (pair_run modules operation (value_is first) (value_is second)) (gives given) blocks →
+pub operands_held : (modules : List ModuleTree) (left right : Run Typed) (operation : Pair) (first second : Typed) (blocks : Blocks) →
+    LookDoes left (gives first) blocks → LookDoes right (gives second) blocks → (given : Typed) →
+    LookDoes (pair_run modules operation first second) (gives given) blocks →
     LookDoes (seq left (λ (a : Typed). seq right (λ (b : Typed). pair_run modules operation a b))) (gives given) blocks
 operands_held modules left right operation first second blocks a b given does =
     λ kept limit host. then_does _ (a kept limit host) (then_does _ (b kept limit host) (does kept limit host))
 
 -- the values of the numbers
-pub values_given : (modules : List ModuleTree) (operation : Pair) (first second : Number) (one other given : Typed) (blocks : Blocks) →
-    one ≡ value_is first → other ≡ value_is second → LookDoes (pair_run modules operation one other) (gives given) blocks →
-    LookDoes (pair_run modules operation (value_is first) (value_is second)) (gives given) blocks
+pub values_given : (modules : List ModuleTree) (operation : Pair) (first second one other given : Typed) (blocks : Blocks) →
+    one ≡ first → other ≡ second → LookDoes (pair_run modules operation one other) (gives given) blocks →
+    LookDoes (pair_run modules operation first second) (gives given) blocks
 values_given modules operation first second one other given blocks one_is other_is does =
-    subst (λ (value : Typed). LookDoes (pair_run modules operation (value_is first) value) (gives given) blocks) other_is
+    subst (λ (value : Typed). LookDoes (pair_run modules operation first value) (gives given) blocks) other_is
     (subst (λ (value : Typed). LookDoes (pair_run modules operation value other) (gives given) blocks) one_is does)
 
 -- what an operation gives, the expression gives

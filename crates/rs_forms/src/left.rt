@@ -16,7 +16,7 @@ ghost use Rattle.rs_tree.specs.Views.{expr_view, place_view, stmt_view};
 ghost use Rattle.rs_value.specs.Views.{spot_view, typed_view};
 
 use crate::forms::{Nested, StmtForm, stmt_form};
-use crate::quick::{quick_number, quick_spot, quick_test, value_of};
+use crate::quick::{Found, quick_number, quick_spot, quick_test, value_of};
 use cr_base::Items;
 use mem_bytes::Store;
 use rs_machine::{Halt, store_at};
@@ -122,10 +122,11 @@ fn assign_left<'t, S: Store>(
     let Some(spot) = quick_spot(scene, of) else {
         return Left::Everything;
     };
-    let Some(stored) = quick_number(store, scene, value) else {
+    let mut found = Found { number: 0 };
+    let Some(ty) = quick_number(store, scene, value, &mut found) else {
         return Left::Everything;
     };
-    store_left(store, spot, value_of(stored))
+    store_left(store, spot, value_of(ty, &found.number))
 }
 
 /// Does what can be done at once of a statement, and says what is left of it.

@@ -28,52 +28,62 @@ use rs_scene::{Scene, local_spot};
 use rs_tree::{IntegerTy, RExpr, RPlace};
 use rs_value::{TypedValue, ValueSpot, ValueTy};
 
-/// A number of an integer type.
-#[derive(Clone, Copy)]
-pub(crate) struct Number {
-    ty: IntegerTy,
-    number: Int,
-}
-
-// An operation and the numbers on which it is done.
+// An operation, and the types of the numbers on which it is done.
 #[derive(Clone, Copy)]
 struct Operands {
     operation: Pair,
-    left: Number,
-    right: Number,
+    left: IntegerTy,
+    right: IntegerTy,
 }
 
-/// The value of a number.
+/// The number that was found.
+#[derive(Clone, Copy)]
+pub(crate) struct Found {
+    pub(crate) number: Int,
+}
+
+// The numbers on which an operation is done. They stand apart from their types, and where they were found is told by what is given
+// beside them: a number with its type has bytes between the two, which would be copied at each step.
+#[derive(Clone, Copy)]
+struct Numbers {
+    left: Int,
+    right: Int,
+}
+
+/// The value of a number of a type.
 #[inline(always)]
-pub(crate) fn value_of<'t>(one: Number) -> TypedValue<'t>
-    ensures { typed_view result ≡ typed (tree.Integer one.ty) (Whole one.number) }
+pub(crate) fn value_of<'t>(ty: IntegerTy, number: &Int) -> TypedValue<'t>
+    ensures { typed_view result ≡ typed (tree.Integer ty) (Whole number.now) }
 {
     TypedValue {
-        ty: ValueTy::Integer(one.ty),
-        value: Value::Whole(one.number),
+        ty: ValueTy::Integer(ty),
+        value: Value::Whole(*number),
     }
 }
 
-// The number of a type that a value is, if it is one.
+// The number of a type that a value is, if it is one, and the type.
 #[inline(always)]
-fn whole_number(ty: IntegerTy, value: Value) -> Option<Number>
-    ensures { IfSome result (λ one. typed (tree.Integer ty) value ≡ typed (tree.Integer one.ty) (Whole one.number)) }
+fn whole_number(ty: IntegerTy, value: Value, number: &mut Int) -> Option<IntegerTy>
+    ensures { IfSome result (λ one. typed (tree.Integer ty) value ≡ typed (tree.Integer one) (Whole number.new)) }
 {
     match value {
-        Value::Whole(number) => Some(Number { ty, number }),
+        Value::Whole(whole) => {
+            *number = whole;
+            Some(ty)
+        }
         Value::Null => None,
         Value::Object(_) => None,
         Value::Code(_) => None,
     }
 }
 
-// The number that a value is, if it is one.
+// The number that a value is, if it is one, and its type.
 #[inline(always)]
-fn number_in(value: TypedValue<'_>) -> Option<Number>
-    ensures { IfSome result (λ one. typed_view value.entry ≡ typed (tree.Integer one.ty) (Whole one.number)) }
+fn number_in(value: TypedValue<'_>, number: &mut Int) -> Option<IntegerTy>
+    ensures { IfSome result (λ ty. typed_view value.entry ≡ typed (tree.Integer ty) (Whole number.new)) }
 {
     match value.ty {
-        ValueTy::Integer(ty) => whole_number(ty, value.value),
+        ValueTy::Integer(ty) => whole_number(ty, value.value, number),
         ValueTy::Boolean
         | ValueTy::Void
         | ValueTy::Pointer(_)
@@ -83,35 +93,45 @@ fn number_in(value: TypedValue<'_>) -> Option<Number>
     }
 }
 
-// The number that a place holds, if it holds one.
+// The number that a place holds, if it holds one, and its type.
 #[inline(always)]
-fn held_number<S: Store>(store: &S, spot: ValueSpot<'_>) -> Option<Number>
-    ensures { IfSome result (λ one. LookDoes (load (spot_view spot.entry)) (gives (typed (tree.Integer one.ty) (Whole one.number))) (S.memory store.now)) }
+fn held_number<S: Store>(store: &S, spot: ValueSpot<'_>, number: &mut Int) -> Option<IntegerTy>
+    ensures { IfSome result (λ ty. LookDoes (load (spot_view spot.entry)) (gives (typed (tree.Integer ty) (Whole number.new))) (S.memory store.now)) }
 {
     match load(store, spot) {
-        Ok(value) => number_in(value),
+        Ok(value) => number_in(value, number),
         Err(_) => None,
     }
 }
 
-// The number that a local of a name holds, if it holds one.
+// The number that a local of a name holds, if it holds one, and its type.
 #[inline(always)]
-fn held_under<'t, S: Store>(store: &S, scene: Scene<'t, '_>, name: &Name) -> Option<Number>
-    ensures { IfSome result (λ one. LookDoes (seq (run_place (frame_view scene.entry) (tree.Local name.now)) (used_as place_use.Value)) (gives (typed (tree.Integer one.ty) (Whole one.number))) (S.memory store.now)) }
+fn held_under<'t, S: Store>(
+    store: &S,
+    scene: Scene<'t, '_>,
+    name: &Name,
+    number: &mut Int,
+) -> Option<IntegerTy>
+    ensures { IfSome result (λ ty. LookDoes (seq (run_place (frame_view scene.entry) (tree.Local name.now)) (used_as place_use.Value)) (gives (typed (tree.Integer ty) (Whole number.new))) (S.memory store.now)) }
 {
     match local_spot(scene, name) {
-        Ok(spot) => held_number(store, spot),
+        Ok(spot) => held_number(store, spot, number),
         Err(_) => None,
     }
 }
 
-// The number that a local holds, if the place is one and holds one.
+// The number that a local holds, if the place is one and holds one, and its type.
 #[inline(always)]
-fn local_number<'t, S: Store>(store: &S, scene: Scene<'t, '_>, of: &'t RPlace) -> Option<Number>
-    ensures { IfSome result (λ one. LookDoes (seq (run_place (frame_view scene.entry) (place_view of.now)) (used_as place_use.Value)) (gives (typed (tree.Integer one.ty) (Whole one.number))) (S.memory store.now)) }
+fn local_number<'t, S: Store>(
+    store: &S,
+    scene: Scene<'t, '_>,
+    of: &'t RPlace,
+    number: &mut Int,
+) -> Option<IntegerTy>
+    ensures { IfSome result (λ ty. LookDoes (seq (run_place (frame_view scene.entry) (place_view of.now)) (used_as place_use.Value)) (gives (typed (tree.Integer ty) (Whole number.new))) (S.memory store.now)) }
 {
     match of {
-        RPlace::Local(name) => held_under(store, scene, name),
+        RPlace::Local(name) => held_under(store, scene, name, number),
         RPlace::Static(_) => None,
         RPlace::Deref(_) => None,
         RPlace::Field(_, _) => None,
@@ -125,22 +145,26 @@ fn placed_number<'t, S: Store>(
     scene: Scene<'t, '_>,
     what: PlaceUse,
     of: &'t RPlace,
-) -> Option<Number>
-    ensures { IfSome result (λ one. LookDoes (seq (run_place (frame_view scene.entry) (place_view of.now)) (used_as what)) (gives (typed (tree.Integer one.ty) (Whole one.number))) (S.memory store.now)) }
+    number: &mut Int,
+) -> Option<IntegerTy>
+    ensures { IfSome result (λ ty. LookDoes (seq (run_place (frame_view scene.entry) (place_view of.now)) (used_as what)) (gives (typed (tree.Integer ty) (Whole number.new))) (S.memory store.now)) }
 {
     match what {
-        PlaceUse::Value => local_number(store, scene, of),
+        PlaceUse::Value => local_number(store, scene, of, number),
         PlaceUse::Address => None,
     }
 }
 
-// The number that an expression without operands gives, if it is an integer literal.
+// The number that an expression without operands gives, if it is an integer literal, and its type.
 #[inline(always)]
-fn plain_number(form: Plain<'_>) -> Option<Number>
-    ensures { (frame : Frame) → IfSome result (λ one. plain_run frame form.entry ≡ pure (typed (tree.Integer one.ty) (Whole one.number))) }
+fn plain_number(form: Plain<'_>, number: &mut Int) -> Option<IntegerTy>
+    ensures { (frame : Frame) → IfSome result (λ ty. plain_run frame form.entry ≡ pure (typed (tree.Integer ty) (Whole number.new))) }
 {
     match form {
-        Plain::Literal(value, ty) => Some(Number { ty, number: *value }),
+        Plain::Literal(value, ty) => {
+            *number = *value;
+            Some(ty)
+        }
         Plain::Truth(_) => None,
         Plain::NoFunction => None,
         Plain::NullPointer(_) => None,
@@ -148,14 +172,19 @@ fn plain_number(form: Plain<'_>) -> Option<Number>
     }
 }
 
-// The number that a literal or a local gives, if the expression is one and gives one.
+// The number that a literal or a local gives, if the expression is one and gives one, and its type.
 #[inline(always)]
-fn number_of<'t, S: Store>(store: &S, scene: Scene<'t, '_>, of: &'t RExpr) -> Option<Number>
-    ensures { IfSome result (λ one. LookDoes (run_expr (frame_view scene.entry) (expr_view of.now)) (gives (typed (tree.Integer one.ty) (Whole one.number))) (S.memory store.now)) }
+fn number_of<'t, S: Store>(
+    store: &S,
+    scene: Scene<'t, '_>,
+    of: &'t RExpr,
+    number: &mut Int,
+) -> Option<IntegerTy>
+    ensures { IfSome result (λ ty. LookDoes (run_expr (frame_view scene.entry) (expr_view of.now)) (gives (typed (tree.Integer ty) (Whole number.new))) (S.memory store.now)) }
 {
     match form_of(of) {
-        Form::Alone(plain) => plain_number(plain),
-        Form::Place(what, of) => placed_number(store, scene, what, of),
+        Form::Alone(plain) => plain_number(plain, number),
+        Form::Place(what, of) => placed_number(store, scene, what, of, number),
         Form::Call(_) => None,
         Form::One(_, _) => None,
         Form::Two(_, _, _) => None,
@@ -181,10 +210,11 @@ fn operands_of<'t, S: Store>(
     operation: Pair,
     left: &'t RExpr,
     right: &'t RExpr,
+    numbers: &mut Numbers,
 ) -> Option<Operands>
     requires { IsScene scene }
     ensures { IfSome result (λ all. (given : Typed) →
-        LookDoes (operands_run (map module_view scene.entry.modules.now) all) (gives given) (S.memory store.now) →
+        LookDoes (operands_run (map module_view scene.entry.modules.now) all numbers.new) (gives given) (S.memory store.now) →
         LookDoes (seq (run_expr (frame_view scene.entry) (expr_view left.now)) (λ first. seq (run_expr (frame_view scene.entry) (expr_view right.now)) (λ second. pair_run (map module_view scene.entry.modules.now) operation first second))) (gives given) (S.memory store.now)) }
 {
     if !is_plain(left) {
@@ -193,10 +223,10 @@ fn operands_of<'t, S: Store>(
     if !is_plain(right) {
         return None;
     }
-    let Some(left) = number_of(store, scene, left) else {
+    let Some(left) = number_of(store, scene, left, &mut numbers.left) else {
         return None;
     };
-    let Some(right) = number_of(store, scene, right) else {
+    let Some(right) = number_of(store, scene, right, &mut numbers.right) else {
         return None;
     };
     Some(Operands {
@@ -208,14 +238,21 @@ fn operands_of<'t, S: Store>(
 
 // The operands of an expression, if it is an operator between literals or locals that give numbers.
 #[inline(never)]
-fn operands_in<'t, S: Store>(store: &S, scene: Scene<'t, '_>, tree: &'t RExpr) -> Option<Operands>
+fn operands_in<'t, S: Store>(
+    store: &S,
+    scene: Scene<'t, '_>,
+    tree: &'t RExpr,
+    numbers: &mut Numbers,
+) -> Option<Operands>
     requires { IsScene scene }
     ensures { IfSome result (λ all. (given : Typed) →
-        LookDoes (operands_run (map module_view scene.entry.modules.now) all) (gives given) (S.memory store.now) →
+        LookDoes (operands_run (map module_view scene.entry.modules.now) all numbers.new) (gives given) (S.memory store.now) →
         LookDoes (run_expr (frame_view scene.entry) (expr_view tree.now)) (gives given) (S.memory store.now)) }
 {
     match form_of(tree) {
-        Form::Two(operation, left, right) => operands_of(store, scene, operation, left, right),
+        Form::Two(operation, left, right) => {
+            operands_of(store, scene, operation, left, right, numbers)
+        }
         Form::Alone(_) => None,
         Form::Place(_, _) => None,
         Form::Call(_) => None,
@@ -224,50 +261,57 @@ fn operands_in<'t, S: Store>(store: &S, scene: Scene<'t, '_>, tree: &'t RExpr) -
     }
 }
 
-// The number that an operation gives of its operands, if it gives one.
+// The number that an operation gives of its operands, if it gives one, and its type.
 #[inline(always)]
-fn number_given<S: Store>(store: &S, all: Operands) -> Option<Number>
-    ensures { (modules : List ModuleTree) → IfSome result (λ one. LookDoes (operands_run modules all) (gives (typed (tree.Integer one.ty) (Whole one.number))) (S.memory store.now)) }
+fn number_given<S: Store>(
+    store: &S,
+    all: Operands,
+    numbers: &Numbers,
+    number: &mut Int,
+) -> Option<IntegerTy>
+    ensures { (modules : List ModuleTree) → IfSome result (λ ty. LookDoes (operands_run modules all numbers.now) (gives (typed (tree.Integer ty) (Whole number.new))) (S.memory store.now)) }
 {
     match number_value(
         store,
         all.operation,
-        value_of(all.left),
-        value_of(all.right),
+        value_of(all.left, &numbers.left),
+        value_of(all.right, &numbers.right),
     ) {
-        Ok(value) => number_in(value),
+        Ok(value) => number_in(value, number),
         Err(_) => None,
     }
 }
 
 // The truth value that an operation gives of its operands, if it gives one.
 #[inline(always)]
-fn truth_given<S: Store>(store: &S, all: Operands) -> Option<bool>
-    ensures { (modules : List ModuleTree) → IfSome result (λ test. LookDoes (operands_run modules all) (gives (truth test)) (S.memory store.now)) }
+fn truth_given<S: Store>(store: &S, all: Operands, numbers: &Numbers) -> Option<bool>
+    ensures { (modules : List ModuleTree) → IfSome result (λ test. LookDoes (operands_run modules all numbers.now) (gives (truth test)) (S.memory store.now)) }
 {
     match number_value(
         store,
         all.operation,
-        value_of(all.left),
-        value_of(all.right),
+        value_of(all.left, &numbers.left),
+        value_of(all.right, &numbers.right),
     ) {
         Ok(value) => truth_in(value),
         Err(_) => None,
     }
 }
 
-/// The number of an operator between two literals or locals, if the expression is one and gives a number.
+/// The number of an operator between two literals or locals, if the expression is one and gives a number, and its type.
 #[inline(never)]
 pub(crate) fn quick_number<'t, S: Store>(
     store: &S,
     scene: Scene<'t, '_>,
     tree: &'t RExpr,
-) -> Option<Number>
+    found: &mut Found,
+) -> Option<IntegerTy>
     requires { IsScene scene }
-    ensures { IfSome result (λ one. LookDoes (run_expr (frame_view scene.entry) (expr_view tree.now)) (gives (typed (Integer one.ty) (Whole one.number))) (S.memory store.now)) }
+    ensures { IfSome result (λ ty. LookDoes (run_expr (frame_view scene.entry) (expr_view tree.now)) (gives (typed (Integer ty) (Whole found.new.number))) (S.memory store.now)) }
 {
-    match operands_in(store, scene, tree) {
-        Some(all) => number_given(store, all),
+    let mut numbers = Numbers { left: 0, right: 0 };
+    match operands_in(store, scene, tree, &mut numbers) {
+        Some(all) => number_given(store, all, &numbers, &mut found.number),
         None => None,
     }
 }
@@ -282,8 +326,9 @@ pub fn quick_value<'t, S: Store>(
     requires { IsScene scene }
     ensures { IfSome result (λ value. LookDoes (run_expr (frame_view scene.entry) (expr_view tree.now)) (gives (typed_view value)) (S.memory store.now)) }
 {
-    match quick_number(store, scene, tree) {
-        Some(one) => Some(value_of(one)),
+    let mut found = Found { number: 0 };
+    match quick_number(store, scene, tree, &mut found) {
+        Some(ty) => Some(value_of(ty, &found.number)),
         None => None,
     }
 }
@@ -341,8 +386,9 @@ pub(crate) fn quick_test<'t, S: Store>(
     requires { IsScene scene }
     ensures { IfSome result (λ test. LookDoes (run_expr (frame_view scene.entry) (expr_view tree.now)) (gives (truth test)) (S.memory store.now)) }
 {
-    match operands_in(store, scene, tree) {
-        Some(all) => truth_given(store, all),
+    let mut numbers = Numbers { left: 0, right: 0 };
+    match operands_in(store, scene, tree, &mut numbers) {
+        Some(all) => truth_given(store, all, &numbers),
         None => None,
     }
 }

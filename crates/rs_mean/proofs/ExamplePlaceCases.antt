@@ -232,6 +232,11 @@ store_pointer_to_another_length : first_ill (record { modules = record { name = 
 unfolding known_table
 store_pointer_to_another_length = refl
 
+-- the length is of the type, so neither a longer array nor a shorter one is of it ("Array types")
+store_pointer_to_a_shorter_array : first_ill (record { modules = record { name = codes "a"; items = FunctionItem (record { attribute = Mangled; name = codes "main_0"; params = []; result = Some (Integer I32); locals = record { name = codes "p"; ty = Pointer (Array (Integer I32) 3) } ∷ record { name = codes "q"; ty = Pointer (Array (Integer I32) 2) } ∷ []; body = stmts (Assign (Local (codes "p")) (Read (Local (codes "q"))) ∷ Return (Some (Literal (pos 0) I32)) ∷ []) }) ∷ FunctionItem (record { attribute = Mangled; name = codes "run_static_initializers"; params = []; result = None; locals = []; body = stmts ([]) }) ∷ [] } ∷ []; entry = 0 }) ≡ Some (record { mod_number = 0; item_number = 0 })
+unfolding known_table
+store_pointer_to_a_shorter_array = refl
+
 store_pointer_to_an_array : first_ill (record { modules = record { name = codes "a"; items = FunctionItem (record { attribute = Mangled; name = codes "main_0"; params = []; result = Some (Integer I32); locals = record { name = codes "p"; ty = Pointer (Array (Integer I32) 2) } ∷ record { name = codes "q"; ty = Pointer (Array (Integer I32) 2) } ∷ []; body = stmts (Assign (Local (codes "p")) (Read (Local (codes "q"))) ∷ Return (Some (Literal (pos 0) I32)) ∷ []) }) ∷ FunctionItem (record { attribute = Mangled; name = codes "run_static_initializers"; params = []; result = None; locals = []; body = stmts ([]) }) ∷ [] } ∷ []; entry = 0 }) ≡ None
 unfolding known_table
 store_pointer_to_an_array = refl

@@ -1,6 +1,6 @@
 //! The run of a crate.
 
-ghost use Rattle.std.specs.Prelude.{◌≡◌, ◌≤◌, true, false, map, Some, IfOk, IfErr};
+ghost use Rattle.std.specs.Prelude.{◌≡◌, ◌≤◌, ◌<◌, true, false, length, map, Some, IfOk, IfErr};
 ghost use Rattle.rs_mean.specs.Typing.{first_ill, well_typed};
 ghost use Rattle.rs_tree.specs.Reads.{ReadsAs};
 ghost use Rattle.rs_tree.specs.Valid.{valid_crate};
@@ -46,35 +46,33 @@ pub fn run_whole<H: Host>(
 }
 
 // The name of the module with a number. Refused only for want of memory.
-fn name_of(alloc: Global, modules: &[Module], number: u32) -> Result<Name, Memory>
+fn name_of(modules: &[Module], number: u32) -> Result<Name, Memory>
+    requires { number < length modules.now }
     ensures { IfOk result (λ name. name ≡ name_at (map (λ unit. unit.name) (map module_view modules.now)) number) }
 {
-    match modules.get(number as usize) {
-        Some(module) => module.name.copy(),
-        None => Ok(Name::of(Vec::new(alloc))),
-    }
+    modules[number as usize].name.copy()
 }
 
 // Why a crate isn't well typed, with the name of the module.
-fn ill_typed(alloc: Global, whole: &Crate, unit: u32, item: u32) -> CrateFault
+fn ill_typed(whole: &Crate, unit: u32, item: u32) -> CrateFault
     requires { first_ill (crate_view whole.now) ≡ Some (place unit item) }
     ensures { IsIllTypedBy (crate_view whole.now) result }
 {
-    match name_of(alloc, whole.modules.as_slice(), unit) {
+    match name_of(whole.modules.as_slice(), unit) {
         Ok(module) => CrateFault::IllTyped { module, item },
         Err(Memory) => CrateFault::Memory,
     }
 }
 
 // Whether a valid crate is well typed.
-fn checked(alloc: Global, whole: &Crate) -> Result<(), CrateFault>
+fn checked(whole: &Crate) -> Result<(), CrateFault>
     requires { valid_crate (crate_view whole.now) ≡ true }
     ensures typed { IfOk result (λ _. well_typed (crate_view whole.now) ≡ true) }
     ensures ill { IfErr result (IsIllTypedBy (crate_view whole.now)) }
 {
     match check_crate(whole) {
         Ok(()) => Ok(()),
-        Err(TypeFault::IllTyped { module, item }) => Err(ill_typed(alloc, whole, module, item)),
+        Err(TypeFault::IllTyped { module, item }) => Err(ill_typed(whole, module, item)),
         Err(TypeFault::Memory) => Err(CrateFault::Memory),
     }
 }
@@ -112,6 +110,6 @@ pub fn run_files<H: Host>(
     ensures uncalled { IfErr result (λ why. UnlessMemory why (H.state host.new ≡ H.state host.old)) }
 {
     let whole = read(alloc, files)?;
-    checked(alloc, &whole)?;
+    checked(&whole)?;
     Ok(run_whole(alloc, &whole, units, host)?)
 }

@@ -37,7 +37,7 @@ const STAGES: [(&str, Stage); 6] = [
 
 /// All stages.
 #[derive(Clone, Copy)]
-pub(crate) struct Stages;
+pub struct Stages;
 
 impl Answers for Stages {
     fn answer(&self, alloc: Global, stage: &str, asked: &mut Asked<'_>, out: &mut Answer) {

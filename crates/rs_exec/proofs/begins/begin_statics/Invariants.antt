@@ -3,7 +3,7 @@ use Rattle.ext_calls.specs.Host.{HostState}
 use Rattle.rs_tree.specs.Views.{module_view}
 use Rattle.rs_machine.specs.States.{Kept, state}
 use Rattle.rs_exec.proofs.Started.{Statics}
-use Rattle.rs_exec.proofs.Turned.{Follows}
+use Rattle.rs_bodies.proofs.Turned.{Follows}
 use Rattle.rs_exec.proofs.begins.begin_statics.Given as goal
 
 -- what beginning the objects that are left does from here, beginning all does from the start

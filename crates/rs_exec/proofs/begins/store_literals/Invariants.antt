@@ -2,7 +2,7 @@ use Rattle.std.proofs.Common.{drop}
 use Rattle.ext_calls.specs.Host.{HostState}
 use Rattle.rs_mean.specs.Calls.{store_literals}
 use Rattle.rs_machine.specs.States.{Kept, state}
-use Rattle.rs_exec.proofs.Turned.{Follows}
+use Rattle.rs_bodies.proofs.Turned.{Follows}
 use Rattle.rs_exec.proofs.begins.store_literals.Given as goal
 
 -- what storing the literals that are left does from here, storing all does from the start

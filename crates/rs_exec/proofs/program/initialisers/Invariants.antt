@@ -3,7 +3,7 @@ use Rattle.rs_mean.specs.Laws.{bodies_of}
 use Rattle.rs_tree.specs.Views.{module_view}
 use Rattle.rs_machine.specs.States.{state}
 use Rattle.rs_exec.proofs.Started.{Initialisers}
-use Rattle.rs_exec.proofs.Turned.{Follows}
+use Rattle.rs_bodies.proofs.Turned.{Follows}
 use Rattle.rs_exec.proofs.program.initialisers.Given as goal
 
 -- what the initialisers that are left do from here, all do from the start

@@ -8,5 +8,5 @@ use Rattle.rs_forms.proofs.Quickly.{operands_give}
 use Rattle.rs_forms.proofs.quick.quick_test.Goals as goal
 
 pub returns-in-Some : goal.returns-in-Some
-returns-in-Some g c = operands_give truth (operands_run (map module_view c.args.scene.modules.now) c.in-Some.all) (run_expr (frame_view c.args.scene) (expr_view c.args.tree.now))
+returns-in-Some g c = operands_give truth (operands_run (map module_view c.args.scene.modules.now) c.in-Some.all c.operands_in.new.numbers) (run_expr (frame_view c.args.scene) (expr_view c.args.tree.now))
     c.truth_given.result (g.S.Store.memory c.args.store.now) c.in-Some.ensures (c.truth_given.ensures (map module_view c.args.scene.modules.now))
