@@ -1,6 +1,7 @@
 mod Behind
 mod Bridged
 mod Filled
+mod FirstReady
 mod Lasts
 mod Moving
 mod Opened

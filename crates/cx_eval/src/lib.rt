@@ -3,6 +3,7 @@
 
 mod choices;
 mod halt;
+mod leftmost;
 mod literals;
 mod nodes;
 mod operands;
