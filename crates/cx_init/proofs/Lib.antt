@@ -1,4 +1,5 @@
 pub mod Ascents
+pub mod Found
 pub mod Initials
 pub mod Ordering
 pub mod PartsLaws

@@ -1,6 +1,6 @@
 //! Constants that initialise objects before the program begins (ISO C99, 6.6p7 to p9, 6.7.8p4).
 
-ghost use Rattle.std.specs.Prelude.{◌≡◌, ◌&&◌, ◌||◌, map};
+ghost use Rattle.std.specs.Prelude.{◌≡◌, ◌&&◌, ◌||◌, true, map};
 ghost use Rattle.std.specs.List.{list_any};
 ghost use Rattle.cx_core.specs.Views.{view_expr, view_object};
 ghost use Rattle.cx_init.specs.Constants.{adds};
@@ -86,25 +86,60 @@ fn adds(op: Op2) -> bool
     matches!(op, Op2::Add | Op2::Subtract)
 }
 
-// Whether an object lives as long as the program (6.2.4p3).
+// Whether an object lives as long as the program (6.2.4p3). Objects get their numbers in turn, so one that lives so long stands where a
+// search by halves looks for its number, and only a number that no such object has there is sought among all.
 fn is_static_object(scope: &Scope, number: u32) -> bool
     ensures { result ≡ is_static_object (view_scope scope.now) number }
 {
+    if finds_made(scope.literals(), number) {
+        return true;
+    }
+    if finds_object(scope.objects(), number) {
+        return true;
+    }
     if any_made(scope.literals(), number) {
         return true;
     }
     any_object(scope.objects(), number)
 }
 
+// Whether a literal with a number stands where it would in the order of numbers, and lives as long as the program.
+fn finds_made(literals: &[Made], number: u32) -> bool
+    ensures { result ≡ true → list_any (made_static number) (map view_made literals.now) ≡ true }
+{
+    let index = literals.partition_point(|made| made.object < number);
+    match literals.get(index) {
+        None => false,
+        Some(made) => made_static(made, number),
+    }
+}
+
+// Whether an object with a number stands where it would in the order of numbers, and lives as long as the program.
+fn finds_object(objects: &[CoreObject], number: u32) -> bool
+    ensures { result ≡ true → list_any (object_static number) (map view_object objects.now) ≡ true }
+{
+    let index = objects.partition_point(|one| one.object < number);
+    match objects.get(index) {
+        None => false,
+        Some(one) => object_static(one, number),
+    }
+}
+
 fn any_made(literals: &[Made], number: u32) -> bool
     ensures { result ≡ list_any (made_static number) (map view_made literals.now) }
 {
     for made in literals {
-        if made.object == number && made.fixed.is_some() {
+        if made_static(made, number) {
             return true;
         }
     }
     false
+}
+
+fn made_static(made: &Made, number: u32) -> bool
+    ensures { result ≡ made_static number (view_made made.now) }
+{
+    made.object == number && made.fixed.is_some()
 }
 
 fn any_object(objects: &[CoreObject], number: u32) -> bool

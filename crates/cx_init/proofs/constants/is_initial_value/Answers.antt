@@ -1,7 +1,7 @@
-use Rattle.std.proofs.Common.{◌≡◌, refl, ap, sym, ◌∙◌, true, false, ◌&&◌}
+use Rattle.std.proofs.Common.{ap, sym, ◌∙◌, true, false}
 use Rattle.cx_core.specs.Views.{view_expr}
 use Rattle.cx_init.proofs.Initials.{at_place, of_nothing}
-use Rattle.cx_rules.specs.Initial.{is_initial, is_fixed}
+use Rattle.cx_rules.specs.Initial.{is_initial}
 use Rattle.cx_rules.specs.Operands.{value_by}
 use Rattle.cx_rules.specs.Pieces.{is_static_object}
 use Rattle.cx_scope.specs.Views.{view_scope}
