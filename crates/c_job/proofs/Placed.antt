@@ -4,7 +4,7 @@ use Rattle.c_job.specs.Ends.{MayEnd, is_wrong}
 use Rattle.c_job.specs.Meaning.{AreRun, progress_of}
 use Rattle.cr_base.specs.declared.rule.URule.{URule}
 use Rattle.cx_core.specs.Trees.{CUnit}
-use Rattle.cx_link.specs.Program.{linked}
+use Rattle.cx_links.specs.Program.{linked}
 use Rattle.cx_mean.specs.Run.{CProgress}
 use Rattle.cx_mean.specs.Run as c
 use Rattle.cr_world.specs.World.{trail_of}

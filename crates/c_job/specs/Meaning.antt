@@ -4,7 +4,7 @@ use Rattle.cr_base.specs.declared.refusal.Stop.{Stop}
 use Rattle.cr_base.specs.declared.refusal.Stop.TheVariants.{Refused, Memory}
 use Rattle.cx_core.specs.Trees.{CProgram, CUnit}
 use Rattle.cx_exec.specs.Exec.{Ran, progress_within, world_within}
-use Rattle.cx_link.specs.Program.{linked}
+use Rattle.cx_links.specs.Program.{linked}
 use Rattle.cx_mean.specs.Run.{CProgress}
 use Rattle.cx_mean.specs.Run as c
 use Rattle.cx_units.specs.Broken.{AreUnbroken}

@@ -13,7 +13,7 @@ use Rattle.std.proofs.lemmas.Bool.{and_parts}
 use Rattle.cx_core.specs.Trees.{CMention}
 use Rattle.cx_link.specs.Chains.{IsChain, indexed, later_or, latest, latest_of, earlier_from}
 use Rattle.cx_link.specs.declared.chain.Chain.{Chain}
-use Rattle.cx_link.specs.Rules.{is_kind_of}
+use Rattle.cx_links.specs.Rules.{is_kind_of}
 
 -- ---- an index
 

@@ -11,8 +11,8 @@ use Rattle.cr_base.specs.declared.rule.Rule.TheVariants.{L3, M2}
 use Rattle.cx_core.specs.Linked.{is_main, main_of}
 use Rattle.cx_core.specs.Trees.{CTypes, no_types_yet, CFun, CMention, CProgram, CUnit}
 use Rattle.cx_link.specs.Mains.{has_main}
-use Rattle.cx_link.specs.Rules.{broken_links, by_mentions, first_in, most_units, nowhere, or_later, refusal_of, rule_of}
-use Rattle.cx_link.specs.Program.{linked, all_mentions, types_of_all, counts_before, from_each, mentions_from, numbers_of, own_types, types_from, types_with}
+use Rattle.cx_links.specs.Rules.{broken_links, by_mentions, first_in, most_units, nowhere, or_later, refusal_of, rule_of}
+use Rattle.cx_links.specs.Program.{linked, all_mentions, types_of_all, counts_before, from_each, mentions_from, numbers_of, own_types, types_from, types_with}
 use Rattle.cx_renumber.specs.Numbers.{CCounts, CNumbers, counts_of, no_counts, together, function_there, mention_there}
 use Rattle.cx_link.proofs.Chains.{split_at}
 

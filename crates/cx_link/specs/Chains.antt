@@ -9,7 +9,7 @@ use Rattle.cx_link.specs.declared.chain.Kind.TheVariants.{Declaration, Definitio
 use Rattle.cx_link.specs.declared.rules.Chains.{Chains}
 use Rattle.cx_link.specs.declared.rules.Relation.{Relation}
 use Rattle.cx_link.specs.declared.rules.Relation.TheVariants.{DefinedBefore, Clashes, DefinedThere}
-use Rattle.cx_link.specs.Rules.{declares_external, defines_external, defines_static, is_kind_of, stands_earlier, stands_in_same_unit, clashes}
+use Rattle.cx_links.specs.Rules.{declares_external, defines_external, defines_static, is_kind_of, stands_earlier, stands_in_same_unit, clashes}
 
 abbrev pub kind_of : Kind → CMention → Bool
 kind_of Declaration = declares_external

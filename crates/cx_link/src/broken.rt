@@ -5,8 +5,8 @@ ghost use Rattle.std.specs.List.{list_any};
 ghost use Rattle.cx_core.specs.Linked.{is_main};
 ghost use Rattle.cx_core.specs.Views.{view_function, view_unit};
 ghost use Rattle.cx_link.specs.Mains.{has_main};
-ghost use Rattle.cx_link.specs.Program.{linked};
-ghost use Rattle.cx_link.specs.Rules.{broken_links, main_missing, nowhere};
+ghost use Rattle.cx_links.specs.Program.{linked};
+ghost use Rattle.cx_links.specs.Rules.{broken_links, main_missing, nowhere};
 
 use crate::chain::is_external;
 use crate::joined::{all_mentions, all_types};
@@ -60,7 +60,7 @@ fn has_main(units: &[CoreUnit]) -> bool
 /// The first rule that typed units break together, in text order (ISO C99, 5.1.2.2.1, 6.2.2p2, 6.2.7p2, 6.9p5): M2 for more than 64 of
 /// them, then L1 to L5 at their mentions, then L3 where none defines `main`; none where they are a program. Refused only for want of
 /// memory.
-#[tactic(auto, unfolding(crate::specs::Rules::broken_links))]
+#[tactic(auto, unfolding(cx_links::specs::Rules::broken_links))]
 pub fn broken_links(alloc: Global, units: &[CoreUnit]) -> Result<Option<Refusal>, Memory>
     ensures { IfOk result (λ found. found ≡ broken_links (map view_unit units.now)) }
 {

@@ -5,7 +5,7 @@ ghost use Rattle.std.specs.Option.{option_flatten};
 ghost use Rattle.cx_core.specs.Linked.{is_external};
 ghost use Rattle.cx_core.specs.Views.{view_does, view_mention};
 ghost use Rattle.cx_link.specs.Chains.{IsChain, indexed, kind_of};
-ghost use Rattle.cx_link.specs.Rules.{is_declaration, is_definition, is_kind_of};
+ghost use Rattle.cx_links.specs.Rules.{is_declaration, is_definition, is_kind_of};
 
 use cr_base::{Items, Memory};
 use cx_core::{Does, Linkage, Mention};

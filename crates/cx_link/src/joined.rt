@@ -2,7 +2,7 @@
 
 ghost use Rattle.std.specs.Prelude.{◌≡◌, ◌++◌, map, IfOk, OnOk, option_map};
 ghost use Rattle.cx_core.specs.Views.{view_mention, view_record, view_tag, view_types, view_unit};
-ghost use Rattle.cx_link.specs.Program.{all_mentions, own_types, types_of_all, types_with};
+ghost use Rattle.cx_links.specs.Program.{all_mentions, own_types, types_of_all, types_with};
 ghost use Rattle.cx_renumber.specs.Numbers.{mention_there, record_there};
 ghost use Rattle.cx_renumber.specs.Views.{view_counts};
 

@@ -5,10 +5,8 @@ mod broken;
 mod chain;
 mod counts;
 mod joined;
-mod laws;
 mod rules;
 
 pub use broken::{MOST_UNITS, broken_links};
 pub use counts::{counts_of, narrow, no_counts, together};
 pub use joined::all_types;
-pub use laws::linked_units_have_main;

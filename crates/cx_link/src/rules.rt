@@ -7,7 +7,7 @@ ghost use Rattle.cx_core.specs.Trees.{form_of_type};
 ghost use Rattle.cx_core.specs.Views.{view_does, view_mention, view_type, view_types};
 ghost use Rattle.cx_externals.specs.Functions.{is_external_type, is_main_form, is_opaque_trailing};
 ghost use Rattle.cx_link.specs.Chains.{IsChain, Links, kind_of, relates, wanted};
-ghost use Rattle.cx_link.specs.Rules.{clashing_declaration, compatible_in, first_in, is_defined, is_defined_there, is_kind_of, is_other_use, is_use, outside_profile, refusal_of, rule_of, second_definition, trailing_in, undefined_thing, wrong_main};
+ghost use Rattle.cx_links.specs.Rules.{clashing_declaration, compatible_in, first_in, is_defined, is_defined_there, is_kind_of, is_other_use, is_use, outside_profile, refusal_of, rule_of, second_definition, trailing_in, undefined_thing, wrong_main};
 ghost use Rattle.cx_rules.specs.Types.{is_function};
 
 use crate::chain::{Chain, Kind, chain_of, is_declaration, is_definition, is_external};
@@ -239,7 +239,7 @@ fn is_undefined(
 }
 
 // The least rule that a mention breaks.
-#[tactic(auto, unfolding(crate::specs::Rules::rule_of))]
+#[tactic(auto, unfolding(cx_links::specs::Rules::rule_of))]
 fn rule_of(
     alloc: Global,
     types: &Types,
@@ -269,7 +269,7 @@ fn rule_of(
 }
 
 /// The first mention that breaks a rule. Refused only for want of memory.
-#[tactic(auto, unfolding(crate::specs::Rules::first_in))]
+#[tactic(auto, unfolding(cx_links::specs::Rules::first_in))]
 pub(crate) fn first_broken(
     alloc: Global,
     types: &Types,

@@ -17,7 +17,7 @@ use Rattle.cx_core.specs.declared.program.Outer.{Outer}
 use Rattle.cx_core.specs.Trees.{CObject, CFun, COuter, CUnit}
 use Rattle.cx_core.specs.Views.{view_function, view_object, view_outer}
 use Rattle.cx_link.specs.Chains.{indexed}
-use Rattle.cx_link.specs.Program.{CFound, declared_object, defined_object, first_unit, function_of_name, has_name, is_object_named, outer_of_name}
+use Rattle.cx_links.specs.Program.{CFound, declared_object, defined_object, first_unit, function_of_name, has_name, is_object_named, outer_of_name}
 use Rattle.cx_link.proofs.Chains.{puts, split_at}
 use Rattle.cx_linked.specs.declared.index.Index.{Index}
 use Rattle.cx_linked.specs.declared.found.Found.{Found}

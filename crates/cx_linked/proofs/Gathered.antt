@@ -6,7 +6,7 @@ use Rattle.std.specs.List.{find, flat_map, position_or_len}
 use Rattle.std.specs.Option.{option_or}
 use Rattle.std.specs.Prelude.{is_some}
 use Rattle.cx_core.specs.Trees.{CTypes, CObject, CFun, COuter, CProgram, CUnit}
-use Rattle.cx_link.specs.Program.{CFound, counts_before, declared_object, defined_object, first_unit, found_or, from_each, is_object_named, linked, numbers_of, object_of_name, objects_from, or_other, outers_from, types_of_all}
+use Rattle.cx_links.specs.Program.{CFound, counts_before, declared_object, defined_object, first_unit, found_or, from_each, is_object_named, linked, numbers_of, object_of_name, objects_from, or_other, outers_from, types_of_all}
 use Rattle.cx_renumber.specs.Numbers.{CCounts, CNumbers, function_there}
 use Rattle.cx_link.proofs.Chains.{split_at}
 use Rattle.cx_linked.specs.Found.{all_found, found_at, found_in}

@@ -5,7 +5,7 @@ use Rattle.std.proofs.lemmas.Bool.{cases_eq, eq-eqb, ne_eqb}
 use Rattle.std.proofs.lemmas.Option.{slice_get-map}
 use Rattle.std.specs.List.{find}
 use Rattle.cx_core.specs.Trees.{CUnit}
-use Rattle.cx_link.specs.Program.{counts_before, numbers_of}
+use Rattle.cx_links.specs.Program.{counts_before, numbers_of}
 use Rattle.cx_renumber.specs.Numbers.{CCounts, CNumbers, above}
 use Rattle.cx_renumber.specs.Views.{number_in}
 use Rattle.cx_link.proofs.Chains.{split_at}

@@ -2,7 +2,7 @@
 use Rattle.std.specs.Prelude.{ℕ, List, map}
 use Rattle.cx_core.specs.Trees.{CUnit}
 use Rattle.cx_core.specs.Views.{view_unit}
-use Rattle.cx_link.specs.Program.{CFound, from_each}
+use Rattle.cx_links.specs.Program.{CFound, from_each}
 use Rattle.cx_linked.specs.declared.found.Found.{Found}
 
 abbrev pub found_at : {A : Type 0} → ℕ → CUnit → A → CFound A

@@ -5,7 +5,7 @@ use Rattle.cx_core.specs.Linked.{is_external}
 use Rattle.cx_core.specs.Trees.{CTypes, CObject, CFun, COuter, CProgram, CUnit}
 use Rattle.cx_core.specs.Views.{view_function, view_object, view_outer, view_unit}
 use Rattle.cx_link.specs.Chains.{indexed}
-use Rattle.cx_link.specs.Program.{CFound, counts_before, external_object, from_each, function_as, has_name, is_left, numbers_of, object_as}
+use Rattle.cx_links.specs.Program.{CFound, counts_before, external_object, from_each, function_as, has_name, is_left, numbers_of, object_as}
 use Rattle.cx_renumber.specs.Numbers.{CCounts, CNumbers, function_there, object_there, outer_there}
 use Rattle.cx_renumber.specs.Views.{view_counts}
 use Rattle.cx_linked.specs.declared.index.Index.{Index}

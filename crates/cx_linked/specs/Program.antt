@@ -3,7 +3,7 @@ use Rattle.std.specs.Prelude.{◌≡◌, ℕ, List, Some, ⊤}
 use Rattle.cr_base.specs.declared.refusal.Stop.{Stop}
 use Rattle.cr_base.specs.declared.refusal.Stop.TheVariants.{Refused, Memory}
 use Rattle.cx_core.specs.Trees.{CUnit}
-use Rattle.cx_link.specs.Rules.{broken_links}
+use Rattle.cx_links.specs.Rules.{broken_links}
 use Rattle.cx_sound.specs.Sound.{MeanUnits, BreakNothing}
 
 -- each unit is what some bytes mean that break no rule by themselves, under its number in the list

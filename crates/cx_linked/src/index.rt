@@ -5,7 +5,7 @@ ghost use Rattle.std.specs.Option.{option_or};
 ghost use Rattle.cx_core.specs.Linked.{is_external};
 ghost use Rattle.cx_core.specs.Views.{view_function, view_object, view_outer};
 ghost use Rattle.cx_link.specs.Chains.{indexed};
-ghost use Rattle.cx_link.specs.Program.{has_name};
+ghost use Rattle.cx_links.specs.Program.{has_name};
 ghost use Rattle.cx_linked.specs.Found.{view_found};
 ghost use Rattle.cx_linked.specs.Named.{IsIndex, declares_object, defines_object, is_external_function, is_external_outer, is_named, name_of_function, name_of_object, name_of_outer};
 

@@ -4,7 +4,7 @@ ghost use Rattle.std.specs.Prelude.{◌≡◌, ◌+◌, map, Some, IfOk, option_
 ghost use Rattle.std.specs.Option.{option_and_then, option_copied};
 ghost use Rattle.cx_core.specs.Views.{view_function, view_object, view_outer, view_unit};
 ghost use Rattle.cx_link.specs.Chains.{indexed};
-ghost use Rattle.cx_link.specs.Program.{counts_before, declared_object, first_unit, function_as, function_at, function_of_name, is_in, object_as, object_at, object_by, object_of_name, outer_by, outer_of_name};
+ghost use Rattle.cx_links.specs.Program.{counts_before, declared_object, first_unit, function_as, function_at, function_of_name, is_in, object_as, object_at, object_by, object_of_name, outer_by, outer_of_name};
 ghost use Rattle.cx_linked.specs.Found.{view_found};
 ghost use Rattle.cx_linked.specs.Named.{ArePlaces, IsNamed, IsNamedBy, all_before, units_of};
 ghost use Rattle.cx_renumber.specs.Views.{view_counts};

@@ -2,7 +2,7 @@
 
 ghost use Rattle.std.specs.Prelude.{◌≡◌, ℕ, ◌+◌, ◌<◌, ◌≤◌, map, Some, IfOk, OnOk, length, slice_set};
 ghost use Rattle.cx_core.specs.Views.{view_object, view_outer, view_unit};
-ghost use Rattle.cx_link.specs.Program.{counts_before, function_as, numbers_of, object_as};
+ghost use Rattle.cx_links.specs.Program.{counts_before, function_as, numbers_of, object_as};
 ghost use Rattle.cx_linked.specs.Named.{IsNamed, all_numbers, function_number_among, object_number_among, units_of};
 ghost use Rattle.cx_renumber.specs.Numbers.{above};
 ghost use Rattle.cx_renumber.specs.Views.{number_in, view_counts, view_numbers};

@@ -3,7 +3,7 @@
 ghost use Rattle.std.specs.Prelude.{◌≡◌, ◌++◌, [], ◌∷◌, ℕ, map, Some, IfOk, OnOk, slice_get};
 ghost use Rattle.std.specs.List.{flat_map};
 ghost use Rattle.cx_core.specs.Views.{view_function, view_object, view_outer, view_program, view_types, view_unit};
-ghost use Rattle.cx_link.specs.Program.{external_object, is_left, numbers_of, object_of_name, there};
+ghost use Rattle.cx_links.specs.Program.{external_object, is_left, numbers_of, object_of_name, there};
 ghost use Rattle.cx_linked.specs.Found.{view_found};
 ghost use Rattle.cx_linked.specs.Linking.{IsLinking, units_in};
 ghost use Rattle.cx_linked.specs.Named.{AreAt, IsAt, function_renumbered, object_renumbered, objects_for, outer_renumbered, outers_for, with_things};

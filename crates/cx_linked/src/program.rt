@@ -2,8 +2,8 @@
 
 ghost use Rattle.std.specs.Prelude.{◌≡◌, map, None, IfOk, IfErr};
 ghost use Rattle.cx_core.specs.Views.{view_program, view_unit};
-ghost use Rattle.cx_link.specs.Program.{linked};
-ghost use Rattle.cx_link.specs.Rules.{broken_links};
+ghost use Rattle.cx_links.specs.Program.{linked};
+ghost use Rattle.cx_links.specs.Rules.{broken_links};
 ghost use Rattle.cx_linked.specs.Linking.{IsLinking, units_in};
 ghost use Rattle.cx_linked.specs.Program.{AreChecked, AreUnbroken, StopsLinking};
 

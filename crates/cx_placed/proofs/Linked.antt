@@ -4,7 +4,7 @@ use Rattle.std.proofs.lemmas.List.Elements.{All-head, All-tail, All-weaker}
 use Rattle.std.specs.Prelude.{IfSome}
 use Rattle.cx_core.specs.Linked.{is_external}
 use Rattle.cx_core.specs.Trees.{CObject, CFun, CUnit}
-use Rattle.cx_link.specs.Program.{CFound, found_or, first_unit, or_other, declared_object, defined_object, is_object_named, object_of_name, numbers_of, from_each, is_in, there, external_object, objects_from, linked}
+use Rattle.cx_links.specs.Program.{CFound, found_or, first_unit, or_other, declared_object, defined_object, is_object_named, object_of_name, numbers_of, from_each, is_in, there, external_object, objects_from, linked}
 use Rattle.cx_placed.proofs.Lists.{Each, by_test, each_all, each_both, each_mapped}
 use Rattle.cx_placed.proofs.Renumbered.{object_renumbered, function_renumbered}
 use Rattle.cx_placed.specs.Places.{ObjectStandsIn, FunctionStandsIn, StandIn}

@@ -1,7 +1,7 @@
 -- What a unit means stands in that unit, and the program of a list of units stands in these (ISO C99, 5.1.1.1).
 use Rattle.std.specs.Prelude.{◌≡◌, ℕ, ◌<◌, List, length, Some, slice_get}
 use Rattle.cx_core.specs.Trees.{CUnit}
-use Rattle.cx_link.specs.Program.{linked}
+use Rattle.cx_links.specs.Program.{linked}
 use Rattle.cx_placed.specs.Places.{StandIn}
 use Rattle.cx_rules.specs.Units.{seen_unit}
 use Rattle.cx_tree.specs.Trees.{UnitTree}

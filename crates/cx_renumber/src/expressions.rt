@@ -1,14 +1,14 @@
 //! Expressions with the numbers of the program.
 
 ghost use Rattle.std.specs.Prelude.{◌≡◌, map, IfOk};
-ghost use Rattle.cx_core.specs.Trees.{expr, object, code, load, deref, member, address, convert, unary, binary, and, or, cond, assign, assign_by, step, call, call_by, comma, literal};
+ghost use Rattle.cx_core.specs.Trees.{expr, whole, object, code, load, deref, member, address, convert, unary, binary, and, or, cond, assign, assign_by, step, call, call_by, comma, literal};
 ghost use Rattle.cx_core.specs.Views.{exprs_of, view_expr, view_put, view_puts, view_type};
 ghost use Rattle.cx_renumber.specs.Numbers.{type_there, expr_there, exprs_there, put_there, puts_there};
 ghost use Rattle.cx_renumber.specs.Views.{retyped, view_numbers};
 
-use crate::numbers::Numbers;
+use crate::numbers::{Numbers, let_go};
 use crate::types::type_there;
-use cr_base::{Boxed, Items, Memory, Spot};
+use cr_base::{Boxed, Int, Items, Memory, Spot};
 use cx_core::{CoreExpr, Form, Op1, Op2, Put, Ty};
 use std::alloc::Global;
 
@@ -22,7 +22,7 @@ pub fn expr_there(
     ensures { IfOk result (λ made. view_expr made ≡ expr_there (view_numbers numbers.now) (view_expr one.now)) }
 {
     match &one.form {
-        Form::Whole(value) => made(alloc, numbers, one, Form::Whole(*value)),
+        Form::Whole(value) => whole_there(alloc, numbers, one, *value),
         Form::Null => made(alloc, numbers, one, Form::Null),
         Form::Object(number) => named(alloc, numbers, one, *number),
         Form::Code(number) => pointed(alloc, numbers, one, *number),
@@ -30,35 +30,35 @@ pub fn expr_there(
             alloc,
             numbers,
             one,
-            of.get(),
+            of,
             expr_there(alloc, numbers, of.get()),
         ),
         Form::Deref(of) => deref_there(
             alloc,
             numbers,
             one,
-            of.get(),
+            of,
             expr_there(alloc, numbers, of.get()),
         ),
         Form::Address(of) => address_there(
             alloc,
             numbers,
             one,
-            of.get(),
+            of,
             expr_there(alloc, numbers, of.get()),
         ),
         Form::Convert(of) => convert_there(
             alloc,
             numbers,
             one,
-            of.get(),
+            of,
             expr_there(alloc, numbers, of.get()),
         ),
         Form::Member(of, spot) => member_there(
             alloc,
             numbers,
             one,
-            of.get(),
+            of,
             expr_there(alloc, numbers, of.get()),
             *spot,
         ),
@@ -67,7 +67,7 @@ pub fn expr_there(
             numbers,
             one,
             *op,
-            of.get(),
+            of,
             expr_there(alloc, numbers, of.get()),
         ),
         Form::Binary(op, left, right) => binary_there(
@@ -75,56 +75,56 @@ pub fn expr_there(
             numbers,
             one,
             *op,
-            left.get(),
+            left,
             expr_there(alloc, numbers, left.get()),
-            right.get(),
+            right,
             expr_there(alloc, numbers, right.get()),
         ),
         Form::And(left, right) => and_there(
             alloc,
             numbers,
             one,
-            left.get(),
+            left,
             expr_there(alloc, numbers, left.get()),
-            right.get(),
+            right,
             expr_there(alloc, numbers, right.get()),
         ),
         Form::Or(left, right) => or_there(
             alloc,
             numbers,
             one,
-            left.get(),
+            left,
             expr_there(alloc, numbers, left.get()),
-            right.get(),
+            right,
             expr_there(alloc, numbers, right.get()),
         ),
         Form::Comma(left, right) => comma_there(
             alloc,
             numbers,
             one,
-            left.get(),
+            left,
             expr_there(alloc, numbers, left.get()),
-            right.get(),
+            right,
             expr_there(alloc, numbers, right.get()),
         ),
         Form::Cond(test, first, second) => cond_there(
             alloc,
             numbers,
             one,
-            test.get(),
+            test,
             expr_there(alloc, numbers, test.get()),
-            first.get(),
+            first,
             expr_there(alloc, numbers, first.get()),
-            second.get(),
+            second,
             expr_there(alloc, numbers, second.get()),
         ),
         Form::Assign(target, value) => assign_there(
             alloc,
             numbers,
             one,
-            target.get(),
+            target,
             expr_there(alloc, numbers, target.get()),
-            value.get(),
+            value,
             expr_there(alloc, numbers, value.get()),
         ),
         Form::AssignBy(op, computes, target, value) => assign_by_there(
@@ -132,10 +132,10 @@ pub fn expr_there(
             numbers,
             one,
             *op,
-            computes.get(),
-            target.get(),
+            computes,
+            target,
             expr_there(alloc, numbers, target.get()),
-            value.get(),
+            value,
             expr_there(alloc, numbers, value.get()),
         ),
         Form::Step { up, post, on } => step_there(
@@ -144,7 +144,7 @@ pub fn expr_there(
             one,
             *up,
             *post,
-            on.get(),
+            on,
             expr_there(alloc, numbers, on.get()),
         ),
         Form::Call(callee, args) => call_there(
@@ -152,16 +152,16 @@ pub fn expr_there(
             numbers,
             one,
             *callee,
-            args.as_slice(),
+            args,
             exprs_there(alloc, numbers, args.as_slice()),
         ),
         Form::CallBy(callee, args) => call_by_there(
             alloc,
             numbers,
             one,
-            callee.get(),
+            callee,
             expr_there(alloc, numbers, callee.get()),
-            args.as_slice(),
+            args,
             exprs_there(alloc, numbers, args.as_slice()),
         ),
         Form::Literal(number, puts) => literal_there(
@@ -169,7 +169,7 @@ pub fn expr_there(
             numbers,
             one,
             *number,
-            puts.as_slice(),
+            puts,
             puts_there(alloc, numbers, puts.as_slice()),
         ),
     }
@@ -185,15 +185,32 @@ fn made(
     ensures { IfOk result (λ made. view_expr made ≡ retyped (type_there (view_numbers numbers.now).before (view_type one.now.ty))
         (view_expr (record { ty = one.now.ty; place = one.now.place; form = form }))) }
 {
-    let there = type_there(alloc, numbers.before, &one.ty)?;
-    Boxed::new(
-        alloc,
-        CoreExpr {
-            ty: there.into_inner(),
-            place: one.place,
-            form,
-        },
-    )
+    match type_there(alloc, numbers.before, &one.ty) {
+        Ok(there) => Boxed::new(
+            alloc,
+            CoreExpr {
+                ty: there.into_inner(),
+                place: one.place,
+                form,
+            },
+        ),
+        Err(why) => {
+            let_go(form);
+            Err(why)
+        }
+    }
+}
+
+fn whole_there(
+    alloc: Global,
+    numbers: &Numbers,
+    one: &CoreExpr,
+    value: Int,
+) -> Result<Boxed<CoreExpr>, Memory>
+    ensures { IfOk result (λ made. view_expr made ≡ expr (type_there (view_numbers numbers.now).before (view_type one.now.ty)) one.now.place
+        (whole value)) }
+{
+    made(alloc, numbers, one, Form::Whole(value))
 }
 
 fn named(
@@ -226,7 +243,7 @@ fn load_there(
     alloc: Global,
     numbers: &Numbers,
     one: &CoreExpr,
-    _of: &CoreExpr,
+    _of: &Boxed<CoreExpr>,
     of: Result<Boxed<CoreExpr>, Memory>,
 ) -> Result<Boxed<CoreExpr>, Memory>
     requires of_there { IfOk of (λ there. view_expr there ≡ expr_there (view_numbers numbers.now) (view_expr _of.now)) }
@@ -241,7 +258,7 @@ fn deref_there(
     alloc: Global,
     numbers: &Numbers,
     one: &CoreExpr,
-    _of: &CoreExpr,
+    _of: &Boxed<CoreExpr>,
     of: Result<Boxed<CoreExpr>, Memory>,
 ) -> Result<Boxed<CoreExpr>, Memory>
     requires of_there { IfOk of (λ there. view_expr there ≡ expr_there (view_numbers numbers.now) (view_expr _of.now)) }
@@ -256,7 +273,7 @@ fn address_there(
     alloc: Global,
     numbers: &Numbers,
     one: &CoreExpr,
-    _of: &CoreExpr,
+    _of: &Boxed<CoreExpr>,
     of: Result<Boxed<CoreExpr>, Memory>,
 ) -> Result<Boxed<CoreExpr>, Memory>
     requires of_there { IfOk of (λ there. view_expr there ≡ expr_there (view_numbers numbers.now) (view_expr _of.now)) }
@@ -271,7 +288,7 @@ fn convert_there(
     alloc: Global,
     numbers: &Numbers,
     one: &CoreExpr,
-    _of: &CoreExpr,
+    _of: &Boxed<CoreExpr>,
     of: Result<Boxed<CoreExpr>, Memory>,
 ) -> Result<Boxed<CoreExpr>, Memory>
     requires of_there { IfOk of (λ there. view_expr there ≡ expr_there (view_numbers numbers.now) (view_expr _of.now)) }
@@ -286,7 +303,7 @@ fn member_there(
     alloc: Global,
     numbers: &Numbers,
     one: &CoreExpr,
-    _of: &CoreExpr,
+    _of: &Boxed<CoreExpr>,
     of: Result<Boxed<CoreExpr>, Memory>,
     spot: Spot,
 ) -> Result<Boxed<CoreExpr>, Memory>
@@ -303,7 +320,7 @@ fn unary_there(
     numbers: &Numbers,
     one: &CoreExpr,
     op: Op1,
-    _of: &CoreExpr,
+    _of: &Boxed<CoreExpr>,
     of: Result<Boxed<CoreExpr>, Memory>,
 ) -> Result<Boxed<CoreExpr>, Memory>
     requires of_there { IfOk of (λ there. view_expr there ≡ expr_there (view_numbers numbers.now) (view_expr _of.now)) }
@@ -320,7 +337,7 @@ fn step_there(
     one: &CoreExpr,
     up: bool,
     post: bool,
-    _on: &CoreExpr,
+    _on: &Boxed<CoreExpr>,
     on: Result<Boxed<CoreExpr>, Memory>,
 ) -> Result<Boxed<CoreExpr>, Memory>
     requires on_there { IfOk on (λ there. view_expr there ≡ expr_there (view_numbers numbers.now) (view_expr _on.now)) }
@@ -336,9 +353,9 @@ fn binary_there(
     numbers: &Numbers,
     one: &CoreExpr,
     op: Op2,
-    _left: &CoreExpr,
+    _left: &Boxed<CoreExpr>,
     left: Result<Boxed<CoreExpr>, Memory>,
-    _right: &CoreExpr,
+    _right: &Boxed<CoreExpr>,
     right: Result<Boxed<CoreExpr>, Memory>,
 ) -> Result<Boxed<CoreExpr>, Memory>
     requires left_there { IfOk left (λ there. view_expr there ≡ expr_there (view_numbers numbers.now) (view_expr _left.now)) }
@@ -355,9 +372,9 @@ fn and_there(
     alloc: Global,
     numbers: &Numbers,
     one: &CoreExpr,
-    _left: &CoreExpr,
+    _left: &Boxed<CoreExpr>,
     left: Result<Boxed<CoreExpr>, Memory>,
-    _right: &CoreExpr,
+    _right: &Boxed<CoreExpr>,
     right: Result<Boxed<CoreExpr>, Memory>,
 ) -> Result<Boxed<CoreExpr>, Memory>
     requires left_there { IfOk left (λ there. view_expr there ≡ expr_there (view_numbers numbers.now) (view_expr _left.now)) }
@@ -374,9 +391,9 @@ fn or_there(
     alloc: Global,
     numbers: &Numbers,
     one: &CoreExpr,
-    _left: &CoreExpr,
+    _left: &Boxed<CoreExpr>,
     left: Result<Boxed<CoreExpr>, Memory>,
-    _right: &CoreExpr,
+    _right: &Boxed<CoreExpr>,
     right: Result<Boxed<CoreExpr>, Memory>,
 ) -> Result<Boxed<CoreExpr>, Memory>
     requires left_there { IfOk left (λ there. view_expr there ≡ expr_there (view_numbers numbers.now) (view_expr _left.now)) }
@@ -393,9 +410,9 @@ fn comma_there(
     alloc: Global,
     numbers: &Numbers,
     one: &CoreExpr,
-    _left: &CoreExpr,
+    _left: &Boxed<CoreExpr>,
     left: Result<Boxed<CoreExpr>, Memory>,
-    _right: &CoreExpr,
+    _right: &Boxed<CoreExpr>,
     right: Result<Boxed<CoreExpr>, Memory>,
 ) -> Result<Boxed<CoreExpr>, Memory>
     requires left_there { IfOk left (λ there. view_expr there ≡ expr_there (view_numbers numbers.now) (view_expr _left.now)) }
@@ -412,9 +429,9 @@ fn assign_there(
     alloc: Global,
     numbers: &Numbers,
     one: &CoreExpr,
-    _target: &CoreExpr,
+    _target: &Boxed<CoreExpr>,
     target: Result<Boxed<CoreExpr>, Memory>,
-    _value: &CoreExpr,
+    _value: &Boxed<CoreExpr>,
     value: Result<Boxed<CoreExpr>, Memory>,
 ) -> Result<Boxed<CoreExpr>, Memory>
     requires target_there { IfOk target (λ there. view_expr there ≡ expr_there (view_numbers numbers.now) (view_expr _target.now)) }
@@ -431,11 +448,11 @@ fn cond_there(
     alloc: Global,
     numbers: &Numbers,
     one: &CoreExpr,
-    _test: &CoreExpr,
+    _test: &Boxed<CoreExpr>,
     test: Result<Boxed<CoreExpr>, Memory>,
-    _first: &CoreExpr,
+    _first: &Boxed<CoreExpr>,
     first: Result<Boxed<CoreExpr>, Memory>,
-    _second: &CoreExpr,
+    _second: &Boxed<CoreExpr>,
     second: Result<Boxed<CoreExpr>, Memory>,
 ) -> Result<Boxed<CoreExpr>, Memory>
     requires test_there { IfOk test (λ there. view_expr there ≡ expr_there (view_numbers numbers.now) (view_expr _test.now)) }
@@ -455,10 +472,10 @@ fn assign_by_there(
     numbers: &Numbers,
     one: &CoreExpr,
     op: Op2,
-    computes: &Ty,
-    _target: &CoreExpr,
+    computes: &Boxed<Ty>,
+    _target: &Boxed<CoreExpr>,
     target: Result<Boxed<CoreExpr>, Memory>,
-    _value: &CoreExpr,
+    _value: &Boxed<CoreExpr>,
     value: Result<Boxed<CoreExpr>, Memory>,
 ) -> Result<Boxed<CoreExpr>, Memory>
     requires target_there { IfOk target (λ there. view_expr there ≡ expr_there (view_numbers numbers.now) (view_expr _target.now)) }
@@ -468,7 +485,7 @@ fn assign_by_there(
 {
     let target = target?;
     let value = value?;
-    let computes = type_there(alloc, numbers.before, computes)?;
+    let computes = type_there(alloc, numbers.before, computes.get())?;
     made(
         alloc,
         numbers,
@@ -482,7 +499,7 @@ fn call_there(
     numbers: &Numbers,
     one: &CoreExpr,
     callee: u32,
-    _args: &[CoreExpr],
+    _args: &Items<CoreExpr>,
     args: Result<Items<CoreExpr>, Memory>,
 ) -> Result<Boxed<CoreExpr>, Memory>
     requires args_there { IfOk args (λ there. map view_expr there ≡ map (expr_there (view_numbers numbers.now)) (map view_expr _args.now)) }
@@ -498,9 +515,9 @@ fn call_by_there(
     alloc: Global,
     numbers: &Numbers,
     one: &CoreExpr,
-    _callee: &CoreExpr,
+    _callee: &Boxed<CoreExpr>,
     callee: Result<Boxed<CoreExpr>, Memory>,
-    _args: &[CoreExpr],
+    _args: &Items<CoreExpr>,
     args: Result<Items<CoreExpr>, Memory>,
 ) -> Result<Boxed<CoreExpr>, Memory>
     requires callee_there { IfOk callee (λ there. view_expr there ≡ expr_there (view_numbers numbers.now) (view_expr _callee.now)) }
@@ -518,7 +535,7 @@ fn literal_there(
     numbers: &Numbers,
     one: &CoreExpr,
     number: u32,
-    _puts: &[Put],
+    _puts: &Items<Put>,
     puts: Result<Items<Put>, Memory>,
 ) -> Result<Boxed<CoreExpr>, Memory>
     requires puts_there { IfOk puts (λ there. map view_put there ≡ map (put_there (view_numbers numbers.now)) (map view_put _puts.now)) }

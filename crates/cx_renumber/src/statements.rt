@@ -7,7 +7,7 @@ ghost use Rattle.cx_renumber.specs.Numbers.{expr_there, puts_there, stmt_there, 
 ghost use Rattle.cx_renumber.specs.Views.{holding, view_numbers};
 
 use crate::expressions::{expr_there, puts_there};
-use crate::numbers::Numbers;
+use crate::numbers::{Numbers, let_go};
 use cr_base::{Boxed, Int, Items, Memory, Name};
 use cx_core::{CoreExpr, CoreStmt, Put, StmtForm};
 use std::alloc::Global;
@@ -27,7 +27,7 @@ pub fn stmt_there(
             numbers,
             one,
             name,
-            inner.get(),
+            inner,
             stmt_there(alloc, numbers, inner.get()),
         ),
         StmtForm::Case(value, inner) => case_there(
@@ -35,21 +35,21 @@ pub fn stmt_there(
             numbers,
             one,
             *value,
-            inner.get(),
+            inner,
             stmt_there(alloc, numbers, inner.get()),
         ),
         StmtForm::Default(inner) => default_there(
             alloc,
             numbers,
             one,
-            inner.get(),
+            inner,
             stmt_there(alloc, numbers, inner.get()),
         ),
         StmtForm::Block(all) => block_there(
             alloc,
             numbers,
             one,
-            all.as_slice(),
+            all,
             stmts_there(alloc, numbers, all.as_slice()),
         ),
         StmtForm::Expr(value) => expression_there(alloc, numbers, one, value),
@@ -57,8 +57,8 @@ pub fn stmt_there(
             alloc,
             numbers,
             one,
-            test.get(),
-            first.get(),
+            test,
+            first,
             stmt_there(alloc, numbers, first.get()),
             second,
             else_there(alloc, numbers, second),
@@ -67,25 +67,25 @@ pub fn stmt_there(
             alloc,
             numbers,
             one,
-            on.get(),
-            body.get(),
+            on,
+            body,
             stmt_there(alloc, numbers, body.get()),
         ),
         StmtForm::While(test, body) => while_there(
             alloc,
             numbers,
             one,
-            test.get(),
-            body.get(),
+            test,
+            body,
             stmt_there(alloc, numbers, body.get()),
         ),
         StmtForm::Do(body, test) => do_there(
             alloc,
             numbers,
             one,
-            body.get(),
+            body,
             stmt_there(alloc, numbers, body.get()),
-            test.get(),
+            test,
         ),
         StmtForm::For {
             first,
@@ -96,11 +96,11 @@ pub fn stmt_there(
             alloc,
             numbers,
             one,
-            first.as_slice(),
+            first,
             stmts_there(alloc, numbers, first.as_slice()),
             test,
             next,
-            body.get(),
+            body,
             stmt_there(alloc, numbers, body.get()),
         ),
         StmtForm::Goto(name) => goto_there(alloc, numbers, one, name),
@@ -121,15 +121,20 @@ fn made(
     ensures { IfOk result (λ made. view_stmt made ≡ holding (map (view_numbers numbers.now).object_for one.now.objects)
         (view_stmt (record { place = one.now.place; objects = one.now.objects; form = form }))) }
 {
-    let objects = numbers.objects_for(alloc, one.objects.as_slice())?;
-    Boxed::new(
-        alloc,
-        CoreStmt {
-            place: one.place,
-            objects,
-            form,
-        },
-    )
+    match numbers.objects_for(alloc, one.objects.as_slice()) {
+        Ok(objects) => Boxed::new(
+            alloc,
+            CoreStmt {
+                place: one.place,
+                objects,
+                form,
+            },
+        ),
+        Err(why) => {
+            let_go(form);
+            Err(why)
+        }
+    }
 }
 
 fn option_there(
@@ -165,7 +170,7 @@ fn label_there(
     numbers: &Numbers,
     one: &CoreStmt,
     name: &Name,
-    _inner: &CoreStmt,
+    _inner: &Boxed<CoreStmt>,
     inner: Result<Boxed<CoreStmt>, Memory>,
 ) -> Result<Boxed<CoreStmt>, Memory>
     requires inner_there { IfOk inner (λ there. view_stmt there ≡ stmt_there (view_numbers numbers.now) (view_stmt _inner.now)) }
@@ -182,7 +187,7 @@ fn case_there(
     numbers: &Numbers,
     one: &CoreStmt,
     value: Int,
-    _inner: &CoreStmt,
+    _inner: &Boxed<CoreStmt>,
     inner: Result<Boxed<CoreStmt>, Memory>,
 ) -> Result<Boxed<CoreStmt>, Memory>
     requires inner_there { IfOk inner (λ there. view_stmt there ≡ stmt_there (view_numbers numbers.now) (view_stmt _inner.now)) }
@@ -197,7 +202,7 @@ fn default_there(
     alloc: Global,
     numbers: &Numbers,
     one: &CoreStmt,
-    _inner: &CoreStmt,
+    _inner: &Boxed<CoreStmt>,
     inner: Result<Boxed<CoreStmt>, Memory>,
 ) -> Result<Boxed<CoreStmt>, Memory>
     requires inner_there { IfOk inner (λ there. view_stmt there ≡ stmt_there (view_numbers numbers.now) (view_stmt _inner.now)) }
@@ -212,7 +217,7 @@ fn block_there(
     alloc: Global,
     numbers: &Numbers,
     one: &CoreStmt,
-    _all: &[CoreStmt],
+    _all: &Items<CoreStmt>,
     all: Result<Items<CoreStmt>, Memory>,
 ) -> Result<Boxed<CoreStmt>, Memory>
     requires all_there { IfOk all (λ there. map view_stmt there ≡ map (stmt_there (view_numbers numbers.now)) (map view_stmt _all.now)) }
@@ -240,8 +245,8 @@ fn if_there(
     alloc: Global,
     numbers: &Numbers,
     one: &CoreStmt,
-    test: &CoreExpr,
-    _first: &CoreStmt,
+    test: &Boxed<CoreExpr>,
+    _first: &Boxed<CoreStmt>,
     first: Result<Boxed<CoreStmt>, Memory>,
     _second: &Option<Boxed<CoreStmt>>,
     second: Result<Option<Boxed<CoreStmt>>, Memory>,
@@ -253,7 +258,7 @@ fn if_there(
 {
     let first = first?;
     let second = second?;
-    let test = expr_there(alloc, numbers, test)?;
+    let test = expr_there(alloc, numbers, test.get())?;
     made(alloc, numbers, one, StmtForm::If(test, first, second))
 }
 
@@ -261,8 +266,8 @@ fn switch_there(
     alloc: Global,
     numbers: &Numbers,
     one: &CoreStmt,
-    on: &CoreExpr,
-    _body: &CoreStmt,
+    on: &Boxed<CoreExpr>,
+    _body: &Boxed<CoreStmt>,
     body: Result<Boxed<CoreStmt>, Memory>,
 ) -> Result<Boxed<CoreStmt>, Memory>
     requires body_there { IfOk body (λ there. view_stmt there ≡ stmt_there (view_numbers numbers.now) (view_stmt _body.now)) }
@@ -270,7 +275,7 @@ fn switch_there(
         (switch (expr_there (view_numbers numbers.now) (view_expr on.now)) (stmt_there (view_numbers numbers.now) (view_stmt _body.now)))) }
 {
     let body = body?;
-    let on = expr_there(alloc, numbers, on)?;
+    let on = expr_there(alloc, numbers, on.get())?;
     made(alloc, numbers, one, StmtForm::Switch(on, body))
 }
 
@@ -278,8 +283,8 @@ fn while_there(
     alloc: Global,
     numbers: &Numbers,
     one: &CoreStmt,
-    test: &CoreExpr,
-    _body: &CoreStmt,
+    test: &Boxed<CoreExpr>,
+    _body: &Boxed<CoreStmt>,
     body: Result<Boxed<CoreStmt>, Memory>,
 ) -> Result<Boxed<CoreStmt>, Memory>
     requires body_there { IfOk body (λ there. view_stmt there ≡ stmt_there (view_numbers numbers.now) (view_stmt _body.now)) }
@@ -287,7 +292,7 @@ fn while_there(
         (while (expr_there (view_numbers numbers.now) (view_expr test.now)) (stmt_there (view_numbers numbers.now) (view_stmt _body.now)))) }
 {
     let body = body?;
-    let test = expr_there(alloc, numbers, test)?;
+    let test = expr_there(alloc, numbers, test.get())?;
     made(alloc, numbers, one, StmtForm::While(test, body))
 }
 
@@ -295,16 +300,16 @@ fn do_there(
     alloc: Global,
     numbers: &Numbers,
     one: &CoreStmt,
-    _body: &CoreStmt,
+    _body: &Boxed<CoreStmt>,
     body: Result<Boxed<CoreStmt>, Memory>,
-    test: &CoreExpr,
+    test: &Boxed<CoreExpr>,
 ) -> Result<Boxed<CoreStmt>, Memory>
     requires body_there { IfOk body (λ there. view_stmt there ≡ stmt_there (view_numbers numbers.now) (view_stmt _body.now)) }
     ensures { IfOk result (λ made. view_stmt made ≡ stmt one.now.place (map (view_numbers numbers.now).object_for one.now.objects)
         (do_while (stmt_there (view_numbers numbers.now) (view_stmt _body.now)) (expr_there (view_numbers numbers.now) (view_expr test.now)))) }
 {
     let body = body?;
-    let test = expr_there(alloc, numbers, test)?;
+    let test = expr_there(alloc, numbers, test.get())?;
     made(alloc, numbers, one, StmtForm::Do(body, test))
 }
 
@@ -312,11 +317,11 @@ fn for_there(
     alloc: Global,
     numbers: &Numbers,
     one: &CoreStmt,
-    _first: &[CoreStmt],
+    _first: &Items<CoreStmt>,
     first: Result<Items<CoreStmt>, Memory>,
     test: &Option<Boxed<CoreExpr>>,
     next: &Option<Boxed<CoreExpr>>,
-    _body: &CoreStmt,
+    _body: &Boxed<CoreStmt>,
     body: Result<Boxed<CoreStmt>, Memory>,
 ) -> Result<Boxed<CoreStmt>, Memory>
     requires first_there { IfOk first (λ there. map view_stmt there ≡ map (stmt_there (view_numbers numbers.now)) (map view_stmt _first.now)) }

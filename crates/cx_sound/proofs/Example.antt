@@ -15,8 +15,8 @@ use Rattle.cx_lex.specs.declared.token.Token.{Token}
 use Rattle.cx_lex.specs.declared.token.TokenKind.{TokenKind}
 use Rattle.cx_lex.specs.declared.token.TokenKind.TheVariants as kind
 use Rattle.cx_lex.specs.declared.token.Ty0.TheVariants as ty
-use Rattle.cx_link.specs.Program.{linked}
-use Rattle.cx_link.specs.Rules.{broken_links, first_in, rule_of}
+use Rattle.cx_links.specs.Program.{linked}
+use Rattle.cx_links.specs.Rules.{broken_links, first_in, rule_of}
 use Rattle.cx_rules.specs.Declare.{linkage_of, clashes, with_declaration, with_content, with_head, unit_of}
 use Rattle.cx_rules.specs.Initial.{landing, puts_of}
 use Rattle.cx_rules.specs.Operands.{constant_of, is_null_constant}

@@ -2,7 +2,7 @@
 use Rattle.std.proofs.Common.{◌≡◌, subst, ℕ, zero, suc, ◌+◌, List, [], ◌∷◌, Some, All, slice_get, arith}
 use Rattle.cx_core.specs.Linked.{IsTypedUnit, IsLinked}
 use Rattle.cx_core.specs.Trees.{CUnit}
-use Rattle.cx_link.specs.Program.{linked}
+use Rattle.cx_links.specs.Program.{linked}
 use Rattle.cx_typed.proofs.Lexed.{spelled_constants}
 use Rattle.cx_typed_files.proofs.Covered.{covered_mentions}
 use Rattle.cx_typed_files.proofs.Defining.{defining_mentions}

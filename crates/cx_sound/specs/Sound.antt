@@ -5,8 +5,8 @@ use Rattle.cx_core.specs.Linked.{IsLinked}
 use Rattle.cx_core.specs.Trees.{CUnit}
 use Rattle.cx_lex.specs.declared.token.Token.{Token}
 use Rattle.cx_lex.specs.Tokens.{Spells}
-use Rattle.cx_link.specs.Program.{linked}
-use Rattle.cx_link.specs.Rules.{broken_links}
+use Rattle.cx_links.specs.Program.{linked}
+use Rattle.cx_links.specs.Rules.{broken_links}
 use Rattle.cx_mean.specs.Run.{CProgress, going, ended, undefined, is_stuck, is_full, asks_for, is_astray, c_run, c_run_on}
 use Rattle.cx_rules.specs.Units.{broken_unit, seen_unit}
 use Rattle.cx_tree.specs.Derives.{Derives}

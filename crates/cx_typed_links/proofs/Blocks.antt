@@ -8,7 +8,7 @@ use Rattle.cx_core.specs.Linked.{program_of, is_external, block_objects, IsTyped
 use Rattle.cx_core.specs.Statements.{objects_in, objects_in_form, objects_in_else, objects_in_list, CBody, with_objects, within_loop, within_switch, IsBlockObject, AreBlockObjects, IsParamObject, AreParams, AreParamsOf, IsDefinitionOf, IsTypedStmt, IsTypedStmtForm, IsTypedElse, AreTypedStmts}
 use Rattle.cx_core.specs.Trees.{CTyForm, function, CParams, unlisted, listed, CTys, no_types, more_types, form_of_type, type_of, CStmt, stmt, CStmtForm, label, case, default, block, expression, if_then, switch, while, do_while, for_loop, goto, continue, break, returns, begin, COtherwise, no_else, else_do, CStmts, no_stmts, more_stmts, CObject, CFun, CProgram, CUnit}
 use Rattle.cx_core.specs.Typing.{CHome, object_with}
-use Rattle.cx_link.specs.Program.{counts_before, object_at, object_number, numbers_of, from_each, linked}
+use Rattle.cx_links.specs.Program.{counts_before, object_at, object_number, numbers_of, from_each, linked}
 use Rattle.cx_renumber.specs.Numbers.{CNumbers, stmt_there, action_there, else_there, stmts_there, function_there}
 use Rattle.cx_typed_links.proofs.Distinct.{all_made, units_differ}
 use Rattle.cx_typed_links.proofs.FunctionNumbers.{moved_differ}

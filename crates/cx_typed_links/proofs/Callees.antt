@@ -7,7 +7,7 @@ use Rattle.std.proofs.lemmas.Slice.Eq.{bytes_eq-Decides}
 use Rattle.cx_core.specs.Linked.{is_external}
 use Rattle.cx_core.specs.Trees.{CFun, COuter, CUnit}
 use Rattle.cx_core.specs.Typing.{CCallee, function_with, outer_with, callee_with}
-use Rattle.cx_link.specs.Program.{CFound, declared_function, function_of_name, outer_of_name, counts_before, function_at, function_number, numbers_of, is_in, is_left, outers_from, linked}
+use Rattle.cx_links.specs.Program.{CFound, declared_function, function_of_name, outer_of_name, counts_before, function_at, function_number, numbers_of, is_in, is_left, outers_from, linked}
 use Rattle.cx_renumber.specs.Numbers.{above, type_there, outer_there}
 use Rattle.cx_typed_links.proofs.Compatible.{together_true}
 use Rattle.cx_typed_links.proofs.ExternalObjects.{some_of, found_too, some_first}

@@ -11,8 +11,8 @@ use Rattle.cx_core.specs.Compatible.{agree, forms_agree}
 use Rattle.cx_core.specs.Linked.{is_external}
 use Rattle.cx_core.specs.Trees.{CTy, ty, CTyForm, void, basic, enum_type, pointer, array, record_type, function, form_of_type, CTypes, CDoes, declares, defines, calls, uses, CMention, CUnit}
 use Rattle.cx_core.specs.ValidTypes.{IsObjectForm}
-use Rattle.cx_link.specs.Program.{counts_before, types_of_all, all_mentions}
-use Rattle.cx_link.specs.Rules.{counts_in, is_good, compatible_in, is_declaration, is_definition, declares_external, defines_external, is_kind_of, stands_earlier, clashes, broken_links}
+use Rattle.cx_links.specs.Program.{counts_before, types_of_all, all_mentions}
+use Rattle.cx_links.specs.Rules.{counts_in, is_good, compatible_in, is_declaration, is_definition, declares_external, defines_external, is_kind_of, stands_earlier, clashes, broken_links}
 use Rattle.cx_renumber.specs.Numbers.{CCounts, type_there, does_there, mention_there}
 use Rattle.cx_typed_links.proofs.Compatible.{together_true}
 use Rattle.cx_typed_links.proofs.Mentions.{mention_of, mention_passes}

@@ -4,7 +4,7 @@ use Rattle.std.specs.List.{IsDistinct}
 use Rattle.std.proofs.lemmas.Bool.Decides.{nat_tests}
 use Rattle.std.proofs.lemmas.List.Elements.{All-nil, All-cons, All-head, All-tail, All-append}
 use Rattle.cx_core.specs.Trees.{CUnit}
-use Rattle.cx_link.specs.Program.{from_each}
+use Rattle.cx_links.specs.Program.{from_each}
 use Rattle.cx_typed_links.proofs.Joined.{none_on}
 use Rattle.cx_typed_links.proofs.Listed.{map_joined}
 use Rattle.cx_typed_links.proofs.Places.{AreOther, same_number}

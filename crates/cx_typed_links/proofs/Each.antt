@@ -2,7 +2,7 @@
 use Rattle.std.proofs.Common.{◌≡◌, ℕ, suc, ◌+◌, List, [], ◌∷◌, All, Some, slice_get, refl, sym, arith, subst}
 use Rattle.std.proofs.lemmas.List.Elements.{All-nil, All-append}
 use Rattle.cx_core.specs.Trees.{CUnit}
-use Rattle.cx_link.specs.Program.{from_each}
+use Rattle.cx_links.specs.Program.{from_each}
 use Rattle.cx_typed_links.proofs.Joined.{none_on}
 
 nothing_on : (n : ℕ) → n + 0 ≡ n

@@ -5,7 +5,7 @@ use Rattle.std.specs.List.{find, list_any}
 use Rattle.cx_core.specs.Linked.{is_external}
 use Rattle.cx_core.specs.Trees.{CObject, CUnit}
 use Rattle.cx_core.specs.Typing.{object_with}
-use Rattle.cx_link.specs.Program.{CFound, found_or, first_unit, or_other, has_name, is_object_named, declared_object, defined_object, object_of_name, object_at, object_by, object_number, numbers_of, is_in, there, external_object, objects_from, linked}
+use Rattle.cx_links.specs.Program.{CFound, found_or, first_unit, or_other, has_name, is_object_named, declared_object, defined_object, object_of_name, object_at, object_by, object_number, numbers_of, is_in, there, external_object, objects_from, linked}
 use Rattle.cx_renumber.specs.Numbers.{object_there}
 use Rattle.cx_typed_links.proofs.Compatible.{both, together_true}
 use Rattle.cx_typed_links.proofs.Objects.{named_in, external_number, external_place, name_by, named_thing, object_at_number, linked_objects}

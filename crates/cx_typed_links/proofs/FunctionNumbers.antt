@@ -4,7 +4,7 @@ use Rattle.std.specs.Prelude.{◌<◌}
 use Rattle.std.specs.List.{IsDistinct}
 use Rattle.std.proofs.lemmas.List.Elements.{All-nil, All-cons, All-head, All-tail, All-append}
 use Rattle.cx_core.specs.Trees.{CFun, COuter, CUnit}
-use Rattle.cx_link.specs.Program.{counts_before, function_at, function_number, numbers_of, is_left, outers_from, linked}
+use Rattle.cx_links.specs.Program.{counts_before, function_at, function_number, numbers_of, is_left, outers_from, linked}
 use Rattle.cx_renumber.specs.Numbers.{above, function_there, outer_there}
 use Rattle.cx_typed_links.proofs.Callees.{not_defined_by}
 use Rattle.cx_typed_links.proofs.Distinct.{not_same_back, distinct_joined, other_all, all_made, units_differ}

@@ -8,7 +8,7 @@ use Rattle.std.proofs.lemmas.List.Elements.{All-nil, All-cons, All-head, All-tai
 use Rattle.cx_core.specs.Linked.{is_external}
 use Rattle.cx_core.specs.Trees.{CFun, COuter, CUnit}
 use Rattle.cx_core.specs.Typing.{function_with, outer_with}
-use Rattle.cx_link.specs.Program.{CFound, defined_function, function_of_name, counts_before, function_at, function_by, function_number, numbers_of, linked}
+use Rattle.cx_links.specs.Program.{CFound, defined_function, function_of_name, counts_before, function_at, function_by, function_number, numbers_of, linked}
 use Rattle.cx_renumber.specs.Numbers.{counts_of, above, function_there}
 use Rattle.cx_typed_links.proofs.Each.{all_given}
 use Rattle.cx_typed_links.proofs.Joined.{rows_before, none_on}

@@ -10,8 +10,8 @@ use Rattle.cx_core.specs.Trees.{form_of_type, CExpr, expr, CExprs, no_exprs, mor
 use Rattle.cx_core.specs.Typing.{CHome, IsTyped, AreTyped}
 use Rattle.cx_core.specs.ValidTypes.{IsTypeIn}
 use Rattle.cx_externals.specs.Functions.{is_external_type}
-use Rattle.cx_link.specs.Program.{counts_before, types_of_all, numbers_of, linked}
-use Rattle.cx_link.specs.Rules.{broken_links}
+use Rattle.cx_links.specs.Program.{counts_before, types_of_all, numbers_of, linked}
+use Rattle.cx_links.specs.Rules.{broken_links}
 use Rattle.cx_renumber.specs.Numbers.{type_there}
 use Rattle.cx_rules.specs.Types.{is_function_form}
 use Rattle.cx_typed_links.proofs.Calls.{HaveTypesIn}

@@ -11,8 +11,8 @@ use Rattle.cx_core.specs.Linked.{is_external, is_main, main_of, HasNoParams, IsM
 use Rattle.cx_core.specs.Trees.{CTyForm, void, basic, enum_type, pointer, array, record_type, function, CParams, unlisted, listed, no_types, more_types, form_of_type, CFun, defines, CUnit}
 use Rattle.cx_core.specs.Typing.{IsMentionedIn}
 use Rattle.cx_externals.specs.Functions.{takes_nothing, is_main_form}
-use Rattle.cx_link.specs.Program.{counts_before, linked}
-use Rattle.cx_link.specs.Rules.{is_declaration, broken_links}
+use Rattle.cx_links.specs.Program.{counts_before, linked}
+use Rattle.cx_links.specs.Rules.{is_declaration, broken_links}
 use Rattle.cx_renumber.specs.Numbers.{type_there, does_there}
 use Rattle.cx_rules.specs.Types.{same_form}
 use Rattle.cx_typed_links.proofs.Compatible.{both, together_true}

@@ -8,8 +8,8 @@ use Rattle.cx_core.specs.Linked.{program_of, is_external}
 use Rattle.cx_core.specs.Trees.{CTy, ty, CTyForm, pointer, function, form_of_type, CExprs, CTypes, CFun, COuter, calls, uses, CDoes, CUnit}
 use Rattle.cx_core.specs.Typing.{CHome, CCallee, function_with, outer_with, callee_with, IsMentionedIn, IsCodeOf, IsPointerToCode, IsCallOf, IsCalleeOf, IsCallee, IsExternalCall, trailing_of}
 use Rattle.cx_externals.specs.Functions.{is_external_type, is_opaque_trailing}
-use Rattle.cx_link.specs.Program.{CFound, function_of_name, counts_before, types_of_all, numbers_of, function_number, linked}
-use Rattle.cx_link.specs.Rules.{is_use, trailing_in, broken_links}
+use Rattle.cx_links.specs.Program.{CFound, function_of_name, counts_before, types_of_all, numbers_of, function_number, linked}
+use Rattle.cx_links.specs.Rules.{is_use, trailing_in, broken_links}
 use Rattle.cx_renumber.specs.Numbers.{CNumbers, type_there, does_there, exprs_there, outer_there}
 use Rattle.cx_rules.specs.Types.{is_function_form}
 use Rattle.cx_typed_files.specs.Covered.{IsMentionCovered}

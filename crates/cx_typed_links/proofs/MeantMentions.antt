@@ -9,9 +9,9 @@ use Rattle.cx_core.proofs.Relation.{compatible_symmetric}
 use Rattle.cx_core.specs.Compatible.{AreCompatible}
 use Rattle.cx_core.specs.Linked.{is_external}
 use Rattle.cx_core.specs.Trees.{CTy, CDoes, declares, defines, calls, uses, CMention, CUnit}
-use Rattle.cx_link.proofs.Compatible.{has_good_set}
-use Rattle.cx_link.specs.Program.{counts_before, from_each, types_of_all, all_mentions}
-use Rattle.cx_link.specs.Rules.{compatible_in, is_definition, is_declaration, declares_external, defines_external, defines_static, is_kind_of, stands_earlier, clashes, is_defined, is_defined_there, broken_links}
+use Rattle.cx_links.proofs.Compatible.{has_good_set}
+use Rattle.cx_links.specs.Program.{counts_before, from_each, types_of_all, all_mentions}
+use Rattle.cx_links.specs.Rules.{compatible_in, is_definition, is_declaration, declares_external, defines_external, defines_static, is_kind_of, stands_earlier, clashes, is_defined, is_defined_there, broken_links}
 use Rattle.cx_renumber.specs.Numbers.{type_there, does_there, mention_there}
 use Rattle.cx_typed_links.proofs.Compatible.{both, together_true}
 use Rattle.cx_typed_links.proofs.Joined.{none_on}

@@ -9,8 +9,8 @@ use Rattle.cx_core.specs.Compatible.{AreCompatible}
 use Rattle.cx_core.specs.Linked.{program_of, is_external, has_linkage, IsTypedObject}
 use Rattle.cx_core.specs.Trees.{CTy, CPuts, CTypes, CObject, uses, CUnit}
 use Rattle.cx_core.specs.Typing.{CHome, object_with, IsMentioned, IsMentionedIn, IsObjectOf, IsNamed}
-use Rattle.cx_link.specs.Program.{CFound, first_unit, or_other, is_object_named, declared_object, defined_object, object_of_name, counts_before, types_of_all, numbers_of, object_number, linked}
-use Rattle.cx_link.specs.Rules.{is_use, broken_links}
+use Rattle.cx_links.specs.Program.{CFound, first_unit, or_other, is_object_named, declared_object, defined_object, object_of_name, counts_before, types_of_all, numbers_of, object_number, linked}
+use Rattle.cx_links.specs.Rules.{is_use, broken_links}
 use Rattle.cx_renumber.specs.Numbers.{CNumbers, type_there, does_there, puts_there, object_there}
 use Rattle.cx_typed_files.specs.Covered.{IsMentionCovered}
 use Rattle.cx_typed_links.proofs.Compatible.{both, compatible_there}

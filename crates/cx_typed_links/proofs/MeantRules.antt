@@ -6,8 +6,8 @@ use Rattle.std.proofs.lemmas.List.Elements.{All-contains}
 use Rattle.cx_core.specs.Linked.{is_external, has_linkage}
 use Rattle.cx_core.specs.Trees.{form_of_type, CPuts, CTypes, CObject, COuter, defines, uses, CMention, CUnit}
 use Rattle.cx_externals.specs.Functions.{is_external_type, is_opaque_trailing}
-use Rattle.cx_link.specs.Program.{counts_before, types_of_all, all_mentions, function_of_name, linked}
-use Rattle.cx_link.specs.Rules.{is_use, is_other_use, trailing_in, is_defined, is_defined_there, broken_links}
+use Rattle.cx_links.specs.Program.{counts_before, types_of_all, all_mentions, function_of_name, linked}
+use Rattle.cx_links.specs.Rules.{is_use, is_other_use, trailing_in, is_defined, is_defined_there, broken_links}
 use Rattle.cx_renumber.specs.Numbers.{type_there, does_there, mention_there}
 use Rattle.cx_rules.specs.Types.{is_function, is_function_form}
 use Rattle.cx_typed_links.proofs.Mentions.{mention_passes}

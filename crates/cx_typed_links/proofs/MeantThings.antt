@@ -15,8 +15,8 @@ use Rattle.cx_core.specs.Statements.{IsDefinitionOf}
 use Rattle.cx_core.specs.Trees.{CTy, ty, CTyForm, void, basic, enum_type, pointer, array, record_type, function, form_of_type, CPuts, CTypes, CObject, CFun, COuter, CDoes, declares, defines, CMention, CUnit}
 use Rattle.cx_core.specs.Typing.{CHome, IsMentionedIn}
 use Rattle.cx_core.specs.ValidTypes.{IsObjectForm}
-use Rattle.cx_link.specs.Program.{CFound, first_unit, has_name, is_object_named, defined_object, defined_function, object_of_name, function_of_name, outer_of_name, counts_before, types_of_all}
-use Rattle.cx_link.specs.Rules.{is_declaration, broken_links}
+use Rattle.cx_links.specs.Program.{CFound, first_unit, has_name, is_object_named, defined_object, defined_function, object_of_name, function_of_name, outer_of_name, counts_before, types_of_all}
+use Rattle.cx_links.specs.Rules.{is_declaration, broken_links}
 use Rattle.cx_renumber.specs.Numbers.{CCounts, type_there}
 use Rattle.cx_rules.specs.Types.{is_function_form}
 use Rattle.cx_typed_links.proofs.Compatible.{both, together_true}

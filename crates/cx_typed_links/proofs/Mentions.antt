@@ -8,8 +8,8 @@ use Rattle.cr_base.specs.declared.rule.Rule.{Rule}
 use Rattle.cr_base.specs.declared.rule.Rule.TheVariants.{L1, L2, L3, L4, L5, M2}
 use Rattle.cx_core.specs.Linked.{main_of}
 use Rattle.cx_core.specs.Trees.{CFun, CTypes, CMention, CProgram, CUnit}
-use Rattle.cx_link.specs.Program.{counts_before, from_each, types_of_all, all_mentions, linked}
-use Rattle.cx_link.specs.Rules.{second_definition, clashing_declaration, wrong_main, outside_profile, undefined_thing, rule_of, refusal_of, or_later, first_in, nowhere, most_units, main_missing, by_mentions, broken_links}
+use Rattle.cx_links.specs.Program.{counts_before, from_each, types_of_all, all_mentions, linked}
+use Rattle.cx_links.specs.Rules.{second_definition, clashing_declaration, wrong_main, outside_profile, undefined_thing, rule_of, refusal_of, or_later, first_in, nowhere, most_units, main_missing, by_mentions, broken_links}
 use Rattle.cx_renumber.specs.Numbers.{mention_there}
 use Rattle.cx_typed_links.proofs.Joined.{none_on}
 

@@ -7,8 +7,8 @@ use Rattle.cx_core.specs.declared.program.Linkage.{Linkage}
 use Rattle.cx_core.specs.declared.program.Linkage.TheVariants.{External, Internal, Nothing}
 use Rattle.cx_core.specs.Linked.{is_external, names_with}
 use Rattle.cx_core.specs.Trees.{CTy, CPuts, CTypes, CObject, CFun, COuter, CUnit}
-use Rattle.cx_link.specs.Program.{linked}
-use Rattle.cx_link.specs.Rules.{broken_links}
+use Rattle.cx_links.specs.Program.{linked}
+use Rattle.cx_links.specs.Rules.{broken_links}
 use Rattle.cx_typed_links.proofs.Distinct.{not_same_back, all_made}
 use Rattle.cx_typed_links.proofs.FunctionNumbers.{functions_differ, outers_differ}
 use Rattle.cx_typed_links.proofs.Functions.{number_of_function, number_of_outer, IsFunctionOf, program_functions}

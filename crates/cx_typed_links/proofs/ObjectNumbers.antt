@@ -9,7 +9,7 @@ use Rattle.cx_core.specs.declared.program.Linkage.TheVariants.{External, Interna
 use Rattle.cx_core.specs.Linked.{is_external, has_linkage, names_with}
 use Rattle.cx_core.specs.Trees.{CTy, CPuts, CTypes, CObject, CFun, COuter, CUnit}
 use Rattle.cx_core.specs.Typing.{object_with}
-use Rattle.cx_link.specs.Program.{CFound, counts_before, first_unit, is_object_named, declared_object, has_name, object_of_name, object_at, numbers_of, is_in, there, external_object, objects_from, linked}
+use Rattle.cx_links.specs.Program.{CFound, counts_before, first_unit, is_object_named, declared_object, has_name, object_of_name, object_at, numbers_of, is_in, there, external_object, objects_from, linked}
 use Rattle.cx_renumber.specs.Numbers.{object_there}
 use Rattle.cx_typed_links.proofs.Compatible.{both}
 use Rattle.cx_typed_links.proofs.Distinct.{not_same_back, keys_joined, all_made, units_differ}

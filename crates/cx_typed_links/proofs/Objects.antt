@@ -7,7 +7,7 @@ use Rattle.std.proofs.lemmas.Slice.Eq.{bytes_eq-Decides}
 use Rattle.cx_core.specs.Linked.{is_external}
 use Rattle.cx_core.specs.Trees.{CObject, CUnit}
 use Rattle.cx_core.specs.Typing.{object_with}
-use Rattle.cx_link.specs.Program.{CFound, first_unit, or_other, has_name, is_object_named, declared_object, defined_object, object_of_name, counts_before, object_at, object_by, object_number, numbers_of, from_each, is_in, there, external_object, objects_from, linked}
+use Rattle.cx_links.specs.Program.{CFound, first_unit, or_other, has_name, is_object_named, declared_object, defined_object, object_of_name, counts_before, object_at, object_by, object_number, numbers_of, from_each, is_in, there, external_object, objects_from, linked}
 use Rattle.cx_renumber.specs.Numbers.{counts_of, object_there}
 use Rattle.cx_typed_links.proofs.Compatible.{both}
 use Rattle.cx_typed_links.proofs.Each.{all_given}

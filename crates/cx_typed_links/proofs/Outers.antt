@@ -9,7 +9,7 @@ use Rattle.cx_core.specs.declared.program.Linkage.TheVariants.{External, Interna
 use Rattle.cx_core.specs.Linked.{is_external, has_linkage, names_with}
 use Rattle.cx_core.specs.Trees.{CTy, CPuts, CTypes, CObject, CFun, COuter, CProgram, CUnit}
 use Rattle.cx_core.specs.Typing.{outer_with}
-use Rattle.cx_link.specs.Program.{CFound, declared_function, function_of_name, outer_of_name, function_at, function_by, outer_by, function_number, numbers_of, is_in, is_left, outers_from, from_each, linked}
+use Rattle.cx_links.specs.Program.{CFound, declared_function, function_of_name, outer_of_name, function_at, function_by, outer_by, function_number, numbers_of, is_in, is_left, outers_from, from_each, linked}
 use Rattle.cx_renumber.specs.Numbers.{outer_there}
 use Rattle.cx_typed_links.proofs.Compatible.{both, together_true}
 use Rattle.cx_typed_links.proofs.Each.{all_given}

@@ -7,7 +7,7 @@ use Rattle.cx_core.specs.declared.program.Linkage.TheVariants.{Nothing}
 use Rattle.cx_core.specs.Linked.{is_external}
 use Rattle.cx_core.specs.Trees.{CPuts, CObject, CUnit}
 use Rattle.cx_core.specs.Typing.{object_with, IsStaticObject}
-use Rattle.cx_link.specs.Program.{CFound, object_at, object_by, object_number, numbers_of, from_each, external_object, objects_from, linked}
+use Rattle.cx_links.specs.Program.{CFound, object_at, object_by, object_number, numbers_of, from_each, external_object, objects_from, linked}
 use Rattle.cx_renumber.specs.Numbers.{CNumbers, puts_there, object_there}
 use Rattle.cx_typed_links.proofs.Joined.{none_on}
 use Rattle.cx_typed_links.proofs.Objects.{IsOwnIn, named_in, own_number, external_number, all_own, named_thing, object_at_number, linked_objects}

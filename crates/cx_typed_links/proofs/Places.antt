@@ -6,7 +6,7 @@ use Rattle.std.specs.List.{find, list_any, IsDistinct}
 use Rattle.std.proofs.lemmas.Bool.Decides.{nat_tests}
 use Rattle.std.proofs.lemmas.List.Elements.{All-nil, All-cons, All-head, All-tail}
 use Rattle.cx_core.specs.Trees.{CUnit}
-use Rattle.cx_link.specs.Program.{CFound, found_or, first_unit}
+use Rattle.cx_links.specs.Program.{CFound, found_or, first_unit}
 use Rattle.cx_renumber.specs.Numbers.{above}
 use Rattle.cx_typed_links.proofs.Joined.{rows_before}
 

@@ -11,8 +11,8 @@ use Rattle.cx_core.specs.Statements.{IsDefinitionOf}
 use Rattle.cx_core.specs.Trees.{CTyForm, function, form_of_type, CObject, CFun, COuter, CDoes, declares, defines, calls, uses, CMention, CUnit}
 use Rattle.cx_core.specs.Typing.{CHome, IsMentionedIn, object_with}
 use Rattle.cx_core.specs.ValidTypes.{IsObjectForm}
-use Rattle.cx_link.specs.Program.{CFound, defined_function, function_of_name, outer_of_name, object_of_name, numbers_of, linked}
-use Rattle.cx_link.specs.Rules.{is_declaration, broken_links}
+use Rattle.cx_links.specs.Program.{CFound, defined_function, function_of_name, outer_of_name, object_of_name, numbers_of, linked}
+use Rattle.cx_links.specs.Rules.{is_declaration, broken_links}
 use Rattle.cx_renumber.specs.Numbers.{object_there, function_there, outer_there}
 use Rattle.cx_typed_links.proofs.Clashes.{IsFunctionType, IsDeclaredAs, one_kind, IsDefinedIn, one_definition}
 use Rattle.cx_typed_links.proofs.ExternalObjects.{some_first, external_object_found}

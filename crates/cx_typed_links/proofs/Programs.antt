@@ -4,7 +4,7 @@ use Rattle.std.proofs.lemmas.List.Elements.{All-nil, All-cons, All-head, All-tai
 use Rattle.cx_core.specs.Linked.{program_of, is_external, IsTypedObject, IsTypedFunction}
 use Rattle.cx_core.specs.Trees.{CObject, CTypes, CUnit}
 use Rattle.cx_core.specs.ValidTypes.{AreTypes}
-use Rattle.cx_link.specs.Program.{types_of_all, numbers_of, counts_before, from_each, linked}
+use Rattle.cx_links.specs.Program.{types_of_all, numbers_of, counts_before, from_each, linked}
 use Rattle.cx_renumber.specs.Numbers.{function_there}
 use Rattle.cx_typed_links.proofs.Each.{all_given}
 use Rattle.cx_typed_links.proofs.Objects.{IsOfUnit, program_objects}

@@ -5,7 +5,7 @@ use Rattle.std.proofs.lemmas.List.Elements.{All-head, All-tail}
 use Rattle.cx_core.specs.Linked.{IsTypedUnit}
 use Rattle.cx_core.specs.Trees.{CRecord, CRecordTag, CTypes, CUnit}
 use Rattle.cx_core.specs.ValidTypes.{AreTypes}
-use Rattle.cx_link.specs.Program.{counts_before, types_from, types_of_all}
+use Rattle.cx_links.specs.Program.{counts_before, types_from, types_of_all}
 use Rattle.cx_renumber.specs.Numbers.{CCounts, record_there}
 use Rattle.cx_typed_links.proofs.Joined.{joined, rows_before, all_rows, row_stands, row_from, joined_long, none_on, IsFrom}
 use Rattle.cx_typed_links.proofs.Records.{made_of_units}

@@ -8,8 +8,8 @@ use Rattle.cx_core.specs.Linked.{program_of, AreNumbered, IsLinked, IsTypedOuter
 use Rattle.cx_core.specs.Trees.{CTy, form_of_type, CExpr, CTypes, CObject, CFun, CProgram, CMention, CUnit}
 use Rattle.cx_core.specs.Typing.{IsTyped, IsLvalue}
 use Rattle.cx_core.specs.ValidTypes.{IsTypeIn, IsMemberOf, IsPartOf, IsModifiable, AreTypes}
-use Rattle.cx_link.specs.Program.{counts_before, types_of_all, numbers_of, linked}
-use Rattle.cx_link.specs.Rules.{broken_links}
+use Rattle.cx_links.specs.Program.{counts_before, types_of_all, numbers_of, linked}
+use Rattle.cx_links.specs.Rules.{broken_links}
 use Rattle.cx_renumber.specs.Numbers.{CCounts, CNumbers, type_there, expr_there, object_there, function_there}
 use Rattle.cx_typed_links.specs.Embedding.{AreUnitTypes}
 use Rattle.cx_typed_links.specs.Homes.{home_here, home_there, UsesHold, NamesHold}

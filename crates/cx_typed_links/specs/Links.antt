@@ -2,8 +2,8 @@
 use Rattle.std.specs.Prelude.{◌≡◌, ℕ, List, None, Some, slice_get, All}
 use Rattle.cx_core.specs.Linked.{IsLinked, IsTypedOuter}
 use Rattle.cx_core.specs.Trees.{CUnit}
-use Rattle.cx_link.specs.Program.{linked}
-use Rattle.cx_link.specs.Rules.{broken_links}
+use Rattle.cx_links.specs.Program.{linked}
+use Rattle.cx_links.specs.Rules.{broken_links}
 use Rattle.cx_typed_files.specs.Covered.{IsMentionCovered}
 use Rattle.cx_typed_files.specs.Defining.{IsDefinitionThere}
 use Rattle.cx_typed_links.specs.Laws.{AreTypedUnits, UsesHoldIn}

@@ -12,7 +12,7 @@ use Rattle.cx_core.specs.Trees.{CUnit}
 use Rattle.cx_lex.specs.declared.token.Token.{Token}
 use Rattle.cx_lex.specs.Lexed.{IsFirstFault}
 use Rattle.cx_lex.proofs.SpellLemmas.{spell_once, spell_or_break}
-use Rattle.cx_link.specs.Rules.{broken_links}
+use Rattle.cx_links.specs.Rules.{broken_links}
 use Rattle.cx_parse.specs.Parsed.{IsNotDerived}
 use Rattle.cx_rules.specs.Readings.{first_broken}
 use Rattle.cx_rules.specs.Units.{seen_unit}

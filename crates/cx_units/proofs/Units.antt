@@ -7,7 +7,7 @@ use Rattle.cx_core.specs.Trees.{CUnit}
 use Rattle.cx_lex.specs.declared.token.Token.{Token}
 use Rattle.cx_lex.specs.Tokens.{Spells, token_fault}
 use Rattle.cx_lex.proofs.SpellLemmas.{spell_once, spell_or_break}
-use Rattle.cx_link.specs.Rules.{broken_links}
+use Rattle.cx_links.specs.Rules.{broken_links}
 use Rattle.cx_parse.proofs.Parsed.{one_tree}
 use Rattle.cx_rules.specs.Units.{broken_unit, seen_unit}
 use Rattle.cx_tree.specs.Derives.{Derives}

@@ -14,7 +14,7 @@ use Rattle.rs_parse.specs.Crates.{IfNotRust, NamesModules}
 use Rattle.rs_parse.specs.declared.fault.ReadFault.{ReadFault}
 use Rattle.rs_parse.specs.declared.fault.ReadFault.TheVariants.{NotRust}
 use Rattle.rs_parse.specs.declared.fault.ReadFault.TheVariants as fault
-use Rattle.rs_tree.specs.Text.{cargo_path, main_path, module_path}
+use Rattle.rs_text.specs.Text.{cargo_path, main_path, module_path}
 use Rattle.shelf.specs.declared.called.Kind.TheVariants.{Get}
 use Rattle.shelf.specs.declared.file.File.{File}
 use Rattle.shelf.specs.declared.file.Got.TheVariants.{Bytes, TooLarge}

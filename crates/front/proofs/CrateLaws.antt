@@ -6,9 +6,9 @@ use Rattle.front.specs.Run.{IsTooLarge, LacksNext}
 use Rattle.rs_parse.proofs.OneCrate.{one_crate}
 use Rattle.rs_parse.proofs.OutlineLaws.{one_main}
 use Rattle.rs_parse.specs.Crates.{NamesModules}
-use Rattle.rs_tree.specs.Reads.{ReadsAs}
-use Rattle.rs_tree.specs.Text.{cargo_path, main_path, module_path}
-use Rattle.rs_tree.specs.Tree.{CrateTree}
+use Rattle.rs_text.specs.Reads.{ReadsAs}
+use Rattle.rs_text.specs.Text.{cargo_path, main_path, module_path}
+use Rattle.rs_text.specs.Tree.{CrateTree}
 use Rattle.shelf.specs.declared.file.File.{File}
 use Rattle.straight_rust_tree.specs.Text.{file_of}
 

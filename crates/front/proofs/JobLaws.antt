@@ -19,7 +19,7 @@ use Rattle.front.specs.Sources.{AreGot, EndsStopped, IsWithin}
 use Rattle.front.specs.declared.unread.Unread.{Unread}
 use Rattle.front.specs.declared.unread.Unread.TheVariants.{NotRead, NotMain, Memory}
 use Rattle.front.proofs.SourceLaws.{where_map}
-use Rattle.rs_tree.specs.Text.{main_path}
+use Rattle.rs_text.specs.Text.{main_path}
 use Rattle.run_ends.specs.Runs.{HasFailed, IsRun, Meaning}
 use Rattle.run_ends.specs.Told.{IsPlacedIn, Tale, name_at, tale_of}
 use Rattle.run_ends.specs.declared.end.End.{End}

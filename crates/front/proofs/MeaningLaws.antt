@@ -8,7 +8,7 @@ use Rattle.cx_units.specs.Broken.{AreUnbroken}
 use Rattle.ext_calls.specs.declared.call.Call.{Call}
 use Rattle.ext_calls.specs.declared.call.Made.{Made}
 use Rattle.ext_calls.specs.Host.{HostState}
-use Rattle.rs_tree.specs.Tree.{CrateTree}
+use Rattle.rs_text.specs.Tree.{CrateTree}
 use Rattle.run_ends.specs.Runs.{AreFirst, AreGiven, HasFailed, IsEnd, IsRun, IsTied, MayAnswer, Meaning, Progress, Shown}
 use Rattle.run_ends.specs.Runs as progress
 use Rattle.run_ends.specs.declared.end.End.{End}

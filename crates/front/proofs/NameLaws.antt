@@ -5,8 +5,8 @@ use Rattle.std.proofs.lemmas.Str.{IsUtf8-from_ascii}
 use Rattle.std.proofs.lemmas.Str.Ascii.{IsAscii-nil, IsAscii-cons}
 use Rattle.std.specs.List.{list_all}
 use Rattle.std.specs.Str.{IsAscii, IsUtf8}
-use Rattle.rs_tree.specs.Names.{is_digit, is_module_name, is_plain_identifier, is_word, is_word_byte}
-use Rattle.rs_tree.specs.Valid.{all_differ, valid_count, valid_names}
+use Rattle.rs_text.specs.Names.{is_digit, is_module_name, is_plain_identifier, is_word, is_word_byte}
+use Rattle.rs_text.specs.Valid.{all_differ, valid_count, valid_names}
 
 first_of : (a b : Bool) → (a && b) ≡ true → a ≡ true
 first_of true b e = refl

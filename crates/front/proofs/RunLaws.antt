@@ -2,7 +2,7 @@
 use Rattle.std.proofs.Common.{◌≡◌, ◌≢◌, ◌-◌, ℕ, ℤ, ◌⊎◌, inl, inr, true, false, true≢false, List, Option, Some, None, refl, sym, ap, subst, ◌∙◌, arith}
 use Rattle.cr_base.specs.declared.refusal.Refusal.{Refusal}
 use Rattle.cr_base.specs.declared.rule.Rule.TheVariants.{M2}
-use Rattle.cx_link.specs.Rules.{nowhere}
+use Rattle.cx_links.specs.Rules.{nowhere}
 use Rattle.ext_calls.specs.Host.{HostState}
 use Rattle.run_ends.specs.Told as tale
 use Rattle.run_ends.specs.declared.end.End.{End}

@@ -18,8 +18,8 @@ use Rattle.straight_rust_tree.specs.Text.{text_of}
 use Rattle.straight_rust_tree.specs.Tree.{CrateTree}
 use Rattle.std.specs.Option.{is_none}
 use Rattle.rs_mean.specs.Typing.{ItemPlace, first_ill, well_typed}
-use Rattle.rs_tree.specs.Reads.{ReadsAs}
-use Rattle.rs_tree.specs.Tree.{CrateTree as RustTree}
+use Rattle.rs_text.specs.Reads.{ReadsAs}
+use Rattle.rs_text.specs.Tree.{CrateTree as RustTree}
 use Rattle.front.specs.Crates.{AreHeldIn, IllTypedBy, NotRustBy, most_file_bytes}
 use Rattle.front.specs.Files.{Held, WhereTold, units_of, files_in, with_files}
 use Rattle.front.specs.Job.{Job, transpile, too_many, run_c, run_rust}

@@ -6,7 +6,7 @@ use Rattle.front.specs.Runs.{FailedOrLarge}
 use Rattle.front.specs.declared.unread.Unread.{Unread}
 use Rattle.front.specs.declared.unread.Unread.TheVariants.{NotRead, NotMain, Memory}
 use Rattle.rs_parse.specs.Crates.{NamesModules}
-use Rattle.rs_tree.specs.Text.{main_path, module_path}
+use Rattle.rs_text.specs.Text.{main_path, module_path}
 use Rattle.shelf.specs.declared.file.File.{File}
 use Rattle.shelf.specs.Shelf.{ShelfState}
 

@@ -2,7 +2,7 @@
 use Rattle.std.specs.Prelude.{◌≡◌, ℕ, ◌≤◌, ◌⊎◌, List, [], ◌∷◌, map, take, length, Option, Some, slice_get, ⊤}
 use Rattle.front.specs.Files.{name_in}
 use Rattle.rs_parse.specs.Crates.{NamesModules}
-use Rattle.rs_tree.specs.Text.{cargo_path, main_path, module_path}
+use Rattle.rs_text.specs.Text.{cargo_path, main_path, module_path}
 use Rattle.run_ends.specs.Told.{name_at}
 use Rattle.rust_job.specs.Meaning.{AreNotRust, AreIllTyped}
 use Rattle.shelf.specs.declared.file.File.{File}

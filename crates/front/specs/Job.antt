@@ -1,7 +1,7 @@
 -- The jobs that are done, by the words after the program's name.
 use Rattle.std.specs.Prelude.{ℕ, Bool, true, false, List, [], ◌∷◌, length, nat_lt, if◌then◌else◌, Option, Some, None}
 use Rattle.clap.specs.Walk.{Text}
-use Rattle.cx_link.specs.Rules.{most_units}
+use Rattle.cx_links.specs.Rules.{most_units}
 use Rattle.jobs.specs.Job.{Job as AnyJob, job_of as any_job_of, transpile as asks_transpile, run_c as asks_run_c, run_rust as asks_run_rust}
 
 -- a job

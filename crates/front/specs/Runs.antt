@@ -14,8 +14,8 @@ use Rattle.front.specs.Refusals.{BreaksProfile, bytes_of}
 use Rattle.front.specs.Report.{Ending, done, refused, usage, cannot_read, cannot_write, memory, told, not_rust, ill_typed}
 use Rattle.front.specs.Transpile.{IsUnread}
 use Rattle.rs_mean.specs.Typing.{well_typed}
-use Rattle.rs_tree.specs.Reads.{ReadsAs}
-use Rattle.rs_tree.specs.Tree.{CrateTree}
+use Rattle.rs_text.specs.Reads.{ReadsAs}
+use Rattle.rs_text.specs.Tree.{CrateTree}
 use Rattle.run_ends.specs.Runs.{Meaning, IsRun, HasFailed}
 use Rattle.run_ends.specs.Told.{Tale, tale_of}
 use Rattle.run_ends.specs.declared.end.End.{End}

@@ -13,7 +13,7 @@ use Rattle.straight_whole.specs.Right.{IsRight}
 use Rattle.front.specs.Refusals.{FirstBroken, CoreOf}
 use Rattle.front.specs.Files.{WhereTold, units_of, files_in, with_files, written_names}
 use Rattle.cr_base.specs.declared.rule.Rule.TheVariants.{M2}
-use Rattle.cx_link.specs.Rules.{nowhere}
+use Rattle.cx_links.specs.Rules.{nowhere}
 use Rattle.front.specs.Report.{Ending, done, refused, usage, cannot_read, cannot_write, memory, told, not_rust, ill_typed}
 
 -- a crate is a right translation of units: it is well typed, has the items of their program in modules that are

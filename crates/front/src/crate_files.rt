@@ -4,8 +4,8 @@ ghost use Rattle.std.specs.Prelude.{◌≡◌, ◌∷◌, [], map, IfOk, MatchRe
 ghost use Rattle.std.specs.Str.{IsUtf8};
 ghost use Rattle.front.specs.CrateFiles.{AreGotAll, AreGotIn, IsGotWhole, IsNamedAs, ModulesAreGot, NamesPaths, StopsCrate, StopsFile, StopsGet, StopsMain, StopsModules};
 ghost use Rattle.front.specs.Crates.{path_of};
-ghost use Rattle.rs_tree.specs.Text.{cargo_path, main_path, module_path};
-ghost use Rattle.rs_tree.specs.Valid.{valid_names};
+ghost use Rattle.rs_text.specs.Text.{cargo_path, main_path, module_path};
+ghost use Rattle.rs_text.specs.Valid.{valid_names};
 
 use crate::files::named;
 use crate::unread::Unread;

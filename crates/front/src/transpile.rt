@@ -7,7 +7,7 @@ ghost use Rattle.front.specs.Outcome.{ending_of};
 ghost use Rattle.front.specs.Report.{refused};
 ghost use Rattle.clap.specs.Walk.{texts};
 ghost use Rattle.cr_base.specs.declared.rule.Rule.TheVariants.{M2};
-ghost use Rattle.cx_link.specs.Rules.{nowhere};
+ghost use Rattle.cx_links.specs.Rules.{nowhere};
 ghost use Rattle.front.specs.Sources.{EndsStopped, IsWithin};
 ghost use Rattle.front.specs.Puts.{Puts, PutFaultAt};
 ghost use Rattle.front.specs.Transpile.{IsTranspiled};

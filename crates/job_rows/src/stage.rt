@@ -3,8 +3,10 @@
 mod ending;
 mod files;
 mod job;
+mod lacking;
 mod row_host;
 mod stream;
+mod surely;
 mod transpile;
 mod units;
 
@@ -25,6 +27,8 @@ enum Stage {
     Files,
     /// The same over a shelf that never fails.
     Sure,
+    /// The translation of a unit over objects that never fail.
+    Surely,
     /// The translation of a unit.
     Transpile,
     /// What a job answers to several units.
@@ -35,12 +39,13 @@ enum Stage {
     Disk,
 }
 
-const STAGES: [(&str, Stage); 9] = [
+const STAGES: [(&str, Stage); 10] = [
     ("undefined", Stage::Undefined),
     ("wrong", Stage::Wrong),
     ("job", Stage::Job),
     ("files", Stage::Files),
     ("sure", Stage::Sure),
+    ("surely", Stage::Surely),
     ("transpile", Stage::Transpile),
     ("units", Stage::Units),
     ("stream", Stage::Stream),
@@ -70,6 +75,7 @@ impl Stage {
             Stage::Job => job::answer(alloc, asked, out),
             Stage::Files => files::answer(alloc, asked, out),
             Stage::Sure => files::answer_surely(alloc, asked, out),
+            Stage::Surely => surely::answer(alloc, asked, out),
             Stage::Transpile => transpile::answer(alloc, asked, out),
             Stage::Units => units::answer(alloc, asked, out),
             Stage::Stream => stream::answer(rt, alloc, asked, out),

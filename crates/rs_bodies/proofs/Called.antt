@@ -16,7 +16,7 @@ use Rattle.rs_mean.specs.Run.{Bodies, Frame, Flow, run_expr, run_exprs, run_stmt
 use Rattle.rs_mean.specs.Values.{Typed}
 use Rattle.rs_mean.specs.World.{Run, pure, seq, local, takes_unit}
 use Rattle.rs_mean.proofs.Unfolded.{bodies_unfold}
-use Rattle.rs_tree.specs.Tree.{Tys, OptionTy, exprs, stmts, FunctionTree, ModuleTree}
+use Rattle.rs_text.specs.Tree.{Tys, OptionTy, exprs, stmts, FunctionTree, ModuleTree}
 use Rattle.rs_tree.specs.declared.item.Function.{Function}
 use Rattle.rs_layout.specs.declared.lookup.HeldCallee.{HeldCallee}
 use Rattle.rs_layout.specs.Found.{callee_view}

@@ -14,7 +14,7 @@ use Rattle.rs_mean.specs.World.{Run, pure, seq, takes_unit, either, Round, again
 use Rattle.rs_mean.proofs.Bounded.{Leaves, Bounded, bounded_pure, bounded_fails, bounded_ends, bounded_local, bounded_begins, bounded_seq, bounded_unit, bounded_rounds, bounded_outer, bodies_bounded}
 use Rattle.rs_mean.proofs.Pieces.{on_stmts}
 use Rattle.rs_mean.proofs.Unfolded.{rounds_unfold}
-use Rattle.rs_tree.specs.Tree.{Ty, Stmt, Stmts, more_stmts, ArmTree, LiteralArm, arms, stmts, ModuleTree}
+use Rattle.rs_text.specs.Tree.{Ty, Stmt, Stmts, more_stmts, ArmTree, LiteralArm, arms, stmts, ModuleTree}
 use Rattle.rs_tree.specs.declared.stmt.RStmt.{RStmt}
 use Rattle.rs_tree.specs.declared.stmt.Arm.{Arm}
 use Rattle.rs_tree.specs.Views.{arm_view, stmt_view}

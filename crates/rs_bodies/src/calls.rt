@@ -14,7 +14,7 @@ ghost use Rattle.rs_mean.specs.Lookups.{own};
 ghost use Rattle.rs_mean.specs.Run as run;
 ghost use Rattle.rs_mean.specs.Run.{run_exprs, call_at, call_found, call_pointed, run_callee, run_call_by, in_frame};
 ghost use Rattle.rs_mean.specs.World.{pure, seq, takes_unit};
-ghost use Rattle.rs_tree.specs.Tree.{exprs};
+ghost use Rattle.rs_text.specs.Tree.{exprs};
 ghost use Rattle.rs_tree.specs.Views.{expr_view, function_view};
 ghost use Rattle.rs_value.specs.Views.{typed_view};
 

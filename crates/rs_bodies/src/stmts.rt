@@ -11,8 +11,8 @@ ghost use Rattle.rs_scene.specs.Flows.{flow_view};
 ghost use Rattle.rs_mean.specs.Calls as piece;
 ghost use Rattle.rs_mean.specs.Run.{goes_on, run_expr, run_place, run_stmt, run_stmts};
 ghost use Rattle.rs_mean.specs.World.{pure, seq};
-ghost use Rattle.rs_tree.specs.Tree as tree;
-ghost use Rattle.rs_tree.specs.Tree.{arms, stmts};
+ghost use Rattle.rs_text.specs.Tree as tree;
+ghost use Rattle.rs_text.specs.Tree.{arms, stmts};
 ghost use Rattle.rs_tree.specs.Views.{arm_view, expr_view, place_view, stmt_view};
 ghost use Rattle.rs_value.specs.Views.{spot_view, typed_view};
 

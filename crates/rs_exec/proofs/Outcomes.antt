@@ -11,7 +11,7 @@ use Rattle.rs_mean.specs.Laws.{bodies_of}
 use Rattle.rs_mean.specs.Run.{RProgress, going, seen_of, ran, run_main}
 use Rattle.rs_mean.specs.World.{Run}
 use Rattle.rs_mean.proofs.Unfolded.{main_unfolds}
-use Rattle.rs_tree.specs.Tree.{ModuleTree, CrateTree}
+use Rattle.rs_text.specs.Tree.{ModuleTree, CrateTree}
 use Rattle.rs_machine.specs.Does.{Stopped, ended, went_wrong, no_units, store_full, refused, failed, no_memory, stops, Ending, ends_with, breaks_off, runs_out, ran_of, IsAt, IsOut, Breaks, DoesBy, Does}
 use Rattle.rs_machine.specs.States.{State, world_at, AreGiven, AreTaken}
 use Rattle.rs_exec.specs.Ends.{IsOutcome, start, RunsTo}

@@ -21,18 +21,18 @@ use Rattle.rs_mean.specs.Run.{Bodies, call_found, call_in, run_initialisers, run
 use Rattle.rs_mean.specs.Scalars.{integer_scalar}
 use Rattle.rs_mean.specs.Values.{Typed}
 use Rattle.rs_mean.specs.World.{Run, seq, ends}
+use Rattle.rs_text.specs.declared.integer.IntegerTy.TheVariants.{I8}
+use Rattle.rs_text.specs.Tree.{Ty, Integer, ModuleTree, CrateTree}
 use Rattle.rs_tree.specs.declared.item.Module.{Module}
-use Rattle.rs_tree.specs.declared.ty.IntegerTy.TheVariants.{I8}
 use Rattle.rs_tree.specs.declared.ty.RTy.{fold_out-RTy}
 use Rattle.rs_tree.specs.declared.ty.RTy.TheBlock as raw
 use Rattle.rs_tree.specs.declared.ty.RTy.TheViews.{the_lemmas}
-use Rattle.rs_tree.specs.Tree.{Ty, Integer, ModuleTree, CrateTree}
 use Rattle.rs_tree.specs.Views.{module_view, ty_view}
 use Rattle.rs_value.specs.declared.typed.TypedValue.{TypedValue}
 use Rattle.rs_value.specs.Views.{typed_view}
 use Rattle.rs_layout.specs.Layouts.{ModulesAreAligned}
 use Rattle.rs_layout.proofs.LayoutsAligned.{crate_aligned}
-use Rattle.rs_tree.specs.Valid.{valid_crate}
+use Rattle.rs_text.specs.Valid.{valid_crate}
 use Rattle.rs_scene.specs.Scenes.{IsScene, held_function, held_static}
 use Rattle.rs_scene.specs.declared.scene.Scene.{Scene}
 use Rattle.rs_scene.specs.declared.scene.HeldStatic.{HeldStatic}

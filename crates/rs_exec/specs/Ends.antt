@@ -5,7 +5,7 @@ use Rattle.ext_calls.specs.Host.{HostState}
 use Rattle.mem_bytes.specs.Counted.{Limit}
 use Rattle.rs_mean.specs.Laws.{bodies_of}
 use Rattle.rs_mean.specs.Run.{run_main}
-use Rattle.rs_tree.specs.Tree.{CrateTree}
+use Rattle.rs_text.specs.Tree.{CrateTree}
 use Rattle.rs_machine.specs.Does.{Stopped, ended, went_wrong, no_units, store_full, refused, failed, no_memory, stops, Does}
 use Rattle.rs_machine.specs.States.{State}
 use Rattle.rs_exec.specs.declared.outcome.ROutcome.{ROutcome}

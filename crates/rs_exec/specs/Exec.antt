@@ -7,7 +7,7 @@ use Rattle.ext_calls.specs.declared.call.Call.{Call}
 use Rattle.ext_calls.specs.Host.{HostState}
 use Rattle.mem_bytes.specs.Counted.{Limit}
 use Rattle.rs_mean.specs.Run.{RProgress, going, ended, stopped, ran, rs_run_on}
-use Rattle.rs_tree.specs.Tree.{CrateTree}
+use Rattle.rs_text.specs.Tree.{CrateTree}
 use Rattle.rs_exec.specs.declared.outcome.ROutcome.{ROutcome}
 use Rattle.rs_exec.specs.declared.outcome.ROutcome.TheVariants.{Ended, Wrong, StepsUsed, StoreFull, HostRefused, HostFault}
 

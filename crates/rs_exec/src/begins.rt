@@ -10,9 +10,9 @@ ghost use Rattle.rs_mean.specs.Calls as piece;
 ghost use Rattle.rs_mean.specs.Scalars.{integer_scalar};
 ghost use Rattle.rs_mean.specs.World.{seq};
 ghost use Rattle.rs_scene.specs.Scenes.{held_static};
-ghost use Rattle.rs_tree.specs.Tree as tree;
+ghost use Rattle.rs_text.specs.Tree as tree;
+ghost use Rattle.rs_text.specs.declared.integer.IntegerTy.TheVariants as integer;
 ghost use Rattle.rs_tree.specs.Views.{module_view, static_view};
-ghost use Rattle.rs_tree.specs.declared.ty.IntegerTy.TheVariants as integer;
 
 use cr_base::Int;
 use mem_bytes::{Ptr, Store, Value};

@@ -5,7 +5,7 @@ ghost use Rattle.rs_exec.specs.Ends.{RunsTo};
 ghost use Rattle.rs_exec.specs.Exec.{AsksHost, HasFailed, IsProgress, TookSteps, progress_within, world_within};
 ghost use Rattle.rs_machine.specs.States.{AreGiven, AreTaken};
 ghost use Rattle.rs_mean.specs.Typing.{well_typed};
-ghost use Rattle.rs_tree.specs.Valid.{valid_crate};
+ghost use Rattle.rs_text.specs.Valid.{valid_crate};
 ghost use Rattle.rs_scene.specs.Scenes.{IsScene};
 ghost use Rattle.rs_tree.specs.Views.{crate_view, module_view};
 

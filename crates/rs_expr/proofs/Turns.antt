@@ -4,7 +4,7 @@ use Rattle.std.proofs.lemmas.Bool.{cond-true, cond-false}
 use Rattle.rs_expr.specs.Reading.{Toks, Reader, read_of, added, many}
 use Rattle.rs_expr.specs.Signs.{sign_at}
 use Rattle.rs_expr.specs.Exprs.{is_dot, tail, tails, expr, expr_from}
-use Rattle.rs_tree.specs.Tree.{Expr, NoFunction, Boolean}
+use Rattle.rs_text.specs.Tree.{Expr, NoFunction, Boolean}
 use Rattle.rs_expr.specs.Types.{ty, ty_from}
 use Rattle.rs_expr.specs.declared.sign.Sign.{Sign}
 

@@ -10,11 +10,11 @@ use Rattle.rs_expr.specs.declared.words.CoreWord.{CoreWord}
 use Rattle.rs_expr.specs.declared.words.CoreWord.TheVariants.{AddressWord, NullWord, TransmuteWord}
 use Rattle.rs_expr.specs.declared.words.Method.{Method}
 use Rattle.rs_expr.specs.declared.words.Method.TheVariants.{Unwrap, AddMethod, SubMethod, MulMethod, NegMethod, OffsetMethod, OffsetFromMethod, IsNullMethod, IsNoneMethod}
-use Rattle.rs_tree.specs.Tree.{Ty, Place, Local, Static, Deref, Field, Expr, Literal, Truth, NoFunction, Read, Call, CallBy, Wrapped, WrappingNeg, Offset, OffsetFrom, IsNull, IsNone, AddressOf, NullPointer, SomeFunction, Transmute, Neg, Not, Cast, Binary, And, Or, Choose, exprs, tys, option_ty}
-use Rattle.rs_tree.specs.declared.expr.Operator.{Operator}
-use Rattle.rs_tree.specs.declared.expr.Operator.TheVariants.{Add, Sub, Mul, Div, Rem, BitAnd, BitOr, BitXor, Shl, Shr, Equal, NotEqual, Less, LessEqual, Greater, GreaterEqual}
-use Rattle.rs_tree.specs.declared.expr.Wrapping.{Wrapping}
-use Rattle.rs_tree.specs.declared.expr.Wrapping.TheVariants.{WrappingAdd, WrappingSub, WrappingMul}
+use Rattle.rs_text.specs.Tree.{Ty, Place, Local, Static, Deref, Field, Expr, Literal, Truth, NoFunction, Read, Call, CallBy, Wrapped, WrappingNeg, Offset, OffsetFrom, IsNull, IsNone, AddressOf, NullPointer, SomeFunction, Transmute, Neg, Not, Cast, Binary, And, Or, Choose, exprs, tys, option_ty}
+use Rattle.rs_text.specs.declared.operator.Operator.{Operator}
+use Rattle.rs_text.specs.declared.operator.Operator.TheVariants.{Add, Sub, Mul, Div, Rem, BitAnd, BitOr, BitXor, Shl, Shr, Equal, NotEqual, Less, LessEqual, Greater, GreaterEqual}
+use Rattle.rs_text.specs.declared.operator.Wrapping.{Wrapping}
+use Rattle.rs_text.specs.declared.operator.Wrapping.TheVariants.{WrappingAdd, WrappingSub, WrappingMul}
 
 -- ---- words and marks
 

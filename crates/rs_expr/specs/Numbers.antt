@@ -5,9 +5,9 @@ use Rattle.rs_expr.specs.Reading.{Reader, read_of}
 use Rattle.rs_expr.specs.Signs.{entry_of, sign_at, text_at}
 use Rattle.rs_expr.specs.declared.sign.Sign.{Sign}
 use Rattle.rs_expr.specs.declared.sign.Sign.TheVariants.{Minus}
-use Rattle.rs_tree.specs.Names.{is_digit}
-use Rattle.rs_tree.specs.declared.ty.IntegerTy.{IntegerTy}
-use Rattle.rs_tree.specs.declared.ty.IntegerTy.TheVariants.{I8, I16, I32, I64, U8, U16, U32, U64, Isize, Usize}
+use Rattle.rs_text.specs.Names.{is_digit}
+use Rattle.rs_text.specs.declared.integer.IntegerTy.{IntegerTy}
+use Rattle.rs_text.specs.declared.integer.IntegerTy.TheVariants.{I8, I16, I32, I64, U8, U16, U32, U64, Isize, Usize}
 
 -- the number that digits write
 abbrev pub number_of : List ℕ → ℕ

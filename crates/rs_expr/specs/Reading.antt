@@ -3,7 +3,7 @@ use Rattle.std.specs.Prelude.{◌≡◌, ⊤, ℕ, zero, suc, Bool, true, false,
 use Rattle.rs_expr.specs.declared.sign.Sign.{Sign}
 use Rattle.rs_expr.specs.declared.sign.Sign.TheVariants.{End, Comma, RightParenthesis}
 use Rattle.rs_expr.specs.Signs.{sign_at}
-use Rattle.rs_tree.specs.Tokens.{RToken}
+use Rattle.rs_text.specs.Tokens.{RToken}
 
 abbrev pub Toks : Type 0
 Toks = List RToken

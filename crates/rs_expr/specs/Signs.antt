@@ -2,9 +2,9 @@
 use Rattle.std.specs.Prelude.{ℕ, Bool, false, bytes_eq, codes, List, [], ◌∷◌, if◌then◌else◌}
 use Rattle.rs_expr.specs.declared.sign.Sign.{Sign}
 use Rattle.rs_expr.specs.declared.sign.Sign.TheVariants.{End, Name, Number, As, Break, Continue, Crate, Else, Extern, False, If, Let, Loop, Match, NoneWord, Return, Static, Struct, True, Underscore, Label, Quoted, Close, OtherMark, AndAnd, Arrow, Bang, Comma, Dot, Equal, Hash, LeftBrace, LeftBracket, LeftParenthesis, Minus, OrOr, PathMark, RightBrace, RightBracket, RightParenthesis, Semicolon, Star}
-use Rattle.rs_tree.specs.Names.{is_digit}
-use Rattle.rs_tree.specs.Tokens.{RToken}
-use Rattle.rs_tree.specs.Tokens as tokens
+use Rattle.rs_text.specs.Names.{is_digit}
+use Rattle.rs_text.specs.Tokens.{RToken}
+use Rattle.rs_text.specs.Tokens as tokens
 
 -- what a table has for a text
 abbrev pub entry_of : {A : Type 0} → List (List ℕ × A) → List ℕ → A → A

@@ -6,8 +6,8 @@ use Rattle.rs_expr.specs.Signs.{sign_at, text_at}
 use Rattle.rs_expr.specs.declared.sign.Sign.{Sign}
 use Rattle.rs_expr.specs.declared.sign.Sign.TheVariants.{Star, LeftBracket, Crate, Arrow}
 use Rattle.rs_expr.specs.declared.types.Signature.{Signature}
+use Rattle.rs_text.specs.Tree.{Ty, Integer, Boolean, Void, Pointer, Array, Code, Record, tys, option_ty}
 use Rattle.rs_tree.specs.Views.{ty_view}
-use Rattle.rs_tree.specs.Tree.{Ty, Integer, Boolean, Void, Pointer, Array, Code, Record, tys, option_ty}
 
 -- `*mut T`
 unfoldable pub pointer : Reader Ty → Reader Ty

@@ -28,8 +28,7 @@ fn address(alloc: Global, cursor: &mut Cursor<'_>, levels: usize) -> Result<Boxe
     cursor.skip(7);
     let place = place_of(alloc, expr(alloc, cursor, levels)?)?;
     cursor.skip(1);
-    let read = address_of(alloc, place)?;
-    Ok(read)
+    address_of(alloc, place)
 }
 
 // `core::ptr::null_mut::<T>()`
@@ -40,8 +39,7 @@ fn null(alloc: Global, cursor: &mut Cursor<'_>) -> Result<Boxed<RExpr>, Memory>
     cursor.skip(7);
     let target = ty(alloc, cursor, cursor.len())?;
     cursor.skip(3);
-    let read = null_pointer(alloc, target)?;
-    Ok(read)
+    null_pointer(alloc, target)
 }
 
 // `T>(e)` of a transmutation, whose first type is read.
@@ -59,8 +57,7 @@ fn transmute_to(
     cursor.skip(2);
     let operand = expr(alloc, cursor, levels)?;
     cursor.skip(1);
-    let read = transmuted(alloc, from, to, operand)?;
-    Ok(read)
+    transmuted(alloc, from, to, operand)
 }
 
 // `core::mem::transmute::<T, T>(e)`
@@ -72,8 +69,7 @@ fn transmute(alloc: Global, cursor: &mut Cursor<'_>, levels: usize) -> Result<Bo
     cursor.skip(7);
     let from = ty(alloc, cursor, cursor.len())?;
     cursor.skip(1);
-    let read = transmute_to(alloc, cursor, levels, from)?;
-    Ok(read)
+    transmute_to(alloc, cursor, levels, from)
 }
 
 // A call of a function of `core`.
@@ -112,8 +108,7 @@ fn some_function(alloc: Global, cursor: &mut Cursor<'_>) -> Result<Boxed<RExpr>,
     cursor.skip(1);
     let Signature { params, result } = function_ty(alloc, cursor, levels)?;
     cursor.skip(1);
-    let read = function_value(alloc, path, params, result)?;
-    Ok(read)
+    function_value(alloc, path, params, result)
 }
 
 // One more expression of a list.
@@ -163,8 +158,7 @@ fn call(alloc: Global, cursor: &mut Cursor<'_>, levels: usize) -> Result<Boxed<R
     cursor.skip(1);
     let args = args(alloc, cursor, levels)?;
     cursor.skip(1);
-    let read = call_of(alloc, home, name, args)?;
-    Ok(read)
+    call_of(alloc, home, name, args)
 }
 
 // `crate::m::x`, a static object.
@@ -173,8 +167,7 @@ fn static_object(alloc: Global, cursor: &mut Cursor<'_>) -> Result<Boxed<RExpr>,
     ensures { Gives (λ e. expr_view e) result cursor.new (reader.static_object cursor.old) }
 {
     let RPath { home, name } = item_path(alloc, cursor)?;
-    let read = read_static(alloc, home, name)?;
-    Ok(read)
+    read_static(alloc, home, name)
 }
 
 // A call of a function of the crate, or a static object.
@@ -195,8 +188,7 @@ fn local(alloc: Global, cursor: &mut Cursor<'_>) -> Result<Boxed<RExpr>, Memory>
     ensures { Gives (λ e. expr_view e) result cursor.new (reader.local cursor.old) }
 {
     let name = cursor.name(alloc)?;
-    let read = read_local(alloc, name)?;
-    Ok(read)
+    read_local(alloc, name)
 }
 
 // What begins with a name.

@@ -34,7 +34,7 @@ pub struct Cursor<'a> {
 impl<'a> Model for Cursor<'a> {
     ghost use Rattle.std.specs.Prelude.{List};
     ghost use Rattle.rs_lex.specs.Views.{tokens_view};
-    ghost use Rattle.rs_tree.specs.Tokens.{RToken};
+    ghost use Rattle.rs_text.specs.Tokens.{RToken};
 
     ghost Value = { List RToken };
 

@@ -2,8 +2,8 @@
 
 ghost use Rattle.std.specs.Prelude.{◌≡◌, [], map, option_map, IfOk};
 ghost use Rattle.rs_expr.specs.Exprs as reader;
-ghost use Rattle.rs_tree.specs.Tree as tree;
-ghost use Rattle.rs_tree.specs.Tree.{tys, option_ty, exprs};
+ghost use Rattle.rs_text.specs.Tree as tree;
+ghost use Rattle.rs_text.specs.Tree.{tys, option_ty, exprs};
 ghost use Rattle.rs_tree.specs.Views.{ty_view, place_view, expr_view};
 
 use cr_base::{Boxed, Int, Items, Memory, Name};
@@ -32,8 +32,7 @@ pub(crate) fn read_of(alloc: Global, place: RPlace) -> Result<Boxed<RExpr>, Memo
     ensures { IfOk result (λ e. expr_view e ≡ tree.Read (place_view place)) }
 {
     let place = Boxed::new(alloc, place)?;
-    let read = Boxed::new(alloc, RExpr::Read(place))?;
-    Ok(read)
+    Boxed::new(alloc, RExpr::Read(place))
 }
 
 pub(crate) fn read_local(alloc: Global, name: Name) -> Result<Boxed<RExpr>, Memory>

@@ -24,8 +24,7 @@ fn cast(alloc: Global, cursor: &mut Cursor<'_>, left: Boxed<RExpr>) -> Result<Bo
 {
     cursor.skip(1);
     let to = ty(alloc, cursor, cursor.len())?;
-    let read = cast_of(alloc, left, to)?;
-    Ok(read)
+    cast_of(alloc, left, to)
 }
 
 // `&& o`
@@ -41,8 +40,7 @@ fn and_right(
 {
     cursor.skip(1);
     let right = operand(alloc, cursor, levels)?;
-    let read = and(alloc, left, right)?;
-    Ok(read)
+    and(alloc, left, right)
 }
 
 // `|| o`
@@ -58,8 +56,7 @@ fn or_right(
 {
     cursor.skip(1);
     let right = operand(alloc, cursor, levels)?;
-    let read = or(alloc, left, right)?;
-    Ok(read)
+    or(alloc, left, right)
 }
 
 // An operator and its right operand.
@@ -76,8 +73,7 @@ fn operated(
     let operator = operator_of(cursor.text());
     cursor.skip(1);
     let right = operand(alloc, cursor, levels)?;
-    let read = binary(alloc, left, operator, right)?;
-    Ok(read)
+    binary(alloc, left, operator, right)
 }
 
 // What stands behind the first operand.
@@ -107,8 +103,7 @@ fn between(alloc: Global, cursor: &mut Cursor<'_>, levels: usize) -> Result<Boxe
     ensures { Gives (λ e. expr_view e) result cursor.new (reader.between (reader.expr levels) cursor.old) }
 {
     let left = operand(alloc, cursor, levels)?;
-    let read = continuation(alloc, cursor, levels, left)?;
-    Ok(read)
+    continuation(alloc, cursor, levels, left)
 }
 
 // `-o`
@@ -119,8 +114,7 @@ fn opposite(alloc: Global, cursor: &mut Cursor<'_>, levels: usize) -> Result<Box
 {
     cursor.skip(1);
     let right = operand(alloc, cursor, levels)?;
-    let read = neg(alloc, right)?;
-    Ok(read)
+    neg(alloc, right)
 }
 
 // `!o`
@@ -131,8 +125,7 @@ fn inverted(alloc: Global, cursor: &mut Cursor<'_>, levels: usize) -> Result<Box
 {
     cursor.skip(1);
     let right = operand(alloc, cursor, levels)?;
-    let read = not(alloc, right)?;
-    Ok(read)
+    not(alloc, right)
 }
 
 // `*o`
@@ -143,8 +136,7 @@ fn pointed(alloc: Global, cursor: &mut Cursor<'_>, levels: usize) -> Result<Boxe
 {
     cursor.skip(1);
     let right = operand(alloc, cursor, levels)?;
-    let read = read_deref(alloc, right)?;
-    Ok(read)
+    read_deref(alloc, right)
 }
 
 // Whether a literal that no dot stands behind is behind the next token.
@@ -181,8 +173,7 @@ fn choose_from(
     cursor.skip(3);
     let if_false = expr(alloc, cursor, levels)?;
     cursor.skip(1);
-    let read = choice(alloc, condition, if_true, if_false)?;
-    Ok(read)
+    choice(alloc, condition, if_true, if_false)
 }
 
 // `if e { e } else { e }`
@@ -194,8 +185,7 @@ fn choose(alloc: Global, cursor: &mut Cursor<'_>, levels: usize) -> Result<Boxed
     cursor.skip(1);
     let condition = expr(alloc, cursor, levels)?;
     cursor.skip(1);
-    let read = choose_from(alloc, cursor, levels, condition)?;
-    Ok(read)
+    choose_from(alloc, cursor, levels, condition)
 }
 
 #[cycle(expr)]

@@ -1,8 +1,8 @@
 //! Makers of nodes. Each is refused only for want of memory.
 
 ghost use Rattle.std.specs.Prelude.{◌≡◌, map, option_map, IfOk};
-ghost use Rattle.rs_tree.specs.Tree as tree;
-ghost use Rattle.rs_tree.specs.Tree.{tys, option_ty, exprs};
+ghost use Rattle.rs_text.specs.Tree as tree;
+ghost use Rattle.rs_text.specs.Tree.{tys, option_ty, exprs};
 ghost use Rattle.rs_tree.specs.Views.{ty_view, place_view, expr_view};
 
 use cr_base::{Boxed, Items, Memory, Name};

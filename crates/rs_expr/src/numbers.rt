@@ -2,7 +2,7 @@
 
 ghost use Rattle.std.specs.Prelude.{◌≡◌, ◌≤◌, ◌<◌, ◌^◌, ◌-◌, pos, length, take, drop, MatchOption};
 ghost use Rattle.std.specs.List.{prefix_len};
-ghost use Rattle.rs_tree.specs.Names.{is_digit};
+ghost use Rattle.rs_text.specs.Names.{is_digit};
 ghost use Rattle.rs_expr.specs.Numbers as numbers;
 
 use crate::cursor::Cursor;

@@ -32,8 +32,7 @@ fn unwrapped(
     cursor.skip(2);
     let args = args(alloc, cursor, levels)?;
     cursor.skip(1);
-    let read = call_by(alloc, operand, args)?;
-    Ok(read)
+    call_by(alloc, operand, args)
 }
 
 // An argument and the parenthesis behind it.
@@ -60,8 +59,7 @@ fn wrapped(
     ensures { Gives (λ e. expr_view e) result cursor.new (reader.wrapped operation (expr_view operand) (reader.expr levels) cursor.old) }
 {
     let arg = argument(alloc, cursor, levels)?;
-    let read = wrapped_of(alloc, operand, operation, arg)?;
-    Ok(read)
+    wrapped_of(alloc, operand, operation, arg)
 }
 
 // `offset(e)`
@@ -76,8 +74,7 @@ fn moved(
     ensures { Gives (λ e. expr_view e) result cursor.new (reader.moved (expr_view operand) (reader.expr levels) cursor.old) }
 {
     let arg = argument(alloc, cursor, levels)?;
-    let read = offset(alloc, operand, arg)?;
-    Ok(read)
+    offset(alloc, operand, arg)
 }
 
 // `offset_from(e)`
@@ -92,8 +89,7 @@ fn measured(
     ensures { Gives (λ e. expr_view e) result cursor.new (reader.measured (expr_view operand) (reader.expr levels) cursor.old) }
 {
     let arg = argument(alloc, cursor, levels)?;
-    let read = offset_from(alloc, operand, arg)?;
-    Ok(read)
+    offset_from(alloc, operand, arg)
 }
 
 // A method without arguments, behind its parenthesis.
@@ -150,8 +146,7 @@ fn field(
     let place = place_of(alloc, operand)?;
     cursor.skip(1);
     let name = cursor.name(alloc)?;
-    let read = read_field(alloc, place, name)?;
-    Ok(read)
+    read_field(alloc, place, name)
 }
 
 // `.f`, or a method.
@@ -206,6 +201,5 @@ pub(crate) fn operand(
     ensures { Gives (λ e. expr_view e) result cursor.new (reader.operand (reader.expr levels) cursor.old) }
 {
     let read = base(alloc, cursor, levels)?;
-    let read = tails(alloc, cursor, levels, read)?;
-    Ok(read)
+    tails(alloc, cursor, levels, read)
 }

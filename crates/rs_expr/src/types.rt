@@ -31,8 +31,7 @@ fn pointer(alloc: Global, cursor: &mut Cursor<'_>, levels: usize) -> Result<Boxe
 {
     cursor.skip(2);
     let target = ty(alloc, cursor, levels)?;
-    let read = pointer_of(alloc, target)?;
-    Ok(read)
+    pointer_of(alloc, target)
 }
 
 // `[T; N]`
@@ -46,8 +45,7 @@ fn array(alloc: Global, cursor: &mut Cursor<'_>, levels: usize) -> Result<Boxed<
     cursor.skip(1);
     let size = size_of(cursor.text());
     cursor.skip(2);
-    let read = array_of(alloc, element, size)?;
-    Ok(read)
+    array_of(alloc, element, size)
 }
 
 // `crate::m::x`
@@ -59,8 +57,7 @@ fn record_ty(alloc: Global, cursor: &mut Cursor<'_>) -> Result<Boxed<RTy>, Memor
     let home = cursor.name(alloc)?;
     cursor.skip(1);
     let name = cursor.name(alloc)?;
-    let read = record_of(alloc, home, name)?;
-    Ok(read)
+    record_of(alloc, home, name)
 }
 
 /// Reads `-> T`, which may be missing.
@@ -140,8 +137,7 @@ fn code(alloc: Global, cursor: &mut Cursor<'_>, levels: usize) -> Result<Boxed<R
     cursor.skip(2);
     let Signature { params, result } = function_ty(alloc, cursor, levels)?;
     cursor.skip(1);
-    let read = code_of(alloc, params, result)?;
-    Ok(read)
+    code_of(alloc, params, result)
 }
 
 // A type of one word, which isn't `Option`.

@@ -1,6 +1,8 @@
 -- What variants of statements are as trees, and that a statement runs as its form does.
 use Rattle.std.proofs.Common.{◌≡◌, ◌∙◌, sym, ap, rules, map, ℕ, List, Option, Some, None}
 use Rattle.rs_mean.specs.Run.{Frame, run_dropped, run_stmt}
+use Rattle.rs_text.specs.Tree as tree
+use Rattle.rs_text.specs.Tree.{Stmt, stmts, arms}
 use Rattle.rs_tree.specs.declared.expr.RExpr.{RExpr}
 use Rattle.rs_tree.specs.declared.stmt.RStmt.{RStmt}
 use Rattle.rs_tree.specs.declared.stmt.Arm.{Arm}
@@ -8,8 +10,6 @@ use Rattle.rs_tree.specs.declared.stmt.RStmt.TheFolds.{fold_out-RStmt}
 use Rattle.rs_tree.specs.declared.stmt.RStmt.TheBlock as plain
 use Rattle.rs_tree.specs.declared.stmt.RStmt.TheViews as of
 use Rattle.rs_tree.specs.declared.stmt.RStmt.TheViews.{the_lemmas as stmt_lemmas}
-use Rattle.rs_tree.specs.Tree as tree
-use Rattle.rs_tree.specs.Tree.{Stmt, stmts, arms}
 use Rattle.rs_tree.specs.declared.expr.RPlace.{RPlace}
 use Rattle.rs_tree.specs.Views.{arm_view, expr_view, place_view, stmt_view}
 

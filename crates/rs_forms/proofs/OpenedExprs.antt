@@ -5,9 +5,11 @@ use Rattle.cr_world.specs.World.{World, Stop}
 use Rattle.rs_mean.specs.declared.cause.Cause.{Cause}
 use Rattle.rs_mean.specs.Run.{Frame, goes_on, run_dropped, run_expr, run_exprs, run_call_by, call_at, the_value}
 use Rattle.rs_mean.specs.World.{Run, seq}
-use Rattle.rs_tree.specs.declared.ty.IntegerTy.{IntegerTy}
-use Rattle.rs_tree.specs.declared.expr.Operator.{Operator}
-use Rattle.rs_tree.specs.declared.expr.Wrapping.{Wrapping}
+use Rattle.rs_text.specs.declared.integer.IntegerTy.{IntegerTy}
+use Rattle.rs_text.specs.declared.operator.Operator.{Operator}
+use Rattle.rs_text.specs.declared.operator.Wrapping.{Wrapping}
+use Rattle.rs_text.specs.Tree as tree
+use Rattle.rs_text.specs.Tree.{Expr, exprs, tys, option_ty}
 use Rattle.rs_tree.specs.declared.expr.RExpr.{RExpr}
 use Rattle.rs_tree.specs.declared.expr.RPlace.{RPlace}
 use Rattle.rs_tree.specs.declared.expr.RExpr.TheFolds.{fold_out-RExpr}
@@ -16,8 +18,6 @@ use Rattle.rs_tree.specs.declared.expr.RExpr.TheViews as of
 use Rattle.rs_tree.specs.declared.expr.RExpr.TheViews.{the_lemmas as expr_lemmas}
 use Rattle.rs_tree.specs.declared.ty.RPath.{RPath}
 use Rattle.rs_tree.specs.declared.ty.RTy.{RTy}
-use Rattle.rs_tree.specs.Tree as tree
-use Rattle.rs_tree.specs.Tree.{Expr, exprs, tys, option_ty}
 use Rattle.rs_tree.specs.Views.{expr_view, place_view, ty_view}
 use Rattle.rs_tree.proofs.Opened.{choose_view, transmute_view, cast_view, wrapping_neg_view, offset_from_view, some_view}
 

@@ -14,10 +14,10 @@ use Rattle.rs_machine.specs.States.{State, state}
 use Rattle.rs_machine.specs.Steps.{LookDoes}
 use Rattle.rs_machine.proofs.Pieces.{then_does}
 use Rattle.rs_machine.proofs.Rules.{pure_does}
+use Rattle.rs_text.specs.declared.integer.IntegerTy.{IntegerTy}
+use Rattle.rs_text.specs.Tree.{Integer, ModuleTree, stmts}
 use Rattle.rs_tree.specs.declared.expr.RExpr.{RExpr}
-use Rattle.rs_tree.specs.declared.ty.IntegerTy.{IntegerTy}
 use Rattle.rs_tree.specs.declared.stmt.RStmt.{RStmt}
-use Rattle.rs_tree.specs.Tree.{Integer, ModuleTree, stmts}
 use Rattle.rs_tree.specs.Views.{expr_view, stmt_view}
 
 -- the value of a number of a type

@@ -15,8 +15,8 @@ use Rattle.rs_machine.proofs.Pieces.{then_does}
 use Rattle.rs_machine.proofs.Rules.{pure_does}
 use Rattle.rs_mean.specs.Run.{Frame, Flow, normal, run_stmt, run_stmts}
 use Rattle.rs_mean.specs.World.{Run, either, seq}
+use Rattle.rs_text.specs.Tree.{stmts}
 use Rattle.rs_tree.specs.declared.stmt.RStmt.{RStmt}
-use Rattle.rs_tree.specs.Tree.{stmts}
 use Rattle.rs_tree.specs.Views.{stmt_view}
 
 -- no statement is left

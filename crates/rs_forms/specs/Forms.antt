@@ -6,8 +6,8 @@ use Rattle.rs_mean.specs.Layout.{laid_of}
 use Rattle.rs_mean.specs.Run.{Frame, Flow, goes_on, run_expr, run_exprs, run_place, run_stmt, run_call_by, call_at, the_value, tests}
 use Rattle.rs_mean.specs.Values.{Typed, typed, truth, binary_of, wrapping_of, offset_of, offset_from_of}
 use Rattle.rs_mean.specs.World.{Run, pure, seq, either, looks, or_fails}
-use Rattle.rs_tree.specs.Tree as tree
-use Rattle.rs_tree.specs.Tree.{ModuleTree, no_tys, no_ty, tys, option_ty, exprs, stmts, arms}
+use Rattle.rs_text.specs.Tree as tree
+use Rattle.rs_text.specs.Tree.{ModuleTree, no_tys, no_ty, tys, option_ty, exprs, stmts, arms}
 use Rattle.rs_tree.specs.Views.{arm_view, expr_view, place_view, stmt_view, ty_view}
 use Rattle.rs_value.specs.Operators.{unary_of}
 use Rattle.rs_scene.specs.Flows.{flow_view}

@@ -10,7 +10,7 @@ use Rattle.rs_machine.specs.States.{State, Kept, state}
 use Rattle.rs_machine.specs.Steps.{StoreDoes}
 use Rattle.rs_mean.specs.Run.{Frame, Flow, normal, run_stmts}
 use Rattle.rs_mean.specs.World.{Run}
-use Rattle.rs_tree.specs.Tree.{stmts}
+use Rattle.rs_text.specs.Tree.{stmts}
 use Rattle.rs_tree.specs.Views.{stmt_view}
 
 -- what a rest does behind a step of a store, the whole does from before it

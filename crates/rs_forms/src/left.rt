@@ -10,8 +10,8 @@ ghost use Rattle.rs_mean.specs.Calls as piece;
 ghost use Rattle.rs_mean.specs.Run.{Frame, goes_on, run_stmt, run_stmts};
 ghost use Rattle.rs_mean.specs.World.{either, seq};
 ghost use Rattle.rs_scene.specs.Scenes.{IsScene, frame_view};
-ghost use Rattle.rs_tree.specs.Tree as tree;
-ghost use Rattle.rs_tree.specs.Tree.{stmts};
+ghost use Rattle.rs_text.specs.Tree as tree;
+ghost use Rattle.rs_text.specs.Tree.{stmts};
 ghost use Rattle.rs_tree.specs.Views.{expr_view, place_view, stmt_view};
 ghost use Rattle.rs_value.specs.Views.{spot_view, typed_view};
 

@@ -14,8 +14,8 @@ ghost use Rattle.rs_mean.specs.Run.{Frame, run_expr, run_place};
 ghost use Rattle.rs_mean.specs.Values.{Typed, truth, typed};
 ghost use Rattle.rs_mean.specs.World.{pure, seq};
 ghost use Rattle.rs_scene.specs.Scenes.{IsScene, frame_view};
-ghost use Rattle.rs_tree.specs.Tree as tree;
-ghost use Rattle.rs_tree.specs.Tree.{Integer, ModuleTree};
+ghost use Rattle.rs_text.specs.Tree as tree;
+ghost use Rattle.rs_text.specs.Tree.{Integer, ModuleTree};
 ghost use Rattle.rs_tree.specs.Views.{expr_view, module_view, place_view};
 ghost use Rattle.rs_value.specs.Views.{spot_view, typed_view};
 

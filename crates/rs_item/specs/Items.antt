@@ -9,9 +9,9 @@ use Rattle.rs_expr.specs.declared.sign.Sign.TheVariants as of
 use Rattle.rs_item.specs.declared.functions.Head.{Head}
 use Rattle.rs_tree.specs.Views.{ty_view, local_view}
 use Rattle.rs_item.specs.Stmts.{read_stmts}
-use Rattle.rs_tree.specs.Tree.{Ty, stmts, FieldTree, RecordTree, StaticTree, OuterTree, LocalTree, FunctionTree, ItemTree, RecordItem, StaticItem, ExternItem, FunctionItem}
-use Rattle.rs_tree.specs.declared.item.Attribute.{Attribute}
-use Rattle.rs_tree.specs.declared.item.Attribute.TheVariants.{Mangled, NoMangle, ExportName}
+use Rattle.rs_text.specs.Tree.{Ty, stmts, FieldTree, RecordTree, StaticTree, OuterTree, LocalTree, FunctionTree, ItemTree, RecordItem, StaticItem, ExternItem, FunctionItem}
+use Rattle.rs_text.specs.declared.attribute.Attribute.{Attribute}
+use Rattle.rs_text.specs.declared.attribute.Attribute.TheVariants.{Mangled, NoMangle, ExportName}
 
 abbrev pub read_ty : Reader Ty
 read_ty tokens = ty (length tokens) tokens

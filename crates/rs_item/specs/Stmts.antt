@@ -6,7 +6,7 @@ use Rattle.rs_expr.specs.Reading.{Toks, Reader, read_of, many_ahead}
 use Rattle.rs_expr.specs.Signs.{sign_at, text_at}
 use Rattle.rs_expr.specs.declared.sign.Sign.{Sign}
 use Rattle.rs_expr.specs.declared.sign.Sign.TheVariants as of
-use Rattle.rs_tree.specs.Tree.{Expr, Stmt, Assign, Eval, CopyBytes, If, Loop, Block, Break, Continue, Match, Return, stmts, ArmTree, LiteralArm, arms}
+use Rattle.rs_text.specs.Tree.{Expr, Stmt, Assign, Eval, CopyBytes, If, Loop, Block, Break, Continue, Match, Return, stmts, ArmTree, LiteralArm, arms}
 
 -- an expression that stands in a statement
 abbrev pub read_expr : Reader Expr

@@ -20,8 +20,7 @@ fn outer_param(alloc: Global, cursor: &mut Cursor<'_>) -> Result<Boxed<RTy>, Mem
     ensures { Gives (λ t. ty_view t) result cursor.new (reader.outer_param cursor.old) }
 {
     cursor.skip(2);
-    let read = read_ty(alloc, cursor)?;
-    Ok(read)
+    read_ty(alloc, cursor)
 }
 
 // One more of parameters of an external function.
@@ -99,8 +98,7 @@ fn outer_from(alloc: Global, cursor: &mut Cursor<'_>, symbol: Option<Name>) -> R
     let name = cursor.name(alloc)?;
     cursor.skip(1);
     let params = outer_params(alloc, cursor)?;
-    let read = outer_end(alloc, cursor, symbol, name, params)?;
-    Ok(read)
+    outer_end(alloc, cursor, symbol, name, params)
 }
 
 // An external function.
@@ -109,8 +107,7 @@ fn outer(alloc: Global, cursor: &mut Cursor<'_>) -> Result<Outer, Memory>
     ensures { Gives outer_view result cursor.new (reader.outer cursor.old) }
 {
     let symbol = link_name(alloc, cursor)?;
-    let read = outer_from(alloc, cursor, symbol)?;
-    Ok(read)
+    outer_from(alloc, cursor, symbol)
 }
 
 // One more of external functions of a block.
@@ -159,8 +156,7 @@ fn param(alloc: Global, cursor: &mut Cursor<'_>) -> Result<Local, Memory>
     ensures { Gives local_view result cursor.new (reader.param cursor.old) }
 {
     cursor.skip(1);
-    let read = typed(alloc, cursor)?;
-    Ok(read)
+    typed(alloc, cursor)
 }
 
 // One more of parameters of a function.
@@ -301,6 +297,5 @@ pub(crate) fn function_item(
     ensures { Gives function_view result cursor.new (reader.function_item attribute cursor.old) }
 {
     let head = function_head(alloc, cursor, attribute)?;
-    let read = function_from(alloc, cursor, head)?;
-    Ok(read)
+    function_from(alloc, cursor, head)
 }

@@ -20,8 +20,7 @@ fn record_of(alloc: Global, cursor: &mut Cursor<'_>) -> Result<Boxed<Item>, Memo
     ensures { Gives (λ i. item_view i) result cursor.new (reader.record_of cursor.old) }
 {
     let read = record_item(alloc, cursor)?;
-    let read = Boxed::new(alloc, Item::Record(read))?;
-    Ok(read)
+    Boxed::new(alloc, Item::Record(read))
 }
 
 #[tactic(auto, unfolding(crate::specs::Items::extern_of))]
@@ -29,8 +28,7 @@ fn extern_of(alloc: Global, cursor: &mut Cursor<'_>) -> Result<Boxed<Item>, Memo
     ensures { Gives (λ i. item_view i) result cursor.new (reader.extern_of cursor.old) }
 {
     let read = extern_item(alloc, cursor)?;
-    let read = Boxed::new(alloc, Item::Extern(read))?;
-    Ok(read)
+    Boxed::new(alloc, Item::Extern(read))
 }
 
 #[tactic(auto, unfolding(crate::specs::Items::static_of))]
@@ -42,8 +40,7 @@ fn static_of(
     ensures { Gives (λ i. item_view i) result cursor.new (reader.static_of attribute cursor.old) }
 {
     let read = static_from(alloc, cursor, attribute)?;
-    let read = Boxed::new(alloc, Item::Static(read))?;
-    Ok(read)
+    Boxed::new(alloc, Item::Static(read))
 }
 
 #[tactic(auto, unfolding(crate::specs::Items::function_of))]
@@ -55,8 +52,7 @@ fn function_of(
     ensures { Gives (λ i. item_view i) result cursor.new (reader.function_of attribute cursor.old) }
 {
     let read = function_item(alloc, cursor, attribute)?;
-    let read = Boxed::new(alloc, Item::Function(read))?;
-    Ok(read)
+    Boxed::new(alloc, Item::Function(read))
 }
 
 // A static object or a function, behind its attribute.
@@ -80,8 +76,7 @@ fn attributed(alloc: Global, cursor: &mut Cursor<'_>) -> Result<Boxed<Item>, Mem
     ensures { Gives (λ i. item_view i) result cursor.new (reader.attributed cursor.old) }
 {
     let attribute = attribute(alloc, cursor)?;
-    let read = symbol_item(alloc, cursor, attribute)?;
-    Ok(read)
+    symbol_item(alloc, cursor, attribute)
 }
 
 // What begins with `#`.
@@ -141,6 +136,5 @@ pub fn items_of(alloc: Global, tokens: &[Token]) -> Result<Items<Item>, Memory>
     ensures { IfOk result (λ l. map item_view l ≡ reader.items (tokens_view tokens.now)) }
 {
     let mut cursor = Cursor::new(tokens);
-    let list = read_items(alloc, &mut cursor)?;
-    Ok(list)
+    read_items(alloc, &mut cursor)
 }

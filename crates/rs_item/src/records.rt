@@ -109,8 +109,7 @@ pub(crate) fn record_item(alloc: Global, cursor: &mut Cursor<'_>) -> Result<Reco
 {
     cursor.skip(9);
     let align = repr(cursor);
-    let read = record_from(alloc, cursor, align)?;
-    Ok(read)
+    record_from(alloc, cursor, align)
 }
 
 // The number of a literal.
@@ -200,6 +199,5 @@ pub(crate) fn static_from(
 {
     cursor.skip(3);
     let local = typed(alloc, cursor)?;
-    let read = static_end(alloc, cursor, attribute, local)?;
-    Ok(read)
+    static_end(alloc, cursor, attribute, local)
 }

@@ -46,8 +46,7 @@ pub(crate) fn break_stmt(alloc: Global, cursor: &mut Cursor<'_>) -> Result<Boxed
     cursor.skip(1);
     let label = cursor.name(alloc)?;
     cursor.skip(1);
-    let read = break_of(alloc, label)?;
-    Ok(read)
+    break_of(alloc, label)
 }
 
 /// Reads `continue 'l;`.
@@ -58,8 +57,7 @@ pub(crate) fn continue_stmt(alloc: Global, cursor: &mut Cursor<'_>) -> Result<Bo
     cursor.skip(1);
     let label = cursor.name(alloc)?;
     cursor.skip(1);
-    let read = continue_of(alloc, label)?;
-    Ok(read)
+    continue_of(alloc, label)
 }
 
 // The value of a `return`, behind its word.
@@ -81,8 +79,7 @@ pub(crate) fn return_stmt(alloc: Global, cursor: &mut Cursor<'_>) -> Result<Boxe
     cursor.skip(1);
     let value = returned(alloc, cursor)?;
     cursor.skip(1);
-    let read = return_of(alloc, value)?;
-    Ok(read)
+    return_of(alloc, value)
 }
 
 // An expression and the mark behind it.
@@ -105,8 +102,7 @@ fn copy_stmt(alloc: Global, cursor: &mut Cursor<'_>) -> Result<Boxed<RStmt>, Mem
     let target = copied(alloc, cursor)?;
     let count = copied(alloc, cursor)?;
     cursor.skip(1);
-    let read = copy_of(alloc, source, target, count)?;
-    Ok(read)
+    copy_of(alloc, source, target, count)
 }
 
 // `= e;`
@@ -121,8 +117,7 @@ fn assigned(
     let place = place_of(alloc, left)?;
     cursor.skip(1);
     let value = copied(alloc, cursor)?;
-    let read = assign_of(alloc, place, value)?;
-    Ok(read)
+    assign_of(alloc, place, value)
 }
 
 // `= e;`, or the end of an expression that is a statement.
@@ -147,8 +142,7 @@ pub(crate) fn expr_stmt(alloc: Global, cursor: &mut Cursor<'_>) -> Result<Boxed<
     ensures { Gives (λ s. stmt_view s) result cursor.new (reader.expr_stmt cursor.old) }
 {
     let left = read_expr(alloc, cursor)?;
-    let read = assign_from(alloc, cursor, left)?;
-    Ok(read)
+    assign_from(alloc, cursor, left)
 }
 
 // Whether `core::ptr::copy` is ahead.

@@ -1,8 +1,8 @@
 //! Makers of nodes of statements. Each is refused only for want of memory.
 
 ghost use Rattle.std.specs.Prelude.{◌≡◌, map, option_map, IfOk};
-ghost use Rattle.rs_tree.specs.Tree as tree;
-ghost use Rattle.rs_tree.specs.Tree.{stmts, arms};
+ghost use Rattle.rs_text.specs.Tree as tree;
+ghost use Rattle.rs_text.specs.Tree.{stmts, arms};
 ghost use Rattle.rs_tree.specs.Views.{place_view, expr_view, stmt_view, arm_view};
 
 use cr_base::{Boxed, Int, Items, Memory, Name};

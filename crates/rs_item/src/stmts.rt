@@ -53,8 +53,7 @@ fn if_from(
 {
     let if_true = block(alloc, cursor, levels)?;
     let if_false = else_part(alloc, cursor, levels)?;
-    let read = if_of(alloc, condition, if_true, if_false)?;
-    Ok(read)
+    if_of(alloc, condition, if_true, if_false)
 }
 
 // `if e { .. } else { .. }`
@@ -65,8 +64,7 @@ fn if_stmt(alloc: Global, cursor: &mut Cursor<'_>, levels: usize) -> Result<Boxe
 {
     cursor.skip(1);
     let condition = read_expr(alloc, cursor)?;
-    let read = if_from(alloc, cursor, levels, condition)?;
-    Ok(read)
+    if_from(alloc, cursor, levels, condition)
 }
 
 // `loop { .. }`, behind its label.
@@ -82,8 +80,7 @@ fn loop_from(
 {
     cursor.skip(1);
     let body = block(alloc, cursor, levels)?;
-    let read = loop_of(alloc, label, body)?;
-    Ok(read)
+    loop_of(alloc, label, body)
 }
 
 // `{ .. }`, behind its label.
@@ -98,8 +95,7 @@ fn block_from(
     ensures { Gives (λ s. stmt_view s) result cursor.new (reader.block_from label (reader.read_stmts levels) cursor.old) }
 {
     let body = block(alloc, cursor, levels)?;
-    let read = block_of(alloc, label, body)?;
-    Ok(read)
+    block_of(alloc, label, body)
 }
 
 // `'l: loop { .. }` and `'l: { .. }`
@@ -175,8 +171,7 @@ fn match_end(
     cursor.skip(2);
     let other = block(alloc, cursor, levels)?;
     cursor.skip(1);
-    let read = match_of(alloc, value, cases, other)?;
-    Ok(read)
+    match_of(alloc, value, cases, other)
 }
 
 // `{ .. }` of a match, whose value is read.
@@ -192,8 +187,7 @@ fn match_from(
 {
     cursor.skip(1);
     let cases = arms(alloc, cursor, levels)?;
-    let read = match_end(alloc, cursor, levels, value, cases)?;
-    Ok(read)
+    match_end(alloc, cursor, levels, value, cases)
 }
 
 // `match e { .. }`
@@ -204,8 +198,7 @@ fn match_stmt(alloc: Global, cursor: &mut Cursor<'_>, levels: usize) -> Result<B
 {
     cursor.skip(1);
     let value = read_expr(alloc, cursor)?;
-    let read = match_from(alloc, cursor, levels, value)?;
-    Ok(read)
+    match_from(alloc, cursor, levels, value)
 }
 
 // A statement.

@@ -1,6 +1,6 @@
 -- Calls that are dropped.
 use Rattle.std.proofs.Common.{◌≡◌, refl, Bool, true, false, if◌then◌else◌, Option, Some, None, is_some, option_and_then}
-use Rattle.rs_tree.specs.Tree.{Exprs}
+use Rattle.rs_text.specs.Tree.{Exprs}
 use Rattle.rs_mean.specs.Lookups.{Signature}
 use Rattle.rs_mean.specs.Typing.{Scope, args_fit}
 use Rattle.rs_kinds.specs.Calls.{fits_call}

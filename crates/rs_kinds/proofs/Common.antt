@@ -1,6 +1,6 @@
 -- The one kind of two values, by tests.
 use Rattle.std.proofs.Common.{◌≡◌, refl, Bool, true, false, if◌then◌else◌, Some}
-use Rattle.rs_tree.specs.Tree.{Ty}
+use Rattle.rs_text.specs.Tree.{Ty}
 use Rattle.rs_mean.specs.Scalars.{same_type}
 use Rattle.rs_mean.specs.Typing.{Kind, of, of_none, is_code, common}
 use Rattle.rs_kinds.specs.Kinds.{is_none_kind, is_of_kind, takes_none, kept}

@@ -1,6 +1,6 @@
 -- A name among parameters and locals.
 use Rattle.std.proofs.Common.{◌≡◌, refl, ap, ◌∙◌, ℕ, Bool, true, false, if◌then◌else◌, List, [], ◌∷◌, ◌++◌, bytes_eq, option_map, Option, Some}
-use Rattle.rs_tree.specs.Tree.{Ty, LocalTree}
+use Rattle.rs_text.specs.Tree.{Ty, LocalTree}
 use Rattle.rs_mean.specs.Lookups.{local_type}
 use Rattle.rs_layout.specs.Found.{or_else}
 

@@ -1,6 +1,6 @@
 -- Types as lists.
 use Rattle.std.proofs.Common.{◌≡◌, refl, ap, List, [], ◌∷◌, Option, Some, None}
-use Rattle.rs_tree.specs.Tree.{Ty, tys, option_ty}
+use Rattle.rs_text.specs.Tree.{Ty, tys, option_ty}
 use Rattle.rs_mean.specs.Typing.{listed, pointed_result}
 
 pub listed_tys : (types : List Ty) → listed (tys types) ≡ types

@@ -1,6 +1,6 @@
 -- Calls that are dropped.
 use Rattle.std.specs.Prelude.{Bool, false, Option, Some, None}
-use Rattle.rs_tree.specs.Tree.{Exprs}
+use Rattle.rs_text.specs.Tree.{Exprs}
 use Rattle.rs_mean.specs.Lookups.{Signature}
 use Rattle.rs_mean.specs.Typing.{Scope, args_fit}
 

@@ -1,6 +1,6 @@
 -- The kinds of three forms, by those of their operands.
 use Rattle.std.specs.Prelude.{ℕ, List, ◌&&◌, Option, Some, None, option_and_then, if◌then◌else◌}
-use Rattle.rs_tree.specs.Tree.{Ty, Tys, OptionTy, Pointer, Code, ModuleTree, Expr, Wrapped, Offset, OffsetFrom, Binary, And, Or, Choose, Exprs, option_ty}
+use Rattle.rs_text.specs.Tree.{Ty, Tys, OptionTy, Pointer, Code, ModuleTree, Expr, Wrapped, Offset, OffsetFrom, Binary, And, Or, Choose, Exprs, option_ty}
 use Rattle.rs_mean.specs.Lookups.{Signature}
 use Rattle.rs_mean.specs.Typing.{Kind, Scope, args_fit, given_kind, is_code, is_function_of, is_of_type, is_target, only_if, own_function_at, type_stands}
 

@@ -1,6 +1,6 @@
 -- Which kind each held one is, and the tests on kinds.
 use Rattle.std.specs.Prelude.{Bool, true, false, ◌||◌, map, option_map, Option, Some, None}
-use Rattle.rs_tree.specs.Tree.{Ty, Integer, Boolean, Void, Pointer, Array, Code, Record, tys, option_ty}
+use Rattle.rs_text.specs.Tree.{Ty, Integer, Boolean, Void, Pointer, Array, Code, Record, tys, option_ty}
 use Rattle.rs_tree.specs.Views.{ty_view}
 use Rattle.rs_mean.specs.Scalars.{is_integer}
 use Rattle.rs_mean.specs.Typing.{Kind, of, of_none, is_of, is_code, is_pointer, casts}

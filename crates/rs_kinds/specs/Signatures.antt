@@ -1,6 +1,6 @@
 -- Which signature a held one is.
 use Rattle.std.specs.Prelude.{List, [], ◌∷◌, map, option_map, Option, Some, None}
-use Rattle.rs_tree.specs.Tree.{Ty}
+use Rattle.rs_text.specs.Tree.{Ty}
 use Rattle.rs_tree.specs.Views.{ty_view, local_view}
 use Rattle.rs_mean.specs.Lookups.{Signature}
 use Rattle.rs_kinds.specs.declared.signature.HeldParams.{HeldParams}

@@ -3,7 +3,7 @@
 ghost use Rattle.std.specs.Prelude.{◌≡◌, map, option_map};
 ghost use Rattle.std.specs.Option.{option_copied};
 ghost use Rattle.rs_mean.specs.Typing.{args_fit, kind_of, place_type};
-ghost use Rattle.rs_tree.specs.Tree.{exprs};
+ghost use Rattle.rs_text.specs.Tree.{exprs};
 ghost use Rattle.rs_tree.specs.Views.{ty_view, expr_view, place_view, module_view};
 ghost use Rattle.rs_kinds.specs.Forms as forms;
 ghost use Rattle.rs_kinds.specs.Kinds.{kind_view};

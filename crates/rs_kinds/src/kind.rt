@@ -4,8 +4,8 @@ ghost use Rattle.std.specs.Prelude.{◌≡◌, Some, map, option_map};
 ghost use Rattle.std.specs.Option.{option_copied};
 ghost use Rattle.rs_mean.specs.Scalars.{is_scalar, is_integer};
 ghost use Rattle.rs_mean.specs.Typing.{of, is_of, common, own_type, is_signed, is_bits, is_pointer, target_type};
-ghost use Rattle.rs_tree.specs.Tree as tree;
-ghost use Rattle.rs_tree.specs.Tree.{tys, option_ty};
+ghost use Rattle.rs_text.specs.Tree as tree;
+ghost use Rattle.rs_text.specs.Tree.{tys, option_ty};
 ghost use Rattle.rs_tree.specs.Views.{ty_view};
 ghost use Rattle.rs_kinds.specs.Kinds.{kind_view, has_type, is_none_kind, is_of_kind, is_ordered, kept, takes_none};
 

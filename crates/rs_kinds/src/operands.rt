@@ -5,8 +5,8 @@ ghost use Rattle.std.specs.Prelude.{◌≡◌, map, option_map};
 ghost use Rattle.std.specs.Option.{option_copied};
 ghost use Rattle.rs_mean.specs.Scalars.{is_integer};
 ghost use Rattle.rs_mean.specs.Typing.{as_truth, binary_kind, both_are, is_bits, is_of_type, is_signed, is_trailing, none_kind, null_kind, of_type, own_type, shift_kind, target_type, where_is};
-ghost use Rattle.rs_tree.specs.declared.expr.Operator.TheVariants.{Equal, Less};
-ghost use Rattle.rs_tree.specs.Tree as tree;
+ghost use Rattle.rs_text.specs.declared.operator.Operator.TheVariants.{Equal, Less};
+ghost use Rattle.rs_text.specs.Tree as tree;
 ghost use Rattle.rs_tree.specs.Views.{ty_view};
 ghost use Rattle.rs_kinds.specs.Kinds.{casts_from, kind_view};
 

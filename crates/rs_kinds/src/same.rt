@@ -2,8 +2,8 @@
 
 ghost use Rattle.std.specs.Prelude.{◌≡◌, ◌&&◌, bytes_eq, map, option_map};
 ghost use Rattle.rs_mean.specs.Scalars.{integer_number, is_signed_integer, same_integer, same_type, same_types, same_results};
-ghost use Rattle.rs_tree.specs.Tree as tree;
-ghost use Rattle.rs_tree.specs.Tree.{tys, option_ty};
+ghost use Rattle.rs_text.specs.Tree as tree;
+ghost use Rattle.rs_text.specs.Tree.{tys, option_ty};
 ghost use Rattle.rs_tree.specs.Views.{ty_view};
 
 use cr_base::{Boxed, Items};

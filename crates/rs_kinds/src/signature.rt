@@ -5,7 +5,7 @@ ghost use Rattle.rs_mean.specs.Lookups.{signature_of};
 ghost use Rattle.rs_mean.specs.Scalars.{same_types};
 ghost use Rattle.rs_mean.specs.Typing as typing;
 ghost use Rattle.rs_mean.specs.Typing.{own_type};
-ghost use Rattle.rs_tree.specs.Tree.{tys, option_ty};
+ghost use Rattle.rs_text.specs.Tree.{tys, option_ty};
 ghost use Rattle.rs_tree.specs.Views.{ty_view, local_view, module_view};
 ghost use Rattle.rs_layout.specs.Found.{callee_view};
 ghost use Rattle.rs_kinds.specs.Kinds.{kind_view};

@@ -4,9 +4,9 @@ ghost use Rattle.std.specs.Prelude.{◌≡◌, ◌&&◌, map, option_map, is_som
 ghost use Rattle.rs_mean.specs.Layout as layout;
 ghost use Rattle.rs_mean.specs.Scalars.{is_scalar};
 ghost use Rattle.rs_mean.specs.Typing.{is_length, object_stands, params_stand, result_stands, type_stands};
-ghost use Rattle.rs_tree.specs.Tree as tree;
-ghost use Rattle.rs_tree.specs.Tree.{tys, option_ty};
-ghost use Rattle.rs_tree.specs.Valid.{is_void};
+ghost use Rattle.rs_text.specs.Tree as tree;
+ghost use Rattle.rs_text.specs.Tree.{tys, option_ty};
+ghost use Rattle.rs_text.specs.Valid.{is_void};
 ghost use Rattle.rs_tree.specs.Views.{ty_view, module_view};
 ghost use Rattle.rs_layout.specs.Layouts.{ModulesAreAligned};
 

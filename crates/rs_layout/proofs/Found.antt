@@ -1,6 +1,6 @@
 -- What a search finds is what paths name.
 use Rattle.std.proofs.Common.{◌≡◌, refl, sym, ap, ◌∙◌, ℕ, ◌+◌, Bool, true, false, ◌&&◌, if◌then◌else◌, List, [], ◌∷◌, ◌++◌, map, flat_map, find, length, slice_get, bytes_eq, option_map, option_and_then, Option, Some, None, arith}
-use Rattle.rs_tree.specs.Tree.{Ty, StaticTree, OuterTree, FunctionTree, ItemTree, RecordItem, StaticItem, ExternItem, FunctionItem, ModuleTree}
+use Rattle.rs_text.specs.Tree.{Ty, StaticTree, OuterTree, FunctionTree, ItemTree, RecordItem, StaticItem, ExternItem, FunctionItem, ModuleTree}
 use Rattle.rs_mean.specs.Lookups.{Callee, outer, own, callee_name, callees_of, callee_among, callee_at, items_in, OwnFunction, own_functions_in, functions_of, is_own, number_from, function_number, function_with, OwnStatic, statics_in, statics_of, static_from, static_home}
 use Rattle.rs_mean.specs.Typing.{home_type, own_function_at}
 use Rattle.rs_layout.specs.Found.{or_else, static_with, static_among, static_at, function_with_name, function_among, function_at, outer_named, callee_in, callee_in_items}

@@ -7,8 +7,8 @@ use Rattle.cr_base.specs.Layout.{most_bytes, after, no_front, laid}
 use Rattle.cr_base.specs.declared.layout.Front.{Front}
 use Rattle.cr_base.specs.declared.layout.Laid.{Laid}
 use Rattle.cr_base.proofs.Layouts.{stays_too_large}
+use Rattle.rs_text.specs.Tree.{Ty, Integer, Boolean, Void, Pointer, Array, Code, Record, FieldTree, RecordTree, ItemTree, RecordItem, StaticItem, ExternItem, FunctionItem}
 use Rattle.rs_tree.specs.declared.ty.RPath.{RPath}
-use Rattle.rs_tree.specs.Tree.{Ty, Integer, Boolean, Void, Pointer, Array, Code, Record, FieldTree, RecordTree, ItemTree, RecordItem, StaticItem, ExternItem, FunctionItem}
 use Rattle.rs_mean.specs.Layout.{laid_with, laid_among, record_laid, repeated, within_most, piece_of, behind, front_after, raised_by, FieldPlace, placed, field_behind}
 use Rattle.rs_layout.specs.Layouts.{record_of, array_laid, plain_laid, FoundRecord, first_found, found_among, by_front, front_behind, fronts, finished, field_type_among, IsAligned, AreAligned}
 

@@ -3,8 +3,8 @@ use Rattle.std.proofs.Common.{◌≡◌, refl, sym, subst, arith, ℕ, ◌≤◌
 use Rattle.std.specs.List.{list_all}
 use Rattle.std.proofs.lemmas.List.{reverse-append}
 use Rattle.std.proofs.lemmas.Bool.Decides.{nat_tests}
-use Rattle.rs_tree.specs.Tree.{ItemTree, RecordItem, StaticItem, ExternItem, FunctionItem, ModuleTree, CrateTree}
-use Rattle.rs_tree.specs.Valid.{valid_align, valid_item, valid_items, valid_crate}
+use Rattle.rs_text.specs.Tree.{ItemTree, RecordItem, StaticItem, ExternItem, FunctionItem, ModuleTree, CrateTree}
+use Rattle.rs_text.specs.Valid.{valid_align, valid_item, valid_items, valid_crate}
 use Rattle.rs_mean.specs.Lookups.{items_in}
 use Rattle.rs_layout.specs.Layouts.{IsAligned, AreAligned, ModulesAreAligned}
 

@@ -1,8 +1,8 @@
 -- Worked layouts: `pub struct p { pub a: i8, pub b: i32 }`, and `#[repr(C, align(16))] pub struct q { pub c: [p; 3], pub d: *mut p }`
 -- behind it.
 use Rattle.std.proofs.Common.{◌≡◌, refl, false, List, [], ◌∷◌, codes, Some, None}
-use Rattle.rs_tree.specs.declared.ty.IntegerTy.TheVariants.{I8, I32}
-use Rattle.rs_tree.specs.Tree.{Integer, Pointer, Array, Record, RecordTree, RecordItem, ModuleTree}
+use Rattle.rs_text.specs.declared.integer.IntegerTy.TheVariants.{I8, I32}
+use Rattle.rs_text.specs.Tree.{Integer, Pointer, Array, Record, RecordTree, RecordItem, ModuleTree}
 use Rattle.rs_mean.specs.Layout.{laid_of, record_laid}
 use Rattle.rs_layout.specs.Layouts.{by_front}
 use Rattle.rs_layout.specs.LayoutsNumbered.{field_byte, named_byte}

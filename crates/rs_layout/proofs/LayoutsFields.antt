@@ -9,9 +9,9 @@ use Rattle.std.proofs.lemmas.Bool.Decides.{nat_tests}
 use Rattle.cr_base.specs.Layout.{most_bytes, after, no_front, spot}
 use Rattle.cr_base.specs.declared.layout.Front.{Front}
 use Rattle.cr_base.specs.declared.layout.Laid.{Laid}
-use Rattle.rs_tree.specs.Names.{is_among}
-use Rattle.rs_tree.specs.Valid.{all_differ, valid_names, valid_crate}
-use Rattle.rs_tree.specs.Tree.{Ty, Integer, Boolean, Void, Pointer, Array, Code, Record, FieldTree, RecordTree, ItemTree, RecordItem, StaticItem, ExternItem, FunctionItem, ModuleTree, CrateTree}
+use Rattle.rs_text.specs.Names.{is_among}
+use Rattle.rs_text.specs.Valid.{all_differ, valid_names, valid_crate}
+use Rattle.rs_text.specs.Tree.{Ty, Integer, Boolean, Void, Pointer, Array, Code, Record, FieldTree, RecordTree, ItemTree, RecordItem, StaticItem, ExternItem, FunctionItem, ModuleTree, CrateTree}
 use Rattle.rs_mean.specs.Lookups.{items_in}
 use Rattle.rs_mean.specs.Layout.{laid_with, laid_among, laid_at, laid_of, record_laid, repeated, piece_of, behind, front_after}
 use Rattle.rs_mean.specs.Typing.{item_names, names_differ, item_typed, first_ill_item, first_ill_from, well_typed}

@@ -7,9 +7,9 @@ use Rattle.std.proofs.lemmas.Bool.{and_parts}
 use Rattle.cr_base.specs.Layout.{no_front}
 use Rattle.cr_base.specs.declared.layout.Front.{Front}
 use Rattle.cr_base.specs.declared.layout.Laid.{Laid}
-use Rattle.rs_tree.specs.Names.{is_among}
-use Rattle.rs_tree.specs.Valid.{all_differ, valid_crate}
-use Rattle.rs_tree.specs.Tree.{Ty, FieldTree, RecordTree, ItemTree, RecordItem, StaticItem, ExternItem, FunctionItem, ModuleTree, CrateTree}
+use Rattle.rs_text.specs.Names.{is_among}
+use Rattle.rs_text.specs.Valid.{all_differ, valid_crate}
+use Rattle.rs_text.specs.Tree.{Ty, FieldTree, RecordTree, ItemTree, RecordItem, StaticItem, ExternItem, FunctionItem, ModuleTree, CrateTree}
 use Rattle.rs_mean.specs.Lookups.{items_in, record_among, record_at}
 use Rattle.rs_mean.specs.Layout.{FieldPlace, laid_of, behind, placed, field_behind, field_of, front_after}
 use Rattle.rs_mean.specs.Typing.{item_names, names_differ, item_typed, first_ill_item, well_typed}

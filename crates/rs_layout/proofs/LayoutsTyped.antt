@@ -3,8 +3,8 @@ use Rattle.std.proofs.Common.{◌≡◌, refl, sym, ap, ◌∙◌, subst, ℕ, �
 use Rattle.std.specs.Cmp.Lexicographic.{same_text}
 use Rattle.std.proofs.lemmas.Bool.{and_parts}
 use Rattle.std.proofs.lemmas.List.{reverse-append}
-use Rattle.rs_tree.specs.Tree.{Ty, Integer, Boolean, Void, Pointer, Array, Code, Record, RecordTree, ItemTree, RecordItem, StaticItem, ExternItem, FunctionItem, ModuleTree, CrateTree}
-use Rattle.rs_tree.specs.Valid.{all_differ}
+use Rattle.rs_text.specs.Tree.{Ty, Integer, Boolean, Void, Pointer, Array, Code, Record, RecordTree, ItemTree, RecordItem, StaticItem, ExternItem, FunctionItem, ModuleTree, CrateTree}
+use Rattle.rs_text.specs.Valid.{all_differ}
 use Rattle.rs_mean.specs.Lookups.{items_in, record_among, record_at}
 use Rattle.rs_mean.specs.Layout.{laid_among, laid_at, laid_of, record_laid}
 use Rattle.rs_mean.specs.Typing.{by_earlier, has_fields, names_differ, item_typed, first_ill_item, ItemPlace, placed_in, first_ill_from, well_typed, type_stands}

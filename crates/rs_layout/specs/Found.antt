@@ -1,6 +1,6 @@
 -- Items that paths name, by search alone, without their numbers.
 use Rattle.std.specs.Prelude.{ℕ, ◌&&◌, List, [], ◌∷◌, option_map, Option, Some, None, bytes_eq, if◌then◌else◌}
-use Rattle.rs_tree.specs.Tree.{RecordTree, StaticTree, OuterTree, FunctionTree, ItemTree, RecordItem, StaticItem, ExternItem, FunctionItem, ModuleTree}
+use Rattle.rs_text.specs.Tree.{RecordTree, StaticTree, OuterTree, FunctionTree, ItemTree, RecordItem, StaticItem, ExternItem, FunctionItem, ModuleTree}
 use Rattle.rs_tree.specs.Views.{outer_view, function_view}
 use Rattle.rs_mean.specs.Lookups.{Callee, outer, own}
 use Rattle.rs_layout.specs.declared.lookup.HeldCallee.{HeldCallee}

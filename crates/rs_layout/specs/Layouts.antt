@@ -4,8 +4,8 @@ use Rattle.std.specs.Prelude.{ℕ, ◌-◌, ◌*◌, ◌≤◌, ◌<◌, nat_eq,
 use Rattle.cr_base.specs.Layout.{most_bytes, after, laid, spot}
 use Rattle.cr_base.specs.declared.layout.Front.{Front}
 use Rattle.cr_base.specs.declared.layout.Laid.{Laid}
+use Rattle.rs_text.specs.Tree.{Ty, Integer, Boolean, Void, Pointer, Array, Code, Record, FieldTree, RecordTree, ItemTree, RecordItem, StaticItem, ExternItem, FunctionItem, ModuleTree}
 use Rattle.rs_tree.specs.declared.ty.RPath.{RPath}
-use Rattle.rs_tree.specs.Tree.{Ty, Integer, Boolean, Void, Pointer, Array, Code, Record, FieldTree, RecordTree, ItemTree, RecordItem, StaticItem, ExternItem, FunctionItem, ModuleTree}
 use Rattle.rs_tree.specs.Views.{item_view, record_view}
 use Rattle.rs_layout.specs.declared.layout.Found.{Found}
 use Rattle.rs_mean.specs.Lookups.{items_in}

@@ -3,8 +3,8 @@ use Rattle.std.specs.Prelude.{ℕ, Bool, ◌||◌, List, take, slice_get, Option
 use Rattle.cr_base.specs.Layout.{no_front, spot}
 use Rattle.cr_base.specs.declared.layout.Front.{Front}
 use Rattle.cr_base.specs.declared.layout.Laid.{Laid}
-use Rattle.rs_tree.specs.Tree.{Ty, FieldTree, RecordTree, ItemTree, RecordItem, StaticItem, ExternItem, FunctionItem, ModuleTree}
-use Rattle.rs_tree.specs.Valid.{is_void}
+use Rattle.rs_text.specs.Tree.{Ty, FieldTree, RecordTree, ItemTree, RecordItem, StaticItem, ExternItem, FunctionItem, ModuleTree}
+use Rattle.rs_text.specs.Valid.{is_void}
 use Rattle.rs_mean.specs.Layout.{laid_of, field_at, front_after, piece_of}
 use Rattle.rs_mean.specs.Typing.{type_stands}
 

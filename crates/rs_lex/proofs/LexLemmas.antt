@@ -6,8 +6,8 @@ use Rattle.std.proofs.lemmas.Bool.{and_parts}
 use Rattle.std.proofs.lemmas.List.{get_or_past}
 use Rattle.std.proofs.lemmas.List.Sums.{prefix_len-le-length}
 use Rattle.std.proofs.lemmas.Bool.Decides.{nat_tests}
-use Rattle.rs_tree.specs.Names.{is_word_byte}
-use Rattle.rs_tree.specs.Tokens.{RToken, Word, Label, Quoted, Mark, Front, marks, is_blank, is_prefix_mark, word_size, word_front, is_raw, quoted_size, quoted_front, label_front, first_mark, begins_comment, mark_front, token_at, piece_at, then_tokens, tokens_behind, tokens_within, tokens_in}
+use Rattle.rs_text.specs.Names.{is_word_byte}
+use Rattle.rs_text.specs.Tokens.{RToken, Word, Label, Quoted, Mark, Front, marks, is_blank, is_prefix_mark, word_size, word_front, is_raw, quoted_size, quoted_front, label_front, first_mark, begins_comment, mark_front, token_at, piece_at, then_tokens, tokens_behind, tokens_within, tokens_in}
 use Rattle.rs_lex.specs.declared.angles.Last.{Last}
 use Rattle.rs_lex.specs.declared.angles.Last.TheVariants.{Other}
 use Rattle.rs_lex.specs.declared.token.Token.{Token}

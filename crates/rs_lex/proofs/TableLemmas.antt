@@ -1,6 +1,6 @@
 -- The table of marks.
 use Rattle.std.proofs.Common.{◌≡◌, ℕ, List, ap, refl}
-use Rattle.rs_tree.specs.Tokens.{marks, first_mark}
+use Rattle.rs_text.specs.Tokens.{marks, first_mark}
 use Rattle.rs_lex.specs.Table.{mark_table}
 
 tables_agree : mark_table ≡ marks

@@ -3,7 +3,7 @@
 use Rattle.std.specs.Prelude.{ℕ, ◌+◌, ◌-◌, Bool, false, ◌&&◌, nat_le, bytes_eq, codes, List, [], ◌∷◌, ◌++◌, replicate, Option, option_map, if◌then◌else◌}
 use Rattle.rs_lex.specs.declared.angles.Last.{Last}
 use Rattle.rs_lex.specs.declared.angles.Last.TheVariants.{Other, PathMark, LessMark}
-use Rattle.rs_tree.specs.Tokens.{RToken, Word, Mark, Close, tokens_in}
+use Rattle.rs_text.specs.Tokens.{RToken, Word, Mark, Close, tokens_in}
 
 abbrev pub is_mark : List ℕ → RToken → Bool
 is_mark mark (Mark text) = bytes_eq text mark

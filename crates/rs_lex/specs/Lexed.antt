@@ -6,7 +6,7 @@ use Rattle.rs_lex.specs.declared.lexer.LexFault.TheVariants.{NotTokens, Memory}
 use Rattle.rs_lex.specs.declared.token.Token.{Token}
 use Rattle.rs_lex.specs.Views.{tokens_view}
 use Rattle.rs_lex.specs.Closed.{closed_from, closed_in, open_behind, last_of}
-use Rattle.rs_tree.specs.Tokens.{RToken, tokens_in, then_tokens}
+use Rattle.rs_text.specs.Tokens.{RToken, tokens_in, then_tokens}
 
 -- the answer is these tokens, or that there are none, want of memory aside
 abbrev pub IsLexed : Option (List RToken) → Result (List Token) LexFault → Type 0

@@ -1,6 +1,6 @@
 -- Tokens that are the same, as a test.
 use Rattle.std.specs.Prelude.{ℕ, Bool, true, false, ◌&&◌, bytes_eq, List, [], ◌∷◌}
-use Rattle.rs_tree.specs.Tokens.{RToken, Word, Label, Quoted, Mark, Close}
+use Rattle.rs_text.specs.Tokens.{RToken, Word, Label, Quoted, Mark, Close}
 
 abbrev pub same_name : List ℕ → List ℕ → Bool
 same_name one other = bytes_eq one other

@@ -5,8 +5,8 @@ use Rattle.rs_lex.specs.declared.front.Piece.{Piece}
 use Rattle.rs_lex.specs.declared.token.Token.{Token}
 use Rattle.rs_lex.specs.declared.token.TokenKind.{TokenKind}
 use Rattle.rs_lex.specs.declared.token.TokenKind.TheVariants as kind
-use Rattle.rs_tree.specs.Tokens.{RToken, Word, Label, Quoted, Mark, Close}
-use Rattle.rs_tree.specs.Tokens as tokens
+use Rattle.rs_text.specs.Tokens.{RToken, Word, Label, Quoted, Mark, Close}
+use Rattle.rs_text.specs.Tokens as tokens
 
 abbrev pub kind_view : TokenKind → RToken
 kind_view (kind.Word name) = Word name

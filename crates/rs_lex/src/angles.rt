@@ -3,7 +3,7 @@
 ghost use Rattle.std.specs.Prelude.{◌≡◌, ◌<◌, ◌≤◌, ◌+◌, ◌-◌, ◌^◌, ◌++◌, OnOk, replicate};
 ghost use Rattle.rs_lex.specs.Closed as closed;
 ghost use Rattle.rs_lex.specs.Views.{kind_view, tokens_view};
-ghost use Rattle.rs_tree.specs.Tokens as tree;
+ghost use Rattle.rs_text.specs.Tokens as tree;
 
 use crate::token::{Token, TokenKind};
 use cr_base::{Items, Memory};

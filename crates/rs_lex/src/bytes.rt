@@ -2,8 +2,8 @@
 
 ghost use Rattle.std.specs.Prelude.{◌≡◌, ◌≢◌, ◌<◌, ◌≤◌, length, slice_index};
 ghost use Rattle.std.specs.List.{prefix_len};
-ghost use Rattle.rs_tree.specs.Names as names;
-ghost use Rattle.rs_tree.specs.Tokens as tokens;
+ghost use Rattle.rs_text.specs.Names as names;
+ghost use Rattle.rs_text.specs.Tokens as tokens;
 
 /// The byte at an index, or 0 past the end.
 pub(crate) fn byte(bytes: &[u8], at: usize) -> u8

@@ -2,7 +2,7 @@
 
 ghost use Rattle.std.specs.Prelude.{◌≡◌, ◌≤◌, ◌+◌, [], ◌∷◌, Some, true, option_map, length, drop, IfOk};
 ghost use Rattle.rs_lex.specs.Views.{token_seen, piece_seen, piece_in};
-ghost use Rattle.rs_tree.specs.Tokens as tokens;
+ghost use Rattle.rs_text.specs.Tokens as tokens;
 
 use crate::bytes::{byte, is_blank, is_prefix_mark, is_word_byte, quoted_size, word_size};
 use crate::marks::mark_at;

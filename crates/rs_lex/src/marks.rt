@@ -4,7 +4,7 @@ ghost use Rattle.std.specs.Prelude.{◌≡◌, ◌≤◌, length, map, IfSome};
 ghost use Rattle.std.specs.Option.{option_copied};
 ghost use Rattle.rs_lex.specs.Table.{mark_table};
 ghost use Rattle.rs_lex.specs.Views.{mark_seen};
-ghost use Rattle.rs_tree.specs.Tokens as tokens;
+ghost use Rattle.rs_text.specs.Tokens as tokens;
 
 // The marks of three, two and one bytes ("Punctuation").
 const MARKS: [&[u8]; 52] = [

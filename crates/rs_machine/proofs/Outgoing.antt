@@ -12,7 +12,7 @@ use Rattle.rs_mean.specs.Calls.{answer_as, known_call, outer_call, outer_by, tak
 use Rattle.rs_mean.specs.Lookups.{symbol_of}
 use Rattle.rs_mean.specs.Values.{Typed}
 use Rattle.rs_mean.specs.World.{Run, Did, pure, seq, looks, or_fails, grants, cause_of_held}
-use Rattle.rs_tree.specs.Tree.{Ty, OuterTree}
+use Rattle.rs_text.specs.Tree.{Ty, OuterTree}
 use Rattle.rs_value.specs.declared.trouble.Trouble.{Trouble}
 use Rattle.rs_value.specs.declared.trouble.Trouble.TheVariants as trouble
 use Rattle.rs_value.specs.declared.typed.TypedValue.{TypedValue}

@@ -19,7 +19,7 @@ use Rattle.rs_mean.specs.Calls.{Spot}
 use Rattle.rs_mean.specs.Scalars.{scalar_of, integer_scalar}
 use Rattle.rs_mean.specs.Values.{Typed, typed}
 use Rattle.rs_mean.specs.World.{cause_of, cause_of_held, or_cause, then_try}
-use Rattle.rs_tree.specs.Tree.{Ty, Integer, Boolean, Pointer}
+use Rattle.rs_text.specs.Tree.{Ty, Integer, Boolean, Pointer}
 use Rattle.rs_value.specs.declared.trouble.Trouble.{Trouble}
 use Rattle.rs_value.specs.declared.trouble.Trouble.TheVariants as trouble
 

@@ -8,7 +8,7 @@ use Rattle.rs_mean.specs.declared.cause.Cause.{Cause}
 use Rattle.rs_mean.specs.declared.cause.Cause.TheVariants.{WrongCall, Dead, Outside, Overlap}
 use Rattle.rs_mean.specs.Values.{Typed, typed}
 use Rattle.rs_mean.specs.World.{cause_of_held}
-use Rattle.rs_tree.specs.Tree.{Ty}
+use Rattle.rs_text.specs.Tree.{Ty}
 use Rattle.rs_value.specs.declared.trouble.Trouble.{Trouble}
 use Rattle.rs_value.specs.declared.trouble.Trouble.TheVariants as trouble
 use Rattle.rs_value.specs.declared.typed.TypedValue.{TypedValue}

@@ -11,7 +11,7 @@ ghost use Rattle.rs_mean.specs.Calls as piece;
 ghost use Rattle.rs_mean.specs.Lookups.{symbol_of};
 ghost use Rattle.mem_bytes.specs.Counted.{Limit};
 ghost use Rattle.rs_mean.specs.World.{grants, or_fails, pure, seq};
-ghost use Rattle.rs_tree.specs.Names.{bare_name};
+ghost use Rattle.rs_text.specs.Names.{bare_name};
 ghost use Rattle.rs_tree.specs.Views.{outer_view, ty_view};
 ghost use Rattle.rs_value.specs.Views.{seen_as, typed_view};
 

@@ -6,7 +6,7 @@ use Rattle.cr_world.specs.World.{World, Stop, Got, answered, granted, object_beg
 use Rattle.ext_calls.specs.declared.call.Call.{Call}
 use Rattle.mem_bytes.specs.declared.value.Ptr.{Ptr}
 use Rattle.mem_bytes.specs.declared.value.Value.{Value}
-use Rattle.rs_tree.specs.Tree.{OuterTree, FunctionTree, ModuleTree}
+use Rattle.rs_text.specs.Tree.{OuterTree, FunctionTree, ModuleTree}
 use Rattle.rs_mean.specs.declared.cause.Cause.{Cause}
 use Rattle.rs_mean.specs.Calls.{outer_call}
 use Rattle.rs_mean.specs.Laws.{LeavesWithin, LeavesNoMore}

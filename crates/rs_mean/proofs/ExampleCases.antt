@@ -3,9 +3,9 @@
 use Rattle.std.specs.Prelude.{◌≡◌, pos, negsuc, true, false, [], ◌∷◌, Some, None, codes}
 use Rattle.std.proofs.Common.{refl}
 use Rattle.cr_world.specs.Known.{known_table}
-use Rattle.rs_tree.specs.declared.item.Attribute.TheVariants.{Mangled}
-use Rattle.rs_tree.specs.declared.ty.IntegerTy.TheVariants.{I8, I16, I32, I64, U8, U16, U32, U64, Isize, Usize}
-use Rattle.rs_tree.specs.Tree.{Integer, Void, Pointer, Array, Code, Record, no_ty, some_ty, Local, Static, Field, Literal, NoFunction, Read, Call as Calls, IsNull, IsNone, NullPointer, SomeFunction, Transmute, Cast, exprs, Assign, Eval, Break, Return, stmts, tys, RecordItem, StaticItem, ExternItem, FunctionItem}
+use Rattle.rs_text.specs.declared.attribute.Attribute.TheVariants.{Mangled}
+use Rattle.rs_text.specs.declared.integer.IntegerTy.TheVariants.{I8, I16, I32, I64, U8, U16, U32, U64, Isize, Usize}
+use Rattle.rs_text.specs.Tree.{Integer, Void, Pointer, Array, Code, Record, no_ty, some_ty, Local, Static, Field, Literal, NoFunction, Read, Call as Calls, IsNull, IsNone, NullPointer, SomeFunction, Transmute, Cast, exprs, Assign, Eval, Break, Return, stmts, tys, RecordItem, StaticItem, ExternItem, FunctionItem}
 use Rattle.rs_mean.specs.Typing.{first_ill}
 
 -- ---- names

@@ -4,11 +4,11 @@ use Rattle.std.specs.Prelude.{◌≡◌, pos, negsuc, true, false, [], ◌∷◌
 use Rattle.std.proofs.Common.{refl}
 use Rattle.cr_world.specs.Known.{known_table}
 use Rattle.cr_world.specs.World.{wrong}
-use Rattle.rs_tree.specs.declared.expr.Operator.TheVariants.{Add, Sub, Mul, Div, Rem, BitAnd, BitOr, BitXor, Shl, Shr, Equal, NotEqual, Less, LessEqual, Greater, GreaterEqual}
-use Rattle.rs_tree.specs.declared.expr.Wrapping.TheVariants.{WrappingMul}
-use Rattle.rs_tree.specs.declared.item.Attribute.TheVariants.{Mangled}
-use Rattle.rs_tree.specs.declared.ty.IntegerTy.TheVariants.{I8, I16, I32, I64, U8, U16, U32, U64, Isize, Usize}
-use Rattle.rs_tree.specs.Tree.{Integer, Boolean, Pointer, Array, Code, Record, no_ty, Local, Static, Deref, Field, Literal, Truth, Read, Call as Calls, Wrapped, WrappingNeg, Offset, OffsetFrom, IsNull, IsNone, AddressOf, NullPointer, Neg, Cast, Binary, And, Or, Choose, exprs, Assign, Return, stmts, tys, RecordItem, StaticItem, FunctionItem}
+use Rattle.rs_text.specs.declared.attribute.Attribute.TheVariants.{Mangled}
+use Rattle.rs_text.specs.declared.integer.IntegerTy.TheVariants.{I8, I16, I32, I64, U8, U16, U32, U64, Isize, Usize}
+use Rattle.rs_text.specs.declared.operator.Operator.TheVariants.{Add, Sub, Mul, Div, Rem, BitAnd, BitOr, BitXor, Shl, Shr, Equal, NotEqual, Less, LessEqual, Greater, GreaterEqual}
+use Rattle.rs_text.specs.declared.operator.Wrapping.TheVariants.{WrappingMul}
+use Rattle.rs_text.specs.Tree.{Integer, Boolean, Pointer, Array, Code, Record, no_ty, Local, Static, Deref, Field, Literal, Truth, Read, Call as Calls, Wrapped, WrappingNeg, Offset, OffsetFrom, IsNull, IsNone, AddressOf, NullPointer, Neg, Cast, Binary, And, Or, Choose, exprs, Assign, Return, stmts, tys, RecordItem, StaticItem, FunctionItem}
 use Rattle.rs_mean.specs.declared.cause.Cause.TheVariants as cause
 use Rattle.rs_mean.specs.Run.{ended, stopped, rs_run}
 use Rattle.rs_mean.specs.World.{pure, fails, ends, seq, takes_unit, local, tells, grants, begins, rounds}

@@ -5,11 +5,11 @@ use Rattle.cr_base.specs.declared.scalar.Scalar.TheVariants as scalar
 use Rattle.cr_world.specs.Known.{known_table}
 use Rattle.cr_world.specs.World.{wrong}
 use Rattle.ext_calls.specs.declared.call.Arg.TheVariants as arg
-use Rattle.rs_tree.specs.declared.expr.Operator.TheVariants.{Add, Sub, Mul, Equal, NotEqual, Less, LessEqual, Greater, GreaterEqual}
-use Rattle.rs_tree.specs.declared.expr.Wrapping.TheVariants.{WrappingAdd, WrappingSub}
-use Rattle.rs_tree.specs.declared.item.Attribute.TheVariants.{Mangled}
-use Rattle.rs_tree.specs.declared.ty.IntegerTy.TheVariants.{I8, I32, I64, U8, U32, U64, Isize, Usize}
-use Rattle.rs_tree.specs.Tree.{Integer, Void, Pointer, Array, Code, Record, no_ty, some_ty, Local, Static, Deref, Literal, Truth, NoFunction, Read, Call as Calls, CallBy, Wrapped, Offset, OffsetFrom, IsNull, IsNone, AddressOf, NullPointer, SomeFunction, Transmute, Cast, Binary, And, Choose, exprs, Assign, Eval, CopyBytes, If, Loop, Block, Break, Continue, Match, Return, stmts, LiteralArm, arms, tys, RecordItem, StaticItem, ExternItem, FunctionItem}
+use Rattle.rs_text.specs.declared.attribute.Attribute.TheVariants.{Mangled}
+use Rattle.rs_text.specs.declared.integer.IntegerTy.TheVariants.{I8, I32, I64, U8, U32, U64, Isize, Usize}
+use Rattle.rs_text.specs.declared.operator.Operator.TheVariants.{Add, Sub, Mul, Equal, NotEqual, Less, LessEqual, Greater, GreaterEqual}
+use Rattle.rs_text.specs.declared.operator.Wrapping.TheVariants.{WrappingAdd, WrappingSub}
+use Rattle.rs_text.specs.Tree.{Integer, Void, Pointer, Array, Code, Record, no_ty, some_ty, Local, Static, Deref, Literal, Truth, NoFunction, Read, Call as Calls, CallBy, Wrapped, Offset, OffsetFrom, IsNull, IsNone, AddressOf, NullPointer, SomeFunction, Transmute, Cast, Binary, And, Choose, exprs, Assign, Eval, CopyBytes, If, Loop, Block, Break, Continue, Match, Return, stmts, LiteralArm, arms, tys, RecordItem, StaticItem, ExternItem, FunctionItem}
 use Rattle.rs_mean.specs.declared.cause.Cause.TheVariants as cause
 use Rattle.rs_mean.specs.Run.{going, ended, stopped, rs_run}
 use Rattle.rs_mean.specs.World.{pure, fails, ends, seq, takes_unit, local, tells, grants, begins, rounds}

@@ -5,11 +5,11 @@ use Rattle.cr_base.specs.declared.scalar.Scalar.TheVariants as scalar
 use Rattle.cr_world.specs.Known.{known_table}
 use Rattle.cr_world.specs.World.{trail_of, wrong, full, asks, astray}
 use Rattle.ext_calls.specs.declared.call.Arg.TheVariants as arg
-use Rattle.rs_tree.specs.declared.expr.Operator.TheVariants.{Add, Sub, Mul, Div, Rem, BitAnd, BitOr, BitXor, Shl, Shr, Equal, NotEqual, Less, LessEqual, Greater, GreaterEqual}
-use Rattle.rs_tree.specs.declared.expr.Wrapping.TheVariants.{WrappingAdd, WrappingSub, WrappingMul}
-use Rattle.rs_tree.specs.declared.item.Attribute.TheVariants.{Mangled}
-use Rattle.rs_tree.specs.declared.ty.IntegerTy.TheVariants.{I8, I16, I32, I64, U8, U32, U64, Isize, Usize}
-use Rattle.rs_tree.specs.Tree.{Integer, Boolean, Void, Pointer, Array, Code, Record, some_ty, Local, Static, Deref, Field, Literal, Truth, NoFunction, Read, Call as Calls, CallBy, Wrapped, WrappingNeg, Offset, OffsetFrom, IsNull, IsNone, AddressOf, NullPointer, SomeFunction, Transmute, Neg, Not, Cast, Binary, And, Or, Choose, exprs, Assign, Eval, CopyBytes, If, Loop, Block, Break, Continue, Match, Return, stmts, LiteralArm, arms, tys, RecordItem, StaticItem, ExternItem, FunctionItem}
+use Rattle.rs_text.specs.declared.attribute.Attribute.TheVariants.{Mangled}
+use Rattle.rs_text.specs.declared.integer.IntegerTy.TheVariants.{I8, I16, I32, I64, U8, U32, U64, Isize, Usize}
+use Rattle.rs_text.specs.declared.operator.Operator.TheVariants.{Add, Sub, Mul, Div, Rem, BitAnd, BitOr, BitXor, Shl, Shr, Equal, NotEqual, Less, LessEqual, Greater, GreaterEqual}
+use Rattle.rs_text.specs.declared.operator.Wrapping.TheVariants.{WrappingAdd, WrappingSub, WrappingMul}
+use Rattle.rs_text.specs.Tree.{Integer, Boolean, Void, Pointer, Array, Code, Record, some_ty, Local, Static, Deref, Field, Literal, Truth, NoFunction, Read, Call as Calls, CallBy, Wrapped, WrappingNeg, Offset, OffsetFrom, IsNull, IsNone, AddressOf, NullPointer, SomeFunction, Transmute, Neg, Not, Cast, Binary, And, Or, Choose, exprs, Assign, Eval, CopyBytes, If, Loop, Block, Break, Continue, Match, Return, stmts, LiteralArm, arms, tys, RecordItem, StaticItem, ExternItem, FunctionItem}
 use Rattle.rs_mean.specs.declared.cause.Cause.TheVariants as cause
 use Rattle.rs_mean.specs.Run.{going, ended, stopped, rs_run, rs_run_on}
 use Rattle.rs_mean.specs.World.{pure, fails, ends, seq, takes_unit, local, tells, grants, begins, rounds}

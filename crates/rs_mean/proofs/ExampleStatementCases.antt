@@ -2,10 +2,10 @@
 use Rattle.std.specs.Prelude.{◌≡◌, pos, true, false, [], ◌∷◌, Some, None, codes}
 use Rattle.std.proofs.Common.{refl}
 use Rattle.cr_world.specs.Known.{known_table}
-use Rattle.rs_tree.specs.declared.expr.Operator.TheVariants.{Add}
-use Rattle.rs_tree.specs.declared.item.Attribute.TheVariants.{Mangled}
-use Rattle.rs_tree.specs.declared.ty.IntegerTy.TheVariants.{I8, I32, I64, U8, U32, U64, Usize}
-use Rattle.rs_tree.specs.Tree.{Integer, Boolean, Void, Pointer, Array, Code, Record, no_ty, Local, Literal, Truth, NoFunction, Read, Binary, Assign, If, Loop, Block, Break, Continue, Match, Return, stmts, LiteralArm, arms, tys, RecordItem, StaticItem, ExternItem, FunctionItem}
+use Rattle.rs_text.specs.declared.attribute.Attribute.TheVariants.{Mangled}
+use Rattle.rs_text.specs.declared.integer.IntegerTy.TheVariants.{I8, I32, I64, U8, U32, U64, Usize}
+use Rattle.rs_text.specs.declared.operator.Operator.TheVariants.{Add}
+use Rattle.rs_text.specs.Tree.{Integer, Boolean, Void, Pointer, Array, Code, Record, no_ty, Local, Literal, Truth, NoFunction, Read, Binary, Assign, If, Loop, Block, Break, Continue, Match, Return, stmts, LiteralArm, arms, tys, RecordItem, StaticItem, ExternItem, FunctionItem}
 use Rattle.rs_mean.specs.Typing.{first_ill}
 
 -- ---- external functions

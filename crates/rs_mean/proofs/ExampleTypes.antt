@@ -2,11 +2,11 @@
 use Rattle.std.specs.Prelude.{◌≡◌, pos, true, false, [], ◌∷◌, Some, None, codes}
 use Rattle.std.proofs.Common.{refl}
 use Rattle.cr_world.specs.Known.{known_table}
-use Rattle.rs_tree.specs.declared.expr.Operator.TheVariants.{Add, Sub, BitAnd, Shl, Equal, Less}
-use Rattle.rs_tree.specs.declared.expr.Wrapping.TheVariants.{WrappingAdd}
-use Rattle.rs_tree.specs.declared.item.Attribute.TheVariants.{Mangled}
-use Rattle.rs_tree.specs.declared.ty.IntegerTy.TheVariants.{I8, I32, I64, U8, U32, U64, Isize, Usize}
-use Rattle.rs_tree.specs.Tree.{Integer, Boolean, Void, Pointer, Array, Code, Record, some_ty, Local, Static, Deref, Field, Literal, Truth, NoFunction, Read, Call as Calls, CallBy, Wrapped, Offset, OffsetFrom, IsNull, IsNone, NullPointer, SomeFunction, Transmute, Neg, Not, Cast, Binary, And, exprs, Assign, Eval, CopyBytes, If, Loop, Block, Break, Continue, Match, Return, stmts, LiteralArm, arms, tys, RecordItem, StaticItem, ExternItem, FunctionItem}
+use Rattle.rs_text.specs.declared.attribute.Attribute.TheVariants.{Mangled}
+use Rattle.rs_text.specs.declared.integer.IntegerTy.TheVariants.{I8, I32, I64, U8, U32, U64, Isize, Usize}
+use Rattle.rs_text.specs.declared.operator.Operator.TheVariants.{Add, Sub, BitAnd, Shl, Equal, Less}
+use Rattle.rs_text.specs.declared.operator.Wrapping.TheVariants.{WrappingAdd}
+use Rattle.rs_text.specs.Tree.{Integer, Boolean, Void, Pointer, Array, Code, Record, some_ty, Local, Static, Deref, Field, Literal, Truth, NoFunction, Read, Call as Calls, CallBy, Wrapped, Offset, OffsetFrom, IsNull, IsNone, NullPointer, SomeFunction, Transmute, Neg, Not, Cast, Binary, And, exprs, Assign, Eval, CopyBytes, If, Loop, Block, Break, Continue, Match, Return, stmts, LiteralArm, arms, tys, RecordItem, StaticItem, ExternItem, FunctionItem}
 use Rattle.rs_mean.specs.Typing.{first_ill}
 
 plain : first_ill (record { modules = record { name = codes "a"; items = FunctionItem (record { attribute = Mangled; name = codes "main_0"; params = []; result = Some (Integer I32); locals = []; body = stmts (Return (Some (Literal (pos 0) I32)) ∷ []) }) ∷ FunctionItem (record { attribute = Mangled; name = codes "run_static_initializers"; params = []; result = None; locals = []; body = stmts ([]) }) ∷ [] } ∷ []; entry = 0 }) ≡ None

@@ -7,7 +7,7 @@ use Rattle.cr_world.specs.World.{World, Terms, open_ended, trail_of, Stop, astra
 use Rattle.ext_calls.specs.declared.call.Call.{Call}
 use Rattle.mem_bytes.specs.declared.value.Ptr.{Ptr}
 use Rattle.mem_bytes.specs.declared.value.Value.{Value}
-use Rattle.rs_tree.specs.Tree.{OuterTree, FunctionTree, ModuleTree, CrateTree}
+use Rattle.rs_text.specs.Tree.{OuterTree, FunctionTree, ModuleTree, CrateTree}
 use Rattle.rs_mean.specs.declared.cause.Cause.{Cause}
 use Rattle.rs_mean.specs.Calls.{outer_call}
 use Rattle.rs_mean.specs.Laws.{IsFrontOf, IsGoing, MoreBudgetContinues, EventsGrow, EndedStaysEnded}

@@ -10,7 +10,7 @@ use Rattle.mem_bytes.specs.declared.fault.StoreFault.{StoreFault}
 use Rattle.mem_bytes.specs.declared.fault.StoreFault.TheVariants.{Full, Memory}
 use Rattle.mem_bytes.specs.declared.value.Ptr.{Ptr}
 use Rattle.mem_bytes.specs.declared.value.Value.{Value}
-use Rattle.rs_tree.specs.Tree.{OuterTree, FunctionTree, ModuleTree}
+use Rattle.rs_text.specs.Tree.{OuterTree, FunctionTree, ModuleTree}
 use Rattle.rs_mean.specs.declared.cause.Cause.{Cause}
 use Rattle.rs_mean.specs.Calls.{outer_call}
 use Rattle.rs_mean.specs.Laws.{IsOfRun, TrailIsOutside}

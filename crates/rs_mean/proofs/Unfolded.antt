@@ -4,7 +4,7 @@ use Rattle.cr_runs.specs.Runs.{Ran, came, halted, bad, out, bind}
 use Rattle.cr_world.specs.Held.{Held}
 use Rattle.cr_world.specs.World.{World, Stop}
 use Rattle.mem_bytes.specs.declared.value.Ptr.{Ptr}
-use Rattle.rs_tree.specs.Tree.{no_stmts, more_stmts, OuterTree, FunctionTree, ModuleTree, CrateTree}
+use Rattle.rs_text.specs.Tree.{no_stmts, more_stmts, OuterTree, FunctionTree, ModuleTree, CrateTree}
 use Rattle.rs_mean.specs.declared.cause.Cause.{Cause}
 use Rattle.rs_mean.specs.Calls.{outer_call}
 use Rattle.rs_mean.specs.Laws.{LeavesWithin, ListsFollow, LoopsUnfold, BodiesUnfold, behind, frame_in, bodies_of}

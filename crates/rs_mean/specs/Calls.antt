@@ -16,8 +16,8 @@ use Rattle.mem_bytes.specs.Memory.{Blocks}
 use Rattle.mem_bytes.specs.declared.value.Ptr.{Ptr}
 use Rattle.mem_bytes.specs.declared.value.Value.{Value}
 use Rattle.mem_bytes.specs.declared.value.Value.TheVariants.{Whole, Null, Object, Code as Function}
-use Rattle.rs_tree.specs.declared.ty.IntegerTy.TheVariants.{I8}
-use Rattle.rs_tree.specs.Tree.{Ty, Integer, Boolean, Pointer, LocalTree, OuterTree, ModuleTree}
+use Rattle.rs_text.specs.declared.integer.IntegerTy.TheVariants.{I8}
+use Rattle.rs_text.specs.Tree.{Ty, Integer, Boolean, Pointer, LocalTree, OuterTree, ModuleTree}
 use Rattle.rs_mean.specs.declared.cause.Cause.{Cause}
 use Rattle.rs_mean.specs.declared.cause.Cause.TheVariants as cause
 use Rattle.rs_mean.specs.Layout.{laid_of}

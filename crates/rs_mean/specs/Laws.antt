@@ -3,7 +3,7 @@ use Rattle.std.specs.Prelude.{◌≡◌, ℕ, suc, ◌+◌, ◌≤◌, ℤ, List
 use Rattle.cr_runs.specs.Runs.{Ran, came, halted, bad, out, state_of}
 use Rattle.cr_world.specs.World.{World, Outside, Terms, open_ended, trail_of, Stop, wrong, full, asks, astray, events_of}
 use Rattle.mem_bytes.specs.Counted.{Limit}
-use Rattle.rs_tree.specs.Tree.{Expr, Loop, Stmts, no_stmts, more_stmts, FunctionTree, ModuleTree, CrateTree}
+use Rattle.rs_text.specs.Tree.{Expr, Loop, Stmts, no_stmts, more_stmts, FunctionTree, ModuleTree, CrateTree}
 use Rattle.rs_mean.specs.declared.cause.Cause.{Cause}
 use Rattle.rs_mean.specs.Lookups.{LocalBlock}
 use Rattle.rs_mean.specs.Run.{Bodies, Frame, run_expr, run_stmt, run_stmts, after_turn, then_on, run_function, bodies_within, RProgress, going, ended, stopped, rs_run_on}

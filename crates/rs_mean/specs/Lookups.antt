@@ -1,7 +1,7 @@
 -- The items that paths name (the Rust Reference, "Paths" and "Items").
 use Rattle.std.specs.Prelude.{ℕ, ◌+◌, Bool, false, ◌&&◌, List, [], ◌∷◌, map, Option, Some, None, find, flat_map, bytes_eq, if◌then◌else◌, option_map, slice_get}
-use Rattle.rs_tree.specs.Names.{bare_name}
-use Rattle.rs_tree.specs.Tree.{Ty, RecordTree, StaticTree, OuterTree, LocalTree, FunctionTree, ItemTree, RecordItem, StaticItem, ExternItem, FunctionItem, ModuleTree}
+use Rattle.rs_text.specs.Names.{bare_name}
+use Rattle.rs_text.specs.Tree.{Ty, RecordTree, StaticTree, OuterTree, LocalTree, FunctionTree, ItemTree, RecordItem, StaticItem, ExternItem, FunctionItem, ModuleTree}
 
 -- ---- modules
 

@@ -3,11 +3,11 @@
 use Rattle.std.specs.Prelude.{ℕ, ◌/◌, ◌^◌, nat_lt, Bool, true, false, not, if◌then◌else◌, ℤ, pos, negsuc, ◌+ℤ◌, ◌-ℤ◌, ◌*ℤ◌, neg_ℤ, int_le, int_lt, int_div, int_rem, bit_and, bit_or, bit_xor, Result, Ok, Err}
 use Rattle.std.specs.Ordering.{int_eq}
 use Rattle.cr_base.specs.Scalar.{modulus, residue, wrapped}
-use Rattle.rs_tree.specs.declared.expr.Operator.{Operator}
-use Rattle.rs_tree.specs.declared.expr.Operator.TheVariants.{Add, Sub, Mul, Div, Rem, BitAnd, BitOr, BitXor, Shl, Shr, Equal, NotEqual, Less, LessEqual, Greater, GreaterEqual}
-use Rattle.rs_tree.specs.declared.expr.Wrapping.{Wrapping}
-use Rattle.rs_tree.specs.declared.expr.Wrapping.TheVariants.{WrappingAdd, WrappingSub, WrappingMul}
-use Rattle.rs_tree.specs.declared.ty.IntegerTy.{IntegerTy}
+use Rattle.rs_text.specs.declared.integer.IntegerTy.{IntegerTy}
+use Rattle.rs_text.specs.declared.operator.Operator.{Operator}
+use Rattle.rs_text.specs.declared.operator.Operator.TheVariants.{Add, Sub, Mul, Div, Rem, BitAnd, BitOr, BitXor, Shl, Shr, Equal, NotEqual, Less, LessEqual, Greater, GreaterEqual}
+use Rattle.rs_text.specs.declared.operator.Wrapping.{Wrapping}
+use Rattle.rs_text.specs.declared.operator.Wrapping.TheVariants.{WrappingAdd, WrappingSub, WrappingMul}
 use Rattle.rs_mean.specs.declared.cause.Cause.{Cause}
 use Rattle.rs_mean.specs.declared.cause.Cause.TheVariants.{Overflow, Divisor, Shift, WrongCall}
 use Rattle.rs_mean.specs.Scalars.{integer_scalar, fits_integer, width_of}

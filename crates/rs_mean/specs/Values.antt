@@ -7,12 +7,12 @@ use Rattle.mem_bytes.specs.Memory.{Blocks}
 use Rattle.mem_bytes.specs.Pointers.{moved, distance, difference, are_equal}
 use Rattle.mem_bytes.specs.declared.value.Value.{Value}
 use Rattle.mem_bytes.specs.declared.value.Value.TheVariants.{Whole, Null}
-use Rattle.rs_tree.specs.declared.expr.Operator.{Operator}
-use Rattle.rs_tree.specs.declared.expr.Operator.TheVariants.{Equal, NotEqual}
-use Rattle.rs_tree.specs.declared.expr.Wrapping.{Wrapping}
-use Rattle.rs_tree.specs.declared.ty.IntegerTy.{IntegerTy}
-use Rattle.rs_tree.specs.declared.ty.IntegerTy.TheVariants.{Isize}
-use Rattle.rs_tree.specs.Tree.{Ty, Integer, Boolean, Pointer, Code}
+use Rattle.rs_text.specs.declared.integer.IntegerTy.{IntegerTy}
+use Rattle.rs_text.specs.declared.integer.IntegerTy.TheVariants.{Isize}
+use Rattle.rs_text.specs.declared.operator.Operator.{Operator}
+use Rattle.rs_text.specs.declared.operator.Operator.TheVariants.{Equal, NotEqual}
+use Rattle.rs_text.specs.declared.operator.Wrapping.{Wrapping}
+use Rattle.rs_text.specs.Tree.{Ty, Integer, Boolean, Pointer, Code}
 use Rattle.rs_mean.specs.declared.cause.Cause.{Cause}
 use Rattle.rs_mean.specs.declared.cause.Cause.TheVariants.{Overflow, WrongCall}
 use Rattle.rs_mean.specs.Numbers.{number_of_truth, checked, wrapped_in, is_comparison, compared, computed, computed_truth, wrapping, complement}

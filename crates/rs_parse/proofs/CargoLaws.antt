@@ -16,10 +16,10 @@ use Rattle.rs_parse.proofs.Lexing.{Text, Toks}
 use Rattle.rs_parse.proofs.MainText.{plain_tokens}
 use Rattle.rs_parse.proofs.ModuleRead.{all_same, all_self}
 use Rattle.rs_parse.proofs.Still.{still_closed, still_plain}
-use Rattle.rs_tree.specs.declared.files.Line.{Line}
-use Rattle.rs_tree.specs.Lines.{cargo_lines}
-use Rattle.rs_tree.specs.Reads.{both_fit, spells, spells_as, lines_in, onto, spells_next, spells_lines}
-use Rattle.rs_tree.specs.Tokens.{marks, tokens_in}
+use Rattle.rs_text.specs.declared.line.Line.{Line}
+use Rattle.rs_text.specs.Lines.{cargo_lines}
+use Rattle.rs_text.specs.Reads.{both_fit, spells, spells_as, lines_in, onto, spells_next, spells_lines}
+use Rattle.rs_text.specs.Tokens.{marks, tokens_in}
 
 pub cargo_still : list_all is_still_line cargo_lines ≡ true
 unfolding cargo_lines marks

@@ -6,21 +6,21 @@ use Rattle.std.specs.List.{flat_map, list_all, starts_with}
 use Rattle.std.proofs.lemmas.Bool.{and_parts}
 use Rattle.rs_expr.specs.Signs.{begins_with_digit}
 use Rattle.rs_lex.specs.Closed.{is_mark, is_word, last_of, opens, ends, closed}
-use Rattle.rs_tree.specs.Forms.{is_compound, is_deref, is_literal, is_call}
-use Rattle.rs_tree.specs.Names.{is_identifier, is_among, keywords, is_plain_identifier, is_raw_identifier, is_label}
-use Rattle.rs_tree.specs.Spelling.{place_tokens, expr_tokens, exprs_parts, ty_tokens, tys_parts, result_tokens, literal_tokens, label_tokens, else_tokens, return_tokens, stmt_tokens, stmts_tokens, arm_tokens, arms_tokens, typed_tokens, attribute_tokens, repr_tokens, field_tokens, record_item_tokens, values_tokens, static_tokens, variadic_tokens, link_name_tokens, outer_tokens, param_tokens, local_tokens, function_tokens, item_tokens, item_path}
-use Rattle.rs_tree.specs.Reads.{fits}
-use Rattle.rs_tree.specs.Spelling as spelling
-use Rattle.rs_tree.specs.Tokens.{RToken, Word, Mark, Label, Quoted, Close}
-use Rattle.rs_tree.specs.Tree.{Ty, Integer, Boolean, Void, Pointer, Array, Code, Record, Tys, no_tys, more_tys, OptionTy, no_ty, some_ty, option_ty, Place, Local, Static, Deref, Field, Expr, Literal, Truth, NoFunction, Read, Call, CallBy, Wrapped, WrappingNeg, Offset, OffsetFrom, IsNull, IsNone, AddressOf, NullPointer, SomeFunction, Transmute, Neg, Not, Cast, Binary, And, Or, Choose, Exprs, no_exprs, more_exprs, Stmt, Assign, Eval, CopyBytes, If, Loop, Block, Break, Continue, Match, Return, Stmts, no_stmts, more_stmts, LiteralArm, Arms, no_arms, more_arms, FieldTree, RecordTree, StaticTree, OuterTree, LocalTree, FunctionTree, ItemTree, RecordItem, StaticItem, ExternItem, FunctionItem}
-use Rattle.rs_tree.specs.Valid.{valid_place, valid_expr, valid_exprs, valid_ty, valid_stmt, valid_stmts, valid_arms, valid_path, valid_returned, valid_label, is_value, valid_static, valid_local, valid_function, valid_item, valid_attribute, valid_values, valid_result}
-use Rattle.rs_tree.specs.Words.{integer_word, operator_mark, wrapping_word, record_word}
-use Rattle.rs_tree.specs.declared.expr.Operator.{Operator}
-use Rattle.rs_tree.specs.declared.expr.Operator.TheVariants.{Add, Sub, Mul, Div, Rem, BitAnd, BitOr, BitXor, Shl, Shr, Equal, NotEqual, Less, LessEqual, Greater, GreaterEqual}
-use Rattle.rs_tree.specs.declared.item.Attribute.{Attribute}
-use Rattle.rs_tree.specs.declared.item.Attribute.TheVariants.{Mangled, NoMangle, ExportName}
-use Rattle.rs_tree.specs.declared.ty.IntegerTy.{IntegerTy}
-use Rattle.rs_tree.specs.declared.ty.IntegerTy.TheVariants.{I8, I16, I32, I64, U8, U16, U32, U64, Isize, Usize}
+use Rattle.rs_text.specs.Forms.{is_compound, is_deref, is_literal, is_call}
+use Rattle.rs_text.specs.Names.{is_identifier, is_among, keywords, is_plain_identifier, is_raw_identifier, is_label}
+use Rattle.rs_text.specs.Spelling.{place_tokens, expr_tokens, exprs_parts, ty_tokens, tys_parts, result_tokens, literal_tokens, label_tokens, else_tokens, return_tokens, stmt_tokens, stmts_tokens, arm_tokens, arms_tokens, typed_tokens, attribute_tokens, repr_tokens, field_tokens, record_item_tokens, values_tokens, static_tokens, variadic_tokens, link_name_tokens, outer_tokens, param_tokens, local_tokens, function_tokens, item_tokens, item_path}
+use Rattle.rs_text.specs.Reads.{fits}
+use Rattle.rs_text.specs.Spelling as spelling
+use Rattle.rs_text.specs.Tokens.{RToken, Word, Mark, Label, Quoted, Close}
+use Rattle.rs_text.specs.Tree.{Ty, Integer, Boolean, Void, Pointer, Array, Code, Record, Tys, no_tys, more_tys, OptionTy, no_ty, some_ty, option_ty, Place, Local, Static, Deref, Field, Expr, Literal, Truth, NoFunction, Read, Call, CallBy, Wrapped, WrappingNeg, Offset, OffsetFrom, IsNull, IsNone, AddressOf, NullPointer, SomeFunction, Transmute, Neg, Not, Cast, Binary, And, Or, Choose, Exprs, no_exprs, more_exprs, Stmt, Assign, Eval, CopyBytes, If, Loop, Block, Break, Continue, Match, Return, Stmts, no_stmts, more_stmts, LiteralArm, Arms, no_arms, more_arms, FieldTree, RecordTree, StaticTree, OuterTree, LocalTree, FunctionTree, ItemTree, RecordItem, StaticItem, ExternItem, FunctionItem}
+use Rattle.rs_text.specs.Valid.{valid_place, valid_expr, valid_exprs, valid_ty, valid_stmt, valid_stmts, valid_arms, valid_path, valid_returned, valid_label, is_value, valid_static, valid_local, valid_function, valid_item, valid_attribute, valid_values, valid_result}
+use Rattle.rs_text.specs.Words.{integer_word, operator_mark, wrapping_word, record_word}
+use Rattle.rs_text.specs.declared.attribute.Attribute.{Attribute}
+use Rattle.rs_text.specs.declared.attribute.Attribute.TheVariants.{Mangled, NoMangle, ExportName}
+use Rattle.rs_text.specs.declared.integer.IntegerTy.{IntegerTy}
+use Rattle.rs_text.specs.declared.integer.IntegerTy.TheVariants.{I8, I16, I32, I64, U8, U16, U32, U64, Isize, Usize}
+use Rattle.rs_text.specs.declared.operator.Operator.{Operator}
+use Rattle.rs_text.specs.declared.operator.Operator.TheVariants.{Add, Sub, Mul, Div, Rem, BitAnd, BitOr, BitXor, Shl, Shr, Equal, NotEqual, Less, LessEqual, Greater, GreaterEqual}
 use Rattle.rs_parse.proofs.Closing.{Toks, at, onward, walk, ok, calm_same, closed_is}
 use Rattle.rs_parse.proofs.Digits.{literal_word}
 use Rattle.rs_parse.proofs.NameSigns.{plain_parts}

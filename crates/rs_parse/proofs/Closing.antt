@@ -4,8 +4,8 @@ use Rattle.std.specs.Cmp.Lexicographic.{same_text}
 use Rattle.std.proofs.lemmas.Bool.{and_parts}
 use Rattle.std.proofs.lemmas.Bool.Decides.{nat_tests}
 use Rattle.rs_lex.specs.Closed.{last_of, opens, ends, closed_token, open_behind, closed_from, closed}
-use Rattle.rs_tree.specs.Reads.{is_token, is_double_close, fits}
-use Rattle.rs_tree.specs.Tokens.{RToken, Word, Label, Quoted, Mark, Close}
+use Rattle.rs_text.specs.Reads.{is_token, is_double_close, fits}
+use Rattle.rs_text.specs.Tokens.{RToken, Word, Label, Quoted, Mark, Close}
 
 abbrev pub Toks : Type 0
 Toks = List RToken

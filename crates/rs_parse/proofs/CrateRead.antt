@@ -16,15 +16,15 @@ use Rattle.rs_parse.specs.Reading.{HasName, IsOnly, has_main, IsModuleOf, AreMod
 use Rattle.rs_parse.proofs.Lexing.{Text, same_self}
 use Rattle.rs_parse.proofs.OneCrate.{parts_of, number_same}
 use Rattle.rs_parse.proofs.OutlineLaws.{entry_is, name_there, one_main, one_entry}
-use Rattle.rs_tree.specs.declared.item.Attribute.TheVariants.{Mangled}
+use Rattle.rs_text.specs.declared.attribute.Attribute.TheVariants.{Mangled}
+use Rattle.rs_text.specs.Lines.{module_names, entry_name, name_or_empty}
+use Rattle.rs_text.specs.Names.{is_among, path_words, keywords}
+use Rattle.rs_text.specs.Reads.{IsMain, in_file, holds_once, spells_cargo, spells_main, spells_module, texts_named, ReadsAs}
+use Rattle.rs_text.specs.Text.{module_path, main_path, cargo_path}
+use Rattle.rs_text.specs.Tree.{ModuleTree, CrateTree, ItemTree, FunctionItem, no_stmts}
+use Rattle.rs_text.specs.Valid.{has_entry, valid_items, valid_names, valid_crate}
 use Rattle.rs_tree.specs.declared.item.Crate.{Crate}
 use Rattle.rs_tree.specs.declared.item.Module.{Module}
-use Rattle.rs_tree.specs.Lines.{module_names, entry_name, name_or_empty}
-use Rattle.rs_tree.specs.Names.{is_among, path_words, keywords}
-use Rattle.rs_tree.specs.Reads.{IsMain, in_file, holds_once, spells_cargo, spells_main, spells_module, texts_named, ReadsAs}
-use Rattle.rs_tree.specs.Text.{module_path, main_path, cargo_path}
-use Rattle.rs_tree.specs.Tree.{ModuleTree, CrateTree, ItemTree, FunctionItem, no_stmts}
-use Rattle.rs_tree.specs.Valid.{has_entry, valid_items, valid_names, valid_crate}
 use Rattle.rs_tree.specs.Views.{module_view, crate_view}
 use Rattle.rs_valid.specs.Lists.{names_of}
 

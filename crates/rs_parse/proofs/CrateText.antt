@@ -5,14 +5,14 @@ use Rattle.std.specs.List.{list_all, list_any}
 use Rattle.std.proofs.lemmas.List.{length-map}
 use Rattle.std.proofs.lemmas.Bool.{and_parts, cond-true, cond-false}
 use Rattle.shelf.specs.declared.file.File.{File}
-use Rattle.rs_tree.specs.Lines.{main_of, main_lines, module_lines, cargo_lines, module_names, entry_name, name_or_empty, text_of_lines}
-use Rattle.rs_tree.specs.Names.{is_plain_identifier, is_module_name}
-use Rattle.rs_tree.specs.Reads.{both_fit, spells, spells_main, spells_cargo, texts_named, holds_once, spells_module, ReadsAs}
-use Rattle.rs_tree.specs.Spelling.{module_tokens}
-use Rattle.rs_tree.specs.Text.{module_path, main_path, cargo_path, file_of, module_file, text_of}
-use Rattle.rs_tree.specs.Tokens.{marks}
-use Rattle.rs_tree.specs.Tree.{ModuleTree, CrateTree}
-use Rattle.rs_tree.specs.Valid.{all_differ, valid_items, valid_names, valid_count, has_entry, valid_crate}
+use Rattle.rs_text.specs.Lines.{main_of, main_lines, module_lines, cargo_lines, module_names, entry_name, name_or_empty, text_of_lines}
+use Rattle.rs_text.specs.Names.{is_plain_identifier, is_module_name}
+use Rattle.rs_text.specs.Reads.{both_fit, spells, spells_main, spells_cargo, texts_named, holds_once, spells_module, ReadsAs}
+use Rattle.rs_text.specs.Spelling.{module_tokens}
+use Rattle.rs_text.specs.Text.{module_path, main_path, cargo_path, file_of, module_file, text_of}
+use Rattle.rs_text.specs.Tokens.{marks}
+use Rattle.rs_text.specs.Tree.{ModuleTree, CrateTree}
+use Rattle.rs_text.specs.Valid.{all_differ, valid_items, valid_names, valid_count, has_entry, valid_crate}
 use Rattle.rs_parse.proofs.Lexing.{Text, same_self}
 use Rattle.rs_parse.proofs.MainText.{main_tokens, main_plain, main_spelled, self_fit}
 use Rattle.rs_parse.proofs.ModuleLaws.{module_texts_spell}

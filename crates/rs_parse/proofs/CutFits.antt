@@ -3,9 +3,9 @@ use Rattle.std.proofs.Common.{◌≡◌, ℕ, zero, suc, Bool, true, false, not,
 use Rattle.std.specs.Cmp.Lexicographic.{same_text}
 use Rattle.std.specs.List.{list_all, starts_with}
 use Rattle.rs_lex.specs.Closed.{closed_in, closed_token, closed_from, open_behind, last_of}
-use Rattle.rs_tree.specs.Names.{is_word_byte}
-use Rattle.rs_tree.specs.Reads.{fits, both_fit}
-use Rattle.rs_tree.specs.Tokens.{RToken, Word, Mark, Label, Quoted, Close, Front, marks, is_blank, is_raw, is_prefix_mark, word_front, quoted_front, label_front, mark_front, first_mark, begins_comment, word_size, quoted_size, token_at, piece_at, then_tokens, tokens_behind, tokens_within, tokens_in}
+use Rattle.rs_text.specs.Names.{is_word_byte}
+use Rattle.rs_text.specs.Reads.{fits, both_fit}
+use Rattle.rs_text.specs.Tokens.{RToken, Word, Mark, Label, Quoted, Close, Front, marks, is_blank, is_raw, is_prefix_mark, word_front, quoted_front, label_front, mark_front, first_mark, begins_comment, word_size, quoted_size, token_at, piece_at, then_tokens, tokens_behind, tokens_within, tokens_in}
 use Rattle.rs_parse.proofs.Lexing.{Toks, Text, same_self}
 use Rattle.rs_parse.proofs.MainText.{is_plain, plain_both}
 

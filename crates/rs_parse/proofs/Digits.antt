@@ -7,11 +7,11 @@ use Rattle.std.proofs.lemmas.Bool.Decides.{nat_tests}
 use Rattle.std.proofs.lemmas.Fmt.{decimal_by_steps_wide}
 use Rattle.rs_expr.specs.Numbers.{number_of, digits_of, suffix_of, limited, integer_words, integer_of, size_of, value_of}
 use Rattle.rs_expr.specs.Signs.{begins_with_digit}
-use Rattle.rs_tree.specs.Names.{is_digit}
-use Rattle.rs_tree.specs.Valid.{is_length}
-use Rattle.rs_tree.specs.Words.{integer_word}
-use Rattle.rs_tree.specs.declared.ty.IntegerTy.{IntegerTy}
-use Rattle.rs_tree.specs.declared.ty.IntegerTy.TheVariants.{I8, I16, I32, I64, U8, U16, U32, U64, Isize, Usize}
+use Rattle.rs_text.specs.Names.{is_digit}
+use Rattle.rs_text.specs.Valid.{is_length}
+use Rattle.rs_text.specs.Words.{integer_word}
+use Rattle.rs_text.specs.declared.integer.IntegerTy.{IntegerTy}
+use Rattle.rs_text.specs.declared.integer.IntegerTy.TheVariants.{I8, I16, I32, I64, U8, U16, U32, U64, Isize, Usize}
 
 pub record IsWritten (n : ℕ) (digits : List ℕ) : Type 0 where
   pub all : list_all is_digit digits ≡ true

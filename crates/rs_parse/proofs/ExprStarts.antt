@@ -9,15 +9,15 @@ use Rattle.rs_expr.specs.Reading.{Toks, Reader, read_of, ends_list}
 use Rattle.rs_expr.specs.Signs.{sign_at, marks, words, word_sign, entry_of, begins_with_digit}
 use Rattle.rs_expr.specs.declared.sign.Sign.{Sign}
 use Rattle.rs_expr.specs.declared.sign.Sign.TheVariants as of
-use Rattle.rs_tree.specs.Forms.{is_compound, is_literal}
-use Rattle.rs_tree.specs.Names.{is_identifier}
-use Rattle.rs_tree.specs.Spelling.{place_tokens, expr_tokens, exprs_parts, ty_tokens, tys_parts, result_tokens}
-use Rattle.rs_tree.specs.Spelling as spelling
-use Rattle.rs_tree.specs.Tokens.{RToken, Word, Mark}
-use Rattle.rs_tree.specs.Tree.{Place, Local, Static, Deref, Field, Expr, Literal, Truth, NoFunction, Read, Call, CallBy, Wrapped, WrappingNeg, Offset, OffsetFrom, IsNull, IsNone, AddressOf, NullPointer, SomeFunction, Transmute, Neg, Not, Cast, Binary, And, Or, Choose, Exprs, no_exprs, more_exprs, exprs}
-use Rattle.rs_tree.specs.Valid.{valid_place, valid_expr, valid_exprs, valid_ty, is_value}
-use Rattle.rs_tree.specs.Words.{integer_word}
-use Rattle.rs_tree.specs.declared.ty.IntegerTy.{IntegerTy}
+use Rattle.rs_text.specs.Forms.{is_compound, is_literal}
+use Rattle.rs_text.specs.Names.{is_identifier}
+use Rattle.rs_text.specs.Spelling.{place_tokens, expr_tokens, exprs_parts, ty_tokens, tys_parts, result_tokens}
+use Rattle.rs_text.specs.Spelling as spelling
+use Rattle.rs_text.specs.Tokens.{RToken, Word, Mark}
+use Rattle.rs_text.specs.Tree.{Place, Local, Static, Deref, Field, Expr, Literal, Truth, NoFunction, Read, Call, CallBy, Wrapped, WrappingNeg, Offset, OffsetFrom, IsNull, IsNone, AddressOf, NullPointer, SomeFunction, Transmute, Neg, Not, Cast, Binary, And, Or, Choose, Exprs, no_exprs, more_exprs, exprs}
+use Rattle.rs_text.specs.Valid.{valid_place, valid_expr, valid_exprs, valid_ty, is_value}
+use Rattle.rs_text.specs.Words.{integer_word}
+use Rattle.rs_text.specs.declared.integer.IntegerTy.{IntegerTy}
 use Rattle.rs_parse.proofs.Digits.{literal_word}
 use Rattle.rs_parse.proofs.NameSigns.{name_sign}
 

@@ -9,7 +9,7 @@ use Rattle.shelf.specs.declared.file.File.{File}
 use Rattle.rs_parse.proofs.Lexing.{Text}
 use Rattle.rs_parse.specs.Crates.{stands_once}
 use Rattle.rs_parse.specs.Reading.{IsOnly, IsFirst, IsFoundIn}
-use Rattle.rs_tree.specs.Reads.{texts_named, holds_once}
+use Rattle.rs_text.specs.Reads.{texts_named, holds_once}
 
 -- what is left behind a file of another name, and behind one of the name
 pub other_left : (files : List File) (name : Text) (at : ℕ) (file : File) → at < length files → get_or files at file ≡ file → bytes_eq file.name name ≡ false →

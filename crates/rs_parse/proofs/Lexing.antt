@@ -5,12 +5,12 @@ use Rattle.std.specs.List.{list_all, prefix_len, starts_with}
 use Rattle.std.proofs.lemmas.Bool.{and_parts, and_left, and_right, cond-true, cond-false}
 use Rattle.std.proofs.lemmas.Bool.Decides.{nat_tests}
 use Rattle.rs_lex.proofs.LexLemmas.{tokens_by_piece}
-use Rattle.rs_tree.specs.Names.{is_digit, is_word_byte, is_word, is_among, keywords, is_identifier, is_plain_identifier, is_raw_identifier, is_label}
-use Rattle.rs_tree.specs.Reads.{fits, both_fit}
-use Rattle.rs_tree.specs.Tokens.{RToken, Word, Label, Quoted, Mark, Close, marks, is_blank, is_prefix_mark, is_quoted_byte, word_size, word_front, is_raw, quoted_size, quoted_front, label_front, first_mark, mark_front, token_at, piece_at, then_tokens, tokens_behind, tokens_in}
-use Rattle.rs_tree.specs.Words.{operator_mark}
-use Rattle.rs_tree.specs.declared.expr.Operator.{Operator}
-use Rattle.rs_tree.specs.declared.expr.Operator.TheVariants.{Add, Sub, Mul, Div, Rem, BitAnd, BitOr, BitXor, Shl, Shr, Equal, NotEqual, Less, LessEqual, Greater, GreaterEqual}
+use Rattle.rs_text.specs.Names.{is_digit, is_word_byte, is_word, is_among, keywords, is_identifier, is_plain_identifier, is_raw_identifier, is_label}
+use Rattle.rs_text.specs.Reads.{fits, both_fit}
+use Rattle.rs_text.specs.Tokens.{RToken, Word, Label, Quoted, Mark, Close, marks, is_blank, is_prefix_mark, is_quoted_byte, word_size, word_front, is_raw, quoted_size, quoted_front, label_front, first_mark, mark_front, token_at, piece_at, then_tokens, tokens_behind, tokens_in}
+use Rattle.rs_text.specs.Words.{operator_mark}
+use Rattle.rs_text.specs.declared.operator.Operator.{Operator}
+use Rattle.rs_text.specs.declared.operator.Operator.TheVariants.{Add, Sub, Mul, Div, Rem, BitAnd, BitOr, BitXor, Shl, Shr, Equal, NotEqual, Less, LessEqual, Greater, GreaterEqual}
 use Rattle.rs_parse.proofs.NameSigns.{not_true, plain_parts}
 
 abbrev pub Toks : Type 0

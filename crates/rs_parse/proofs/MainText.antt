@@ -2,10 +2,10 @@
 use Rattle.std.proofs.Common.{◌≡◌, Bool, true, false, not, ◌&&◌, List, [], ◌∷◌, ◌++◌, map, codes, bytes_eq, Option, Some, None, refl, ap, subst, ◌∙◌, append-nil}
 use Rattle.std.specs.List.{list_all}
 use Rattle.std.proofs.lemmas.Bool.{and_parts}
-use Rattle.rs_tree.specs.Lines.{text_of_lines, allow_line, declaration_line, initialiser_of, initialiser_line, exit_of, main_of}
-use Rattle.rs_tree.specs.Names.{is_plain_identifier, is_module_name}
-use Rattle.rs_tree.specs.Reads.{is_token, fits, both_fit}
-use Rattle.rs_tree.specs.Tokens.{RToken, Word, Mark, Label, Quoted, Close, tokens_in}
+use Rattle.rs_text.specs.Lines.{text_of_lines, allow_line, declaration_line, initialiser_of, initialiser_line, exit_of, main_of}
+use Rattle.rs_text.specs.Names.{is_plain_identifier, is_module_name}
+use Rattle.rs_text.specs.Reads.{is_token, fits, both_fit}
+use Rattle.rs_text.specs.Tokens.{RToken, Word, Mark, Label, Quoted, Close, tokens_in}
 use Rattle.rs_parse.proofs.Closing.{word_is, label_is, quoted_is, mark_is}
 use Rattle.rs_parse.proofs.Lexing.{Toks, Text, Reads, reads_nil, mild_of, same_self, blank, word_reads, plain_reads, hash, bang, open_bracket, close_bracket, open_paren, close_paren, open_brace, comma, semicolon, path_mark}
 use Rattle.rs_parse.proofs.TextItems.{LinesGood, cons_line, one_line, no_lines, lines_then}

@@ -15,15 +15,15 @@ use Rattle.rs_parse.specs.Reading.{IsOnly, has_main, IsModuleOf, FileHas, IsWron
 use Rattle.rs_parse.proofs.CrateRead.{one_more}
 use Rattle.rs_parse.proofs.Lexing.{Text}
 use Rattle.rs_parse.proofs.ModuleLaws.{one_module}
+use Rattle.rs_text.specs.Lines.{module_names}
+use Rattle.rs_text.specs.Reads.{spells, spells_module, holds_once, texts_named}
+use Rattle.rs_text.specs.Spelling.{module_tokens}
+use Rattle.rs_text.specs.Text.{module_path}
+use Rattle.rs_text.specs.Tree.{ModuleTree, CrateTree, ItemTree}
+use Rattle.rs_text.specs.Valid.{is_function}
 use Rattle.rs_tree.specs.declared.item.Crate.{Crate}
 use Rattle.rs_tree.specs.declared.item.Item.{Item}
 use Rattle.rs_tree.specs.declared.item.Module.{Module}
-use Rattle.rs_tree.specs.Lines.{module_names}
-use Rattle.rs_tree.specs.Reads.{spells, spells_module, holds_once, texts_named}
-use Rattle.rs_tree.specs.Spelling.{module_tokens}
-use Rattle.rs_tree.specs.Text.{module_path}
-use Rattle.rs_tree.specs.Tree.{ModuleTree, CrateTree, ItemTree}
-use Rattle.rs_tree.specs.Valid.{is_function}
 use Rattle.rs_tree.specs.Views.{item_view, module_view, crate_view}
 
 -- ---- one file

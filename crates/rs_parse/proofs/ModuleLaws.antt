@@ -4,11 +4,11 @@ use Rattle.std.specs.List.{list_all}
 use Rattle.std.proofs.lemmas.Bool.{and_parts}
 use Rattle.rs_item.specs.Items.{items}
 use Rattle.rs_lex.specs.Closed.{closed}
-use Rattle.rs_tree.specs.Reads.{both_fit}
-use Rattle.rs_tree.specs.Spelling.{module_tokens}
-use Rattle.rs_tree.specs.Tokens.{RToken, tokens_in}
-use Rattle.rs_tree.specs.Tree.{ModuleTree, ItemTree}
-use Rattle.rs_tree.specs.Valid.{valid_item, valid_items, are_in_order, ends_with_initialiser}
+use Rattle.rs_text.specs.Reads.{both_fit}
+use Rattle.rs_text.specs.Spelling.{module_tokens}
+use Rattle.rs_text.specs.Tokens.{RToken, tokens_in}
+use Rattle.rs_text.specs.Tree.{ModuleTree, ItemTree}
+use Rattle.rs_text.specs.Valid.{valid_item, valid_items, are_in_order, ends_with_initialiser}
 use Rattle.rs_parse.specs.Laws.{ModulesAreRead, TextsAreClosed, OneModule, ModuleTextsSpell}
 use Rattle.rs_parse.proofs.ClosedTrees.{items_closed}
 use Rattle.rs_parse.proofs.ReadItems.{items_read}

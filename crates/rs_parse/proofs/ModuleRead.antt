@@ -9,11 +9,11 @@ use Rattle.rs_lex.specs.declared.lexer.LexFault.TheVariants.{NotTokens}
 use Rattle.rs_lex.specs.declared.token.Token.{Token}
 use Rattle.rs_lex.specs.Lexed.{IsLexed}
 use Rattle.rs_lex.specs.Same.{same_token, same_tokens}
+use Rattle.rs_text.specs.Lines.{module_lines, text_of_lines}
+use Rattle.rs_text.specs.Tokens.{RToken, Word, Label, Quoted, Mark, Close}
+use Rattle.rs_text.specs.Tree.{ModuleTree, ItemTree}
+use Rattle.rs_text.specs.Valid.{valid_items}
 use Rattle.rs_tree.specs.declared.item.Module.{Module}
-use Rattle.rs_tree.specs.Lines.{module_lines, text_of_lines}
-use Rattle.rs_tree.specs.Tokens.{RToken, Word, Label, Quoted, Mark, Close}
-use Rattle.rs_tree.specs.Tree.{ModuleTree, ItemTree}
-use Rattle.rs_tree.specs.Valid.{valid_items}
 use Rattle.rs_tree.specs.Views.{module_view}
 use Rattle.rs_parse.specs.Module.{tokens_of, IsModule, are_theirs}
 use Rattle.rs_parse.proofs.CutFits.{some_same, spells_closed}

@@ -6,7 +6,7 @@ use Rattle.std.proofs.lemmas.Bool.{and_parts, cond-false}
 use Rattle.rs_expr.specs.Signs.{entry_of, words, word_sign, begins_with_digit}
 use Rattle.rs_expr.specs.declared.sign.Sign.{Sign}
 use Rattle.rs_expr.specs.declared.sign.Sign.TheVariants.{Name, Number}
-use Rattle.rs_tree.specs.Names.{is_digit, is_word_byte, is_word, is_among, path_words, keywords, is_plain_identifier, is_raw_identifier, is_identifier}
+use Rattle.rs_text.specs.Names.{is_digit, is_word_byte, is_word, is_among, path_words, keywords, is_plain_identifier, is_raw_identifier, is_identifier}
 
 abbrev Table : Type 0
 Table = List (List ℕ × Sign)

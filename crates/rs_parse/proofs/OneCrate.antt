@@ -3,14 +3,14 @@ use Rattle.std.proofs.Common.{◌≡◌, ℕ, zero, suc, Bool, true, false, not,
 use Rattle.std.specs.List.{list_all, list_any}
 use Rattle.std.proofs.lemmas.Bool.{and_parts}
 use Rattle.shelf.specs.declared.file.File.{File}
-use Rattle.rs_tree.specs.Lines.{module_names, entry_name, name_or_empty}
-use Rattle.rs_tree.specs.Names.{is_module_name}
-use Rattle.rs_tree.specs.Reads.{both_fit, spells, spells_main, texts_named, holds_once, spells_module, ReadsAs}
-use Rattle.rs_tree.specs.Spelling.{module_tokens}
-use Rattle.rs_tree.specs.Text.{module_path, main_path}
-use Rattle.rs_tree.specs.Tokens.{Word, Mark, tokens_in}
-use Rattle.rs_tree.specs.Tree.{ModuleTree, CrateTree, ItemTree}
-use Rattle.rs_tree.specs.Valid.{all_differ, valid_items, valid_names, valid_count, has_entry, valid_crate}
+use Rattle.rs_text.specs.Lines.{module_names, entry_name, name_or_empty}
+use Rattle.rs_text.specs.Names.{is_module_name}
+use Rattle.rs_text.specs.Reads.{both_fit, spells, spells_main, texts_named, holds_once, spells_module, ReadsAs}
+use Rattle.rs_text.specs.Spelling.{module_tokens}
+use Rattle.rs_text.specs.Text.{module_path, main_path}
+use Rattle.rs_text.specs.Tokens.{Word, Mark, tokens_in}
+use Rattle.rs_text.specs.Tree.{ModuleTree, CrateTree, ItemTree}
+use Rattle.rs_text.specs.Valid.{all_differ, valid_items, valid_names, valid_count, has_entry, valid_crate}
 use Rattle.rs_parse.proofs.CrateText.{entry_named, or_parts}
 use Rattle.rs_parse.proofs.Lexing.{Text, Toks, same_self}
 use Rattle.rs_parse.proofs.MainText.{main_tokens, main_plain, main_spelled, plain_tokens, declared, begun, left, head_of_main, allowed}

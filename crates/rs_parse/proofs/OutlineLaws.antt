@@ -23,14 +23,14 @@ use Rattle.rs_parse.proofs.MainText.{main_tokens, main_spelled, declared, begun,
 use Rattle.rs_parse.proofs.ModuleRead.{all_same, all_self}
 use Rattle.rs_parse.proofs.OneCrate.{main_is, names_same, entry_same}
 use Rattle.rs_parse.proofs.Still.{still_closed, main_still}
+use Rattle.rs_text.specs.Lines.{main_of, main_lines, module_names, entry_name, name_or_empty, text_of_lines}
+use Rattle.rs_text.specs.Names.{is_among, is_module_name}
+use Rattle.rs_text.specs.Reads.{both_fit, IsMain}
+use Rattle.rs_text.specs.Tokens.{Word, Mark, tokens_in}
+use Rattle.rs_text.specs.Tree.{ModuleTree, CrateTree}
+use Rattle.rs_text.specs.Valid.{all_differ, valid_names, valid_count}
 use Rattle.rs_tree.specs.declared.item.Crate.{Crate}
 use Rattle.rs_tree.specs.declared.item.Module.{Module}
-use Rattle.rs_tree.specs.Lines.{main_of, main_lines, module_names, entry_name, name_or_empty, text_of_lines}
-use Rattle.rs_tree.specs.Names.{is_among, is_module_name}
-use Rattle.rs_tree.specs.Reads.{both_fit, IsMain}
-use Rattle.rs_tree.specs.Tokens.{Word, Mark, tokens_in}
-use Rattle.rs_tree.specs.Tree.{ModuleTree, CrateTree}
-use Rattle.rs_tree.specs.Valid.{all_differ, valid_names, valid_count}
 use Rattle.rs_tree.specs.Views.{module_view, crate_view}
 use Rattle.rs_valid.specs.Lists.{names_of}
 

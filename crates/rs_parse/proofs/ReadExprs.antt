@@ -8,19 +8,19 @@ use Rattle.rs_expr.specs.Signs.{sign_at, sign, marks, words}
 use Rattle.rs_expr.specs.Types.{ty, SignatureTree}
 use Rattle.rs_expr.specs.declared.sign.Sign.{Sign}
 use Rattle.rs_expr.specs.declared.sign.Sign.TheVariants as of
-use Rattle.rs_tree.specs.Forms.{is_literal}
-use Rattle.rs_tree.specs.Names.{is_identifier}
-use Rattle.rs_tree.specs.Spelling.{place_tokens, expr_tokens, exprs_parts, ty_tokens, tys_parts, result_tokens}
-use Rattle.rs_tree.specs.Spelling as spelling
-use Rattle.rs_tree.specs.Tokens.{RToken, Word, Mark, Close}
-use Rattle.rs_tree.specs.Tree.{Ty, Tys, OptionTy, no_ty, some_ty, tys, option_ty, Place, Local, Static, Deref, Field, Expr, Literal, Truth, NoFunction, Read, Call, CallBy, Wrapped, WrappingNeg, Offset, OffsetFrom, IsNull, IsNone, AddressOf, NullPointer, SomeFunction, Transmute, Neg, Not, Cast, Binary, And, Or, Choose, Exprs, exprs}
-use Rattle.rs_tree.specs.Valid.{valid_place, valid_expr, valid_exprs, valid_path, valid_ty, valid_target, valid_tys, valid_result, is_value}
-use Rattle.rs_tree.specs.Words.{operator_mark, wrapping_word, integer_word}
-use Rattle.rs_tree.specs.declared.expr.Operator.{Operator}
-use Rattle.rs_tree.specs.declared.expr.Operator.TheVariants.{Add, Sub, Mul, Div, Rem, BitAnd, BitOr, BitXor, Shl, Shr, Equal, NotEqual, Less, LessEqual, Greater, GreaterEqual}
-use Rattle.rs_tree.specs.declared.expr.Wrapping.{Wrapping}
-use Rattle.rs_tree.specs.declared.expr.Wrapping.TheVariants.{WrappingAdd, WrappingSub, WrappingMul}
-use Rattle.rs_tree.specs.declared.ty.IntegerTy.{IntegerTy}
+use Rattle.rs_text.specs.Forms.{is_literal}
+use Rattle.rs_text.specs.Names.{is_identifier}
+use Rattle.rs_text.specs.Spelling.{place_tokens, expr_tokens, exprs_parts, ty_tokens, tys_parts, result_tokens}
+use Rattle.rs_text.specs.Spelling as spelling
+use Rattle.rs_text.specs.Tokens.{RToken, Word, Mark, Close}
+use Rattle.rs_text.specs.Tree.{Ty, Tys, OptionTy, no_ty, some_ty, tys, option_ty, Place, Local, Static, Deref, Field, Expr, Literal, Truth, NoFunction, Read, Call, CallBy, Wrapped, WrappingNeg, Offset, OffsetFrom, IsNull, IsNone, AddressOf, NullPointer, SomeFunction, Transmute, Neg, Not, Cast, Binary, And, Or, Choose, Exprs, exprs}
+use Rattle.rs_text.specs.Valid.{valid_place, valid_expr, valid_exprs, valid_path, valid_ty, valid_target, valid_tys, valid_result, is_value}
+use Rattle.rs_text.specs.Words.{operator_mark, wrapping_word, integer_word}
+use Rattle.rs_text.specs.declared.integer.IntegerTy.{IntegerTy}
+use Rattle.rs_text.specs.declared.operator.Operator.{Operator}
+use Rattle.rs_text.specs.declared.operator.Operator.TheVariants.{Add, Sub, Mul, Div, Rem, BitAnd, BitOr, BitXor, Shl, Shr, Equal, NotEqual, Less, LessEqual, Greater, GreaterEqual}
+use Rattle.rs_text.specs.declared.operator.Wrapping.{Wrapping}
+use Rattle.rs_text.specs.declared.operator.Wrapping.TheVariants.{WrappingAdd, WrappingSub, WrappingMul}
 use Rattle.rs_parse.proofs.Digits.{literal_word}
 use Rattle.rs_parse.proofs.NameSigns.{name_sign, not_true}
 use Rattle.rs_parse.proofs.ReadLists.{parts_ahead}

@@ -12,17 +12,17 @@ use Rattle.rs_expr.specs.declared.sign.Sign.{Sign}
 use Rattle.rs_expr.specs.declared.sign.Sign.TheVariants as of
 use Rattle.rs_item.specs.Items.{read_ty, read_result, field_tree, local_tree, typed, text_attribute, attribute_by, attribute, link_name_by, link_name, narrow, repr, field, ends_braces, fields, is_struct, record_tree, record_from, record_item, value, ends_brackets, values, static_tree, static_end, static_from, outer_param, ends_params, outer_params, variadic, outer_tree, outer_end, outer_from, outer, outers, extern_item, param, params, local, ends_locals, locals, HeadTree, head_tree, head, function_from, function_item, record_of, extern_of, static_of, function_of, symbol_item, attributed, hashed, item, ends_module, items}
 use Rattle.rs_item.specs.Stmts.{read_stmts}
-use Rattle.rs_tree.specs.Names.{is_identifier}
-use Rattle.rs_tree.specs.Spelling.{ty_tokens, literal_tokens, stmts_tokens, stmt_tokens, result_tokens, typed_tokens, symbol_tokens, attribute_tokens, repr_tokens, field_tokens, record_item_tokens, zeroed_tokens, values_tokens, static_tokens, variadic_tokens, link_name_tokens, outer_tokens, param_tokens, local_tokens, function_tokens, item_tokens, module_tokens}
-use Rattle.rs_tree.specs.Spelling as spelling
-use Rattle.rs_tree.specs.Tokens.{Word, Mark, Quoted}
-use Rattle.rs_tree.specs.Tree.{Ty, Array, Integer, option_ty, stmts, Stmt, FieldTree, RecordTree, StaticTree, OuterTree, LocalTree, FunctionTree, ItemTree, RecordItem, StaticItem, ExternItem, FunctionItem}
-use Rattle.rs_tree.specs.Valid.{valid_stmt, valid_ty, valid_result, is_value, valid_align, valid_field, valid_record, valid_attribute, valid_values, valid_static, valid_symbol, valid_variadic, valid_outer, valid_local, valid_function, valid_item, valid_stmts}
-use Rattle.rs_tree.specs.Words.{record_word, integer_word}
-use Rattle.rs_tree.specs.declared.item.Attribute.{Attribute}
-use Rattle.rs_tree.specs.declared.item.Attribute.TheVariants.{Mangled, NoMangle, ExportName}
-use Rattle.rs_tree.specs.declared.ty.IntegerTy.{IntegerTy}
-use Rattle.rs_tree.specs.declared.ty.IntegerTy.TheVariants.{I8}
+use Rattle.rs_text.specs.Names.{is_identifier}
+use Rattle.rs_text.specs.Spelling.{ty_tokens, literal_tokens, stmts_tokens, stmt_tokens, result_tokens, typed_tokens, symbol_tokens, attribute_tokens, repr_tokens, field_tokens, record_item_tokens, zeroed_tokens, values_tokens, static_tokens, variadic_tokens, link_name_tokens, outer_tokens, param_tokens, local_tokens, function_tokens, item_tokens, module_tokens}
+use Rattle.rs_text.specs.Spelling as spelling
+use Rattle.rs_text.specs.Tokens.{Word, Mark, Quoted}
+use Rattle.rs_text.specs.Tree.{Ty, Array, Integer, option_ty, stmts, Stmt, FieldTree, RecordTree, StaticTree, OuterTree, LocalTree, FunctionTree, ItemTree, RecordItem, StaticItem, ExternItem, FunctionItem}
+use Rattle.rs_text.specs.Valid.{valid_stmt, valid_ty, valid_result, is_value, valid_align, valid_field, valid_record, valid_attribute, valid_values, valid_static, valid_symbol, valid_variadic, valid_outer, valid_local, valid_function, valid_item, valid_stmts}
+use Rattle.rs_text.specs.Words.{record_word, integer_word}
+use Rattle.rs_text.specs.declared.attribute.Attribute.{Attribute}
+use Rattle.rs_text.specs.declared.attribute.Attribute.TheVariants.{Mangled, NoMangle, ExportName}
+use Rattle.rs_text.specs.declared.integer.IntegerTy.{IntegerTy}
+use Rattle.rs_text.specs.declared.integer.IntegerTy.TheVariants.{I8}
 use Rattle.rs_parse.proofs.Digits.{size_is, literal_word, within_limit}
 use Rattle.rs_parse.proofs.NameSigns.{not_true}
 use Rattle.rs_parse.proofs.ExprStarts.{literal_reads, number_sign, behind_some, front}

@@ -6,9 +6,9 @@ use Rattle.rs_expr.specs.Reading.{Toks, Reader, read_of, added, many, many_ahead
 use Rattle.rs_expr.specs.Signs.{sign_at, sign, marks}
 use Rattle.rs_expr.specs.declared.sign.Sign.{Sign}
 use Rattle.rs_expr.specs.declared.sign.Sign.TheVariants.{Comma}
-use Rattle.rs_tree.specs.Tokens.{Mark}
-use Rattle.rs_tree.specs.Spelling.{behind_commas}
-use Rattle.rs_tree.specs.Spelling as spelling
+use Rattle.rs_text.specs.Tokens.{Mark}
+use Rattle.rs_text.specs.Spelling.{behind_commas}
+use Rattle.rs_text.specs.Spelling as spelling
 
 -- ---- one turn
 

@@ -7,17 +7,17 @@ use Rattle.rs_expr.specs.Signs.{sign_at, sign, text_at, marks, words, word_sign}
 use Rattle.rs_expr.specs.declared.sign.Sign.{Sign}
 use Rattle.rs_expr.specs.declared.sign.Sign.TheVariants as of
 use Rattle.rs_item.specs.Stmts.{read_expr, block, else_by, else_part, if_from, if_stmt, loop_from, block_from, labelled, break_stmt, continue_stmt, arm, ends_arms, read_arms, match_end, match_from, match_stmt, returned_by, return_stmt, copied, copy_stmt, assigned, assign_from, expr_stmt, is_path_mark, is_copy, name_stmt, stmt_by, stmt_from, ends_block, stmts_from, read_stmts}
-use Rattle.rs_tree.specs.Forms.{is_call}
+use Rattle.rs_text.specs.Forms.{is_call}
 use Rattle.std.specs.Fmt.{decimal}
-use Rattle.rs_tree.specs.Names.{is_label}
-use Rattle.rs_tree.specs.Words.{integer_word}
-use Rattle.rs_tree.specs.declared.ty.IntegerTy.{IntegerTy}
+use Rattle.rs_text.specs.Names.{is_label}
+use Rattle.rs_text.specs.Words.{integer_word}
+use Rattle.rs_text.specs.declared.integer.IntegerTy.{IntegerTy}
 use Rattle.rs_parse.proofs.Digits.{literal_word}
-use Rattle.rs_tree.specs.Spelling.{place_tokens, expr_tokens, exprs_parts, literal_tokens, stmt_tokens, stmts_tokens, arm_tokens, arms_tokens, else_tokens, ty_tokens}
-use Rattle.rs_tree.specs.Spelling as spelling
-use Rattle.rs_tree.specs.Tokens.{RToken, Word, Mark, Label}
-use Rattle.rs_tree.specs.Tree.{Place, Local, Static, Deref, Field, Expr, Literal, Truth, NoFunction, Read, Call, CallBy, Wrapped, WrappingNeg, Offset, OffsetFrom, IsNull, IsNone, AddressOf, NullPointer, SomeFunction, Transmute, Neg, Not, Cast, Binary, And, Or, Choose, Stmt, Assign, Eval, CopyBytes, If, Loop, Block, Break, Continue, Match, Return, Stmts, no_stmts, more_stmts, stmts, ArmTree, LiteralArm, Arms, no_arms, more_arms, arms}
-use Rattle.rs_tree.specs.Valid.{valid_place, valid_expr, valid_stmt, valid_stmts, valid_arm, valid_arms, valid_label, valid_returned, is_value}
+use Rattle.rs_text.specs.Spelling.{place_tokens, expr_tokens, exprs_parts, literal_tokens, stmt_tokens, stmts_tokens, arm_tokens, arms_tokens, else_tokens, ty_tokens}
+use Rattle.rs_text.specs.Spelling as spelling
+use Rattle.rs_text.specs.Tokens.{RToken, Word, Mark, Label}
+use Rattle.rs_text.specs.Tree.{Place, Local, Static, Deref, Field, Expr, Literal, Truth, NoFunction, Read, Call, CallBy, Wrapped, WrappingNeg, Offset, OffsetFrom, IsNull, IsNone, AddressOf, NullPointer, SomeFunction, Transmute, Neg, Not, Cast, Binary, And, Or, Choose, Stmt, Assign, Eval, CopyBytes, If, Loop, Block, Break, Continue, Match, Return, Stmts, no_stmts, more_stmts, stmts, ArmTree, LiteralArm, Arms, no_arms, more_arms, arms}
+use Rattle.rs_text.specs.Valid.{valid_place, valid_expr, valid_stmt, valid_stmts, valid_arm, valid_arms, valid_label, valid_returned, is_value}
 use Rattle.rs_parse.proofs.ExprStarts.{ends, opens, op, front, op_opens, expr_begins, begins, literal_reads, number_sign, behind_some}
 use Rattle.rs_parse.proofs.ReadExprs.{exprs_read}
 use Rattle.rs_parse.proofs.ReadLists.{ahead_reads}

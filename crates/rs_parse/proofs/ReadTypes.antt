@@ -9,13 +9,13 @@ use Rattle.rs_expr.specs.Signs.{sign_at, text_at, marks, words}
 use Rattle.rs_expr.specs.Types.{pointer, array, record_ty, result, signature, signature_tree, SignatureTree, code, word_ty, plain_ty, ty_from, ty}
 use Rattle.rs_expr.specs.declared.sign.Sign.{Sign}
 use Rattle.rs_expr.specs.declared.sign.Sign.TheVariants.{Arrow}
-use Rattle.rs_tree.specs.Spelling.{ty_tokens, tys_parts, result_tokens}
-use Rattle.rs_tree.specs.Spelling as spelling
-use Rattle.rs_tree.specs.Tokens.{Word, Mark, Quoted, Close}
-use Rattle.rs_tree.specs.Tree.{Ty, Integer, Boolean, Void, Pointer, Array, Code, Record, Tys, no_tys, more_tys, OptionTy, no_ty, some_ty, tys, option_ty}
-use Rattle.rs_tree.specs.Valid.{valid_ty, valid_tys, valid_result, valid_target, is_length}
-use Rattle.rs_tree.specs.declared.ty.IntegerTy.{IntegerTy}
-use Rattle.rs_tree.specs.declared.ty.IntegerTy.TheVariants.{I8, I16, I32, I64, U8, U16, U32, U64, Isize, Usize}
+use Rattle.rs_text.specs.Spelling.{ty_tokens, tys_parts, result_tokens}
+use Rattle.rs_text.specs.Spelling as spelling
+use Rattle.rs_text.specs.Tokens.{Word, Mark, Quoted, Close}
+use Rattle.rs_text.specs.Tree.{Ty, Integer, Boolean, Void, Pointer, Array, Code, Record, Tys, no_tys, more_tys, OptionTy, no_ty, some_ty, tys, option_ty}
+use Rattle.rs_text.specs.Valid.{valid_ty, valid_tys, valid_result, valid_target, is_length}
+use Rattle.rs_text.specs.declared.integer.IntegerTy.{IntegerTy}
+use Rattle.rs_text.specs.declared.integer.IntegerTy.TheVariants.{I8, I16, I32, I64, U8, U16, U32, U64, Isize, Usize}
 use Rattle.rs_parse.proofs.Digits.{size_is}
 use Rattle.rs_parse.proofs.ReadLists.{parts_ahead}
 

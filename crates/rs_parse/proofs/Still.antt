@@ -8,7 +8,7 @@ use Rattle.rs_parse.proofs.CutFits.{no_end, spells_closed}
 use Rattle.rs_parse.proofs.Lexing.{Toks, Text}
 use Rattle.rs_parse.proofs.MainText.{is_plain, plain_tokens, main_tokens, declared, begun}
 use Rattle.rs_parse.proofs.NameSigns.{not_true}
-use Rattle.rs_tree.specs.Tokens.{RToken, Word, Mark, Label, Quoted, Close, tokens_in}
+use Rattle.rs_text.specs.Tokens.{RToken, Word, Mark, Label, Quoted, Close, tokens_in}
 
 -- p is the token before
 closed_still : (n : ℕ) (p : RToken) (ts : Toks) → list_all is_still ts ≡ true → closed_from n (last_of p) ts ≡ ts

@@ -4,19 +4,19 @@ use Rattle.std.specs.Fmt.{decimal, digits, digits_onto, digit_glyph}
 use Rattle.std.specs.List.{flat_map, list_all}
 use Rattle.std.proofs.lemmas.Bool.{and_parts, cond-true}
 use Rattle.std.proofs.lemmas.Bool.Decides.{nat_tests}
-use Rattle.rs_tree.specs.Forms.{is_call}
-use Rattle.rs_tree.specs.Lines.{line, closing, literal_text, ty_text, result_text, return_line, else_lines, stmt_lines, stmts_lines, arms_lines, function_of, zeroed, static_zeroed, typed_text, attribute_lines, repr_line, field_line, record_lines, values_text, static_lines, outer_param, outer_params, variadic_text, link_name_lines, outer_lines, local_line, param_text, function_lines, item_lines, line_bytes, text_of_lines, listed, behind_commas}
-use Rattle.rs_tree.specs.Names.{is_word_byte, is_identifier, is_word, is_label}
-use Rattle.rs_tree.specs.Spelling.{place_tokens, expr_tokens, literal_tokens, ty_tokens, result_tokens, stmt_tokens, stmts_tokens, arm_tokens, arms_tokens, else_tokens, return_tokens, typed_tokens, attribute_tokens, repr_tokens, field_tokens, record_item_tokens, values_tokens, zeroed_tokens, static_tokens, variadic_tokens, link_name_tokens, outer_tokens, param_tokens, local_tokens, function_tokens, item_tokens}
-use Rattle.rs_tree.specs.Spelling as spelling
-use Rattle.rs_tree.specs.Tokens.{Word, Mark, Label, Quoted}
-use Rattle.rs_tree.specs.Tree.{Ty, option_ty, Expr, Stmt, Assign, Eval, CopyBytes, If, Loop, Block, Break, Continue, Match, Return, Stmts, no_stmts, more_stmts, LiteralArm, Arms, no_arms, more_arms, FieldTree, RecordTree, StaticTree, OuterTree, LocalTree, FunctionTree, ItemTree, RecordItem, StaticItem, ExternItem, FunctionItem}
-use Rattle.rs_tree.specs.Valid.{valid_place, valid_expr, valid_ty, valid_stmt, valid_stmts, valid_arms, valid_label, valid_returned, is_value, valid_align, valid_field, valid_record, valid_attribute, valid_values, valid_static, valid_symbol, valid_variadic, valid_outer, valid_local, valid_function, valid_item, valid_result}
-use Rattle.rs_tree.specs.Words.{record_word}
-use Rattle.rs_tree.specs.declared.files.Line.{Line}
-use Rattle.rs_tree.specs.declared.item.Attribute.{Attribute}
-use Rattle.rs_tree.specs.declared.item.Attribute.TheVariants.{Mangled, NoMangle, ExportName}
-use Rattle.rs_tree.specs.declared.ty.IntegerTy.TheVariants.{I8}
+use Rattle.rs_text.specs.Forms.{is_call}
+use Rattle.rs_text.specs.Lines.{line, closing, literal_text, ty_text, result_text, return_line, else_lines, stmt_lines, stmts_lines, arms_lines, function_of, zeroed, static_zeroed, typed_text, attribute_lines, repr_line, field_line, record_lines, values_text, static_lines, outer_param, outer_params, variadic_text, link_name_lines, outer_lines, local_line, param_text, function_lines, item_lines, line_bytes, text_of_lines, listed, behind_commas}
+use Rattle.rs_text.specs.Names.{is_word_byte, is_identifier, is_word, is_label}
+use Rattle.rs_text.specs.Spelling.{place_tokens, expr_tokens, literal_tokens, ty_tokens, result_tokens, stmt_tokens, stmts_tokens, arm_tokens, arms_tokens, else_tokens, return_tokens, typed_tokens, attribute_tokens, repr_tokens, field_tokens, record_item_tokens, values_tokens, zeroed_tokens, static_tokens, variadic_tokens, link_name_tokens, outer_tokens, param_tokens, local_tokens, function_tokens, item_tokens}
+use Rattle.rs_text.specs.Spelling as spelling
+use Rattle.rs_text.specs.Tokens.{Word, Mark, Label, Quoted}
+use Rattle.rs_text.specs.Tree.{Ty, option_ty, Expr, Stmt, Assign, Eval, CopyBytes, If, Loop, Block, Break, Continue, Match, Return, Stmts, no_stmts, more_stmts, LiteralArm, Arms, no_arms, more_arms, FieldTree, RecordTree, StaticTree, OuterTree, LocalTree, FunctionTree, ItemTree, RecordItem, StaticItem, ExternItem, FunctionItem}
+use Rattle.rs_text.specs.Valid.{valid_place, valid_expr, valid_ty, valid_stmt, valid_stmts, valid_arms, valid_label, valid_returned, is_value, valid_align, valid_field, valid_record, valid_attribute, valid_values, valid_static, valid_symbol, valid_variadic, valid_outer, valid_local, valid_function, valid_item, valid_result}
+use Rattle.rs_text.specs.Words.{record_word}
+use Rattle.rs_text.specs.declared.attribute.Attribute.{Attribute}
+use Rattle.rs_text.specs.declared.attribute.Attribute.TheVariants.{Mangled, NoMangle, ExportName}
+use Rattle.rs_text.specs.declared.integer.IntegerTy.TheVariants.{I8}
+use Rattle.rs_text.specs.declared.line.Line.{Line}
 use Rattle.rs_parse.proofs.Lexing.{Toks, Text, Reads, reads_nil, soft, mild, is_wordy, blank, word_reads, label_reads, quoted_reads, hash, open_bracket, close_bracket, comma, equal, word_wordy}
 use Rattle.rs_parse.proofs.ReadItems.{values_valid, among_small}
 use Rattle.rs_parse.proofs.ReadTypes.{is_target}

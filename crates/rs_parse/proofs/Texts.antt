@@ -5,20 +5,20 @@ use Rattle.std.specs.List.{list_all, starts_with}
 use Rattle.std.proofs.lemmas.Bool.{and_parts}
 use Rattle.std.proofs.lemmas.Bool.Decides.{nat_tests}
 use Rattle.rs_expr.specs.Signs.{begins_with_digit}
-use Rattle.rs_tree.specs.Forms.{is_compound, is_deref, is_literal}
-use Rattle.rs_tree.specs.Lines.{ty_text, tys_texts, result_text, signature, item_path, behind_commas, listed, address_of, null_of, transmute_of, literal_text, place_text, expr_text, exprs_texts}
-use Rattle.rs_tree.specs.Lines as text
-use Rattle.rs_tree.specs.Names.{is_digit, is_word_byte, is_identifier, is_plain_identifier, is_raw_identifier, is_among, keywords}
-use Rattle.rs_tree.specs.Spelling.{place_tokens, expr_tokens, exprs_parts, ty_tokens, tys_parts, result_tokens, literal_tokens}
-use Rattle.rs_tree.specs.Spelling as spelling
-use Rattle.rs_tree.specs.Tokens.{Word, Mark, Quoted, Close}
-use Rattle.rs_tree.specs.Tree.{Ty, Integer, Boolean, Void, Pointer, Array, Code, Record, Tys, no_tys, more_tys, OptionTy, no_ty, some_ty, Place, Local, Static, Deref, Field, Expr, Literal, Truth, NoFunction, Read, Call, CallBy, Wrapped, WrappingNeg, Offset, OffsetFrom, IsNull, IsNone, AddressOf, NullPointer, SomeFunction, Transmute, Neg, Not, Cast, Binary, And, Or, Choose, Exprs, no_exprs, more_exprs}
-use Rattle.rs_tree.specs.Valid.{valid_place, valid_expr, valid_exprs, valid_ty, valid_tys, valid_target, valid_result, valid_path, is_length, is_value}
-use Rattle.rs_tree.specs.Words.{integer_word, operator_mark}
-use Rattle.rs_tree.specs.declared.expr.Operator.{Operator}
-use Rattle.rs_tree.specs.declared.expr.Wrapping.TheVariants.{WrappingAdd, WrappingSub, WrappingMul}
-use Rattle.rs_tree.specs.declared.ty.IntegerTy.{IntegerTy}
-use Rattle.rs_tree.specs.declared.ty.IntegerTy.TheVariants.{I8, I16, I32, I64, U8, U16, U32, U64, Isize, Usize}
+use Rattle.rs_text.specs.Forms.{is_compound, is_deref, is_literal}
+use Rattle.rs_text.specs.Lines.{ty_text, tys_texts, result_text, signature, item_path, behind_commas, listed, address_of, null_of, transmute_of, literal_text, place_text, expr_text, exprs_texts}
+use Rattle.rs_text.specs.Lines as text
+use Rattle.rs_text.specs.Names.{is_digit, is_word_byte, is_identifier, is_plain_identifier, is_raw_identifier, is_among, keywords}
+use Rattle.rs_text.specs.Spelling.{place_tokens, expr_tokens, exprs_parts, ty_tokens, tys_parts, result_tokens, literal_tokens}
+use Rattle.rs_text.specs.Spelling as spelling
+use Rattle.rs_text.specs.Tokens.{Word, Mark, Quoted, Close}
+use Rattle.rs_text.specs.Tree.{Ty, Integer, Boolean, Void, Pointer, Array, Code, Record, Tys, no_tys, more_tys, OptionTy, no_ty, some_ty, Place, Local, Static, Deref, Field, Expr, Literal, Truth, NoFunction, Read, Call, CallBy, Wrapped, WrappingNeg, Offset, OffsetFrom, IsNull, IsNone, AddressOf, NullPointer, SomeFunction, Transmute, Neg, Not, Cast, Binary, And, Or, Choose, Exprs, no_exprs, more_exprs}
+use Rattle.rs_text.specs.Valid.{valid_place, valid_expr, valid_exprs, valid_ty, valid_tys, valid_target, valid_result, valid_path, is_length, is_value}
+use Rattle.rs_text.specs.Words.{integer_word, operator_mark}
+use Rattle.rs_text.specs.declared.integer.IntegerTy.{IntegerTy}
+use Rattle.rs_text.specs.declared.integer.IntegerTy.TheVariants.{I8, I16, I32, I64, U8, U16, U32, U64, Isize, Usize}
+use Rattle.rs_text.specs.declared.operator.Operator.{Operator}
+use Rattle.rs_text.specs.declared.operator.Wrapping.TheVariants.{WrappingAdd, WrappingSub, WrappingMul}
 use Rattle.rs_parse.proofs.Digits.{written}
 use Rattle.rs_parse.proofs.Lexing.{Toks, Text, Reads, soft, mild, mild_of, hard, is_wordy, blank, newline, word_reads, name_reads, plain_reads, quoted_reads, open_paren, close_paren, open_bracket, close_bracket, open_brace, close_brace, comma, semicolon, hash, path_mark, arrow, fat_arrow, and_mark, or_mark, colon, equal, ellipsis, bang_paren, operator_reads, minus, bang, star, dot, less, angles, closes, angles_mild, closes_read, word_wordy, raw_form}
 use Rattle.rs_parse.proofs.NameSigns.{plain_parts}

@@ -1,9 +1,9 @@
 -- How the code reads `Cargo.toml`, a line behind the other.
 use Rattle.std.specs.Prelude.{ℕ, nat_eq, Bool, true, false, not, ◌&&◌, bytes_eq, codes, List, [], ◌∷◌, Option, Some, None, if◌then◌else◌}
 use Rattle.std.specs.List.{list_all, prefix_len}
-use Rattle.rs_tree.specs.declared.files.Line.{Line}
-use Rattle.rs_tree.specs.Reads.{spells, spells_as}
-use Rattle.rs_tree.specs.Tokens.{RToken, Mark, Close, tokens_in}
+use Rattle.rs_text.specs.declared.line.Line.{Line}
+use Rattle.rs_text.specs.Reads.{spells, spells_as}
+use Rattle.rs_text.specs.Tokens.{RToken, Mark, Close, tokens_in}
 
 -- how many bytes stand before the first newline
 abbrev pub line_size : List ℕ → ℕ

@@ -4,11 +4,11 @@ use Rattle.std.specs.List.{list_all}
 use Rattle.shelf.specs.declared.file.File.{File}
 use Rattle.rs_parse.specs.declared.fault.ReadFault.{ReadFault}
 use Rattle.rs_parse.specs.declared.fault.ReadFault.TheVariants.{NotRust, Memory}
-use Rattle.rs_tree.specs.Lines.{module_names, entry_name}
-use Rattle.rs_tree.specs.Reads.{IsMain, in_file, spells_cargo, spells_main, spells_module, texts_named}
-use Rattle.rs_tree.specs.Text.{module_path, main_path, cargo_path}
-use Rattle.rs_tree.specs.Tree.{CrateTree}
-use Rattle.rs_tree.specs.Valid.{valid_crate}
+use Rattle.rs_text.specs.Lines.{module_names, entry_name}
+use Rattle.rs_text.specs.Reads.{IsMain, in_file, spells_cargo, spells_main, spells_module, texts_named}
+use Rattle.rs_text.specs.Text.{module_path, main_path, cargo_path}
+use Rattle.rs_text.specs.Tree.{CrateTree}
+use Rattle.rs_text.specs.Valid.{valid_crate}
 
 -- what is said of the number of the file, where the answer is NotRust
 abbrev pub IfNotRust : {A : Type 0} → Result A ReadFault → (ℕ → Type 0) → Type 0

@@ -4,12 +4,12 @@ use Rattle.std.specs.Prelude.{◌≡◌, true, ℕ, List, Some, IsTrue}
 use Rattle.shelf.specs.declared.file.File.{File}
 use Rattle.rs_item.specs.Items.{items}
 use Rattle.rs_lex.specs.Closed.{closed_in}
-use Rattle.rs_tree.specs.Lines.{module_lines, text_of_lines}
-use Rattle.rs_tree.specs.Reads.{spells, ReadsAs}
-use Rattle.rs_tree.specs.Spelling.{module_tokens}
-use Rattle.rs_tree.specs.Text.{text_of}
-use Rattle.rs_tree.specs.Tree.{ModuleTree, CrateTree}
-use Rattle.rs_tree.specs.Valid.{valid_items, valid_crate}
+use Rattle.rs_text.specs.Lines.{module_lines, text_of_lines}
+use Rattle.rs_text.specs.Reads.{spells, ReadsAs}
+use Rattle.rs_text.specs.Spelling.{module_tokens}
+use Rattle.rs_text.specs.Text.{text_of}
+use Rattle.rs_text.specs.Tree.{ModuleTree, CrateTree}
+use Rattle.rs_text.specs.Valid.{valid_items, valid_crate}
 
 -- the tokens of each valid module are read as its items
 abbrev pub ModulesAreRead : Type 0

@@ -4,12 +4,12 @@ use Rattle.std.specs.List.{flat_map}
 use Rattle.rs_lex.specs.Same.{same_tokens}
 use Rattle.rs_parse.specs.declared.fault.ReadFault.{ReadFault}
 use Rattle.rs_parse.specs.declared.fault.ReadFault.TheVariants.{NotRust, Memory}
+use Rattle.rs_text.specs.Reads.{spells}
+use Rattle.rs_text.specs.Spelling.{item_tokens}
+use Rattle.rs_text.specs.Tokens.{RToken}
+use Rattle.rs_text.specs.Tree.{ItemTree}
+use Rattle.rs_text.specs.Valid.{valid_items}
 use Rattle.rs_tree.specs.declared.item.Item.{Item}
-use Rattle.rs_tree.specs.Reads.{spells}
-use Rattle.rs_tree.specs.Spelling.{item_tokens}
-use Rattle.rs_tree.specs.Tokens.{RToken}
-use Rattle.rs_tree.specs.Tree.{ItemTree}
-use Rattle.rs_tree.specs.Valid.{valid_items}
 use Rattle.rs_tree.specs.Views.{item_view}
 
 -- the tokens of the items of a module

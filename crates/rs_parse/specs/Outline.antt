@@ -7,11 +7,11 @@ use Rattle.rs_parse.specs.declared.fault.ReadFault.TheVariants.{NotRust, Memory}
 use Rattle.rs_tree.specs.declared.item.Crate.{Crate}
 use Rattle.rs_lex.specs.Closed.{closed_in}
 use Rattle.rs_lex.specs.Same.{same_tokens}
-use Rattle.rs_tree.specs.Lines.{main_lines, module_names, entry_name, text_of_lines}
-use Rattle.rs_tree.specs.Names.{is_among}
-use Rattle.rs_tree.specs.Reads.{IsMain}
-use Rattle.rs_tree.specs.Tree.{CrateTree}
-use Rattle.rs_tree.specs.Valid.{valid_names}
+use Rattle.rs_text.specs.Lines.{main_lines, module_names, entry_name, text_of_lines}
+use Rattle.rs_text.specs.Names.{is_among}
+use Rattle.rs_text.specs.Reads.{IsMain}
+use Rattle.rs_text.specs.Tree.{CrateTree}
+use Rattle.rs_text.specs.Valid.{valid_names}
 use Rattle.rs_tree.specs.Views.{crate_view}
 
 -- the names behind `mod` in front of tokens, at most so many

@@ -8,13 +8,13 @@ use Rattle.rs_parse.specs.declared.fault.ReadFault.TheVariants.{NotRust, Memory}
 use Rattle.rs_parse.specs.Crates.{IsAtFault}
 use Rattle.rs_parse.specs.Module.{IsModule}
 use Rattle.rs_parse.specs.Outline.{Outlines}
+use Rattle.rs_text.specs.Lines.{module_names}
+use Rattle.rs_text.specs.Reads.{in_file, spells_cargo, texts_named, spells_module, ReadsAs}
+use Rattle.rs_text.specs.Text.{module_path, main_path, cargo_path}
+use Rattle.rs_text.specs.Tree.{ModuleTree, CrateTree, ItemTree}
+use Rattle.rs_text.specs.Valid.{is_function, valid_items}
 use Rattle.rs_tree.specs.declared.item.Crate.{Crate}
 use Rattle.rs_tree.specs.declared.item.Module.{Module}
-use Rattle.rs_tree.specs.Lines.{module_names}
-use Rattle.rs_tree.specs.Reads.{in_file, spells_cargo, texts_named, spells_module, ReadsAs}
-use Rattle.rs_tree.specs.Text.{module_path, main_path, cargo_path}
-use Rattle.rs_tree.specs.Tree.{ModuleTree, CrateTree, ItemTree}
-use Rattle.rs_tree.specs.Valid.{is_function, valid_items}
 use Rattle.rs_tree.specs.Views.{module_view, crate_view}
 
 -- The file with this number has a name.

@@ -4,7 +4,7 @@ ghost use Rattle.std.specs.Prelude.{◌≡◌, ◌≤◌, ◌+◌, [], length, d
 ghost use Rattle.std.specs.List.{list_all};
 ghost use Rattle.std.specs.Option.{is_none};
 ghost use Rattle.rs_parse.specs.Cargo as cargo;
-ghost use Rattle.rs_tree.specs.Reads.{lines_in, spells, spells_as, spells_cargo, spells_lines};
+ghost use Rattle.rs_text.specs.Reads.{lines_in, spells, spells_as, spells_cargo, spells_lines};
 
 use cr_base::Memory;
 use rs_lex::{LexFault, lex, same_tokens};

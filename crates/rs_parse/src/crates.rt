@@ -6,11 +6,11 @@ ghost use Rattle.std.specs.List.{list_any};
 ghost use Rattle.rs_parse.specs.Crates.{IfNotRust, IsAtFault};
 ghost use Rattle.rs_parse.specs.Crates as crates;
 ghost use Rattle.rs_parse.specs.Reading.{AreModulesRead, IsAt, IsCrateRead, IsHeaded, IsMainOf, IsModuleAt, IsModuleRead, IsOnly};
-ghost use Rattle.rs_tree.specs.Lines.{module_names};
-ghost use Rattle.rs_tree.specs.Reads.{ReadsAs};
-ghost use Rattle.rs_tree.specs.Text.{cargo_path, main_path};
-ghost use Rattle.rs_tree.specs.Tree.{CrateTree};
-ghost use Rattle.rs_tree.specs.Valid.{is_function};
+ghost use Rattle.rs_text.specs.Lines.{module_names};
+ghost use Rattle.rs_text.specs.Reads.{ReadsAs};
+ghost use Rattle.rs_text.specs.Text.{cargo_path, main_path};
+ghost use Rattle.rs_text.specs.Tree.{CrateTree};
+ghost use Rattle.rs_text.specs.Valid.{is_function};
 ghost use Rattle.rs_tree.specs.Views.{item_view, crate_view};
 
 use crate::cargo::other_cargo_line;

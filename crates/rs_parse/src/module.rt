@@ -4,7 +4,7 @@ ghost use Rattle.std.specs.Prelude.{◌≡◌, IfOk, IsTrue};
 ghost use Rattle.std.specs.Option.{is_none};
 ghost use Rattle.rs_lex.specs.Views.{tokens_view};
 ghost use Rattle.rs_parse.specs.Module.{IsRead, tokens_of, are_theirs};
-ghost use Rattle.rs_tree.specs.Valid.{valid_items};
+ghost use Rattle.rs_text.specs.Valid.{valid_items};
 ghost use Rattle.rs_tree.specs.Views.{module_view};
 
 use crate::fault::ReadFault;

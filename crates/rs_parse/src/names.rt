@@ -5,7 +5,7 @@ ghost use Rattle.std.specs.List.{list_all};
 ghost use Rattle.std.specs.Option.{is_some};
 ghost use Rattle.rs_parse.specs.Crates as crates;
 ghost use Rattle.rs_parse.specs.Reading.{IsOnly};
-ghost use Rattle.rs_tree.specs.Text as text;
+ghost use Rattle.rs_text.specs.Text as text;
 ghost use Rattle.rs_valid.specs.Lists.{names_of};
 
 use cr_base::{Items, Memory, Name};

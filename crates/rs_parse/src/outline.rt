@@ -6,9 +6,9 @@ ghost use Rattle.rs_lex.specs.Closed.{closed_in};
 ghost use Rattle.rs_lex.specs.Views.{tokens_view};
 ghost use Rattle.rs_parse.specs.Crates.{IfNotRust, NamesModules};
 ghost use Rattle.rs_parse.specs.Outline.{IsOutlined, IsOutlineIn, are_mains, declared, declared_in, entry_in};
-ghost use Rattle.rs_tree.specs.Lines.{main_lines, module_names, text_of_lines};
-ghost use Rattle.rs_tree.specs.Names.{is_among};
-ghost use Rattle.rs_tree.specs.Valid.{valid_names};
+ghost use Rattle.rs_text.specs.Lines.{main_lines, module_names, text_of_lines};
+ghost use Rattle.rs_text.specs.Names.{is_among};
+ghost use Rattle.rs_text.specs.Valid.{valid_names};
 ghost use Rattle.rs_tree.specs.Views.{crate_view};
 ghost use Rattle.rs_valid.specs.Lists.{names_of};
 

@@ -1,7 +1,7 @@
 -- Blanks before lines.
 use Rattle.std.proofs.Common.{◌≡◌, ℕ, ◌+◌, ◌*◌, List, ◌++◌, replicate, codes, sym, ap, ◌∙◌, append_assoc, arith}
 use Rattle.std.proofs.lemmas.List.{replicate-append-replicate}
-use Rattle.rs_tree.specs.Lines.{indentation}
+use Rattle.rs_text.specs.Lines.{indentation}
 
 -- one brace more has four blanks more
 one_level_more : (depth : ℕ) → indentation (depth + 1) ≡ indentation depth ++ codes "    "

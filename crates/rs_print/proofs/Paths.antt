@@ -6,8 +6,8 @@ use Rattle.std.specs.List.{list_all}
 use Rattle.std.proofs.lemmas.Bool.Decides.{nat_tests}
 use Rattle.std.proofs.lemmas.Str.{IsUtf8-from_ascii, IsAscii-append}
 use Rattle.std.proofs.lemmas.Str.Ascii.{IsAscii-nil, IsAscii-cons}
-use Rattle.rs_tree.specs.Names.{is_digit, is_word_byte, is_word}
-use Rattle.rs_tree.specs.Text.{module_path}
+use Rattle.rs_text.specs.Names.{is_digit, is_word_byte, is_word}
+use Rattle.rs_text.specs.Text.{module_path}
 
 pub first_holds : (a b : Bool) → (a && b) ≡ true → a ≡ true
 first_holds true b h = cc

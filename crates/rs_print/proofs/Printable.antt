@@ -1,9 +1,9 @@
 -- Valid crates can be printed.
 use Rattle.std.proofs.Common.{◌≡◌, true, ◌&&◌, List, [], ◌∷◌, refl, ap, ◌∙◌, map}
 use Rattle.std.specs.List.{list_all}
-use Rattle.rs_tree.specs.Names.{is_word, is_plain_identifier, is_module_name}
-use Rattle.rs_tree.specs.Tree.{ModuleTree}
-use Rattle.rs_tree.specs.Valid.{valid_names}
+use Rattle.rs_text.specs.Names.{is_word, is_plain_identifier, is_module_name}
+use Rattle.rs_text.specs.Tree.{ModuleTree}
+use Rattle.rs_text.specs.Valid.{valid_names}
 use Rattle.rs_print.specs.Condition.{have_words, ValidIsPrintable}
 use Rattle.rs_print.proofs.Paths.{first_holds, second_holds}
 

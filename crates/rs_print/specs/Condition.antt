@@ -1,9 +1,9 @@
 -- Which crates can be printed.
 use Rattle.std.specs.Prelude.{Bool, IsTrue, List}
 use Rattle.std.specs.List.{list_all}
-use Rattle.rs_tree.specs.Names.{is_word}
-use Rattle.rs_tree.specs.Tree.{ModuleTree, CrateTree}
-use Rattle.rs_tree.specs.Valid.{valid_crate}
+use Rattle.rs_text.specs.Names.{is_word}
+use Rattle.rs_text.specs.Tree.{ModuleTree, CrateTree}
+use Rattle.rs_text.specs.Valid.{valid_crate}
 
 -- the names of modules are words, so the paths of their files are texts
 abbrev pub have_words : List ModuleTree → Bool

@@ -1,5 +1,5 @@
 ghost use Rattle.std.specs.Prelude.{◌≡◌, ◌++◌, IfOk, OnOk};
-ghost use Rattle.rs_tree.specs.Lines.{indentation, line_bytes, text_of_lines};
+ghost use Rattle.rs_text.specs.Lines.{indentation, line_bytes, text_of_lines};
 
 use cr_base::{Items, Memory};
 use rs_tree::Line;

@@ -1,7 +1,7 @@
 ghost use Rattle.std.specs.Prelude.{◌≡◌, ◌∷◌, [], ◌++◌, map, IfOk, IsTrue, IsUtf8, IsOk};
-ghost use Rattle.rs_tree.specs.Lines.{main_lines, cargo_lines, text_of_lines};
-ghost use Rattle.rs_tree.specs.Names.{is_word};
-ghost use Rattle.rs_tree.specs.Text.{module_path, module_file, main_path, cargo_path, file_of, text_of};
+ghost use Rattle.rs_text.specs.Lines.{main_lines, cargo_lines, text_of_lines};
+ghost use Rattle.rs_text.specs.Names.{is_word};
+ghost use Rattle.rs_text.specs.Text.{module_path, module_file, main_path, cargo_path, file_of, text_of};
 ghost use Rattle.rs_print.specs.Condition.{have_words, IsPrintable};
 ghost use Rattle.rs_tree.specs.Views.{module_view, crate_view};
 

@@ -9,7 +9,7 @@ use Rattle.rs_mean.specs.Layout.{laid_of}
 use Rattle.rs_mean.specs.Lookups.{LocalBlock}
 use Rattle.rs_mean.specs.Values.{Typed}
 use Rattle.rs_mean.specs.World.{Run, pure, seq}
-use Rattle.rs_tree.specs.Tree.{LocalTree, ModuleTree}
+use Rattle.rs_text.specs.Tree.{LocalTree, ModuleTree}
 use Rattle.rs_tree.specs.declared.item.Local.{Local}
 use Rattle.rs_tree.specs.declared.ty.RTy.{RTy}
 use Rattle.rs_tree.specs.Views.{local_view, ty_view}

@@ -9,9 +9,9 @@ use Rattle.rs_mean.specs.declared.cause.Cause.TheVariants.{WrongCall}
 use Rattle.rs_mean.specs.Calls.{spot}
 use Rattle.rs_mean.specs.Run.{field_spot, spot_of_field}
 use Rattle.rs_mean.specs.World.{or_cause, cause_of_pointer}
+use Rattle.rs_text.specs.Tree.{Ty, Integer, Boolean, Void, Pointer, Array, Code, Record, ModuleTree, tys}
 use Rattle.rs_tree.specs.declared.item.Local.{Local}
 use Rattle.rs_tree.specs.declared.ty.RTy.{RTy}
-use Rattle.rs_tree.specs.Tree.{Ty, Integer, Boolean, Void, Pointer, Array, Code, Record, ModuleTree, tys}
 use Rattle.rs_tree.specs.Views.{local_view, ty_view}
 use Rattle.rs_layout.specs.Places.{place_view}
 use Rattle.rs_layout.specs.declared.places.PlacedField.{PlacedField}

@@ -3,8 +3,8 @@ use Rattle.std.specs.Prelude.{◌≡◌, Bool, true, false, ◌&&◌, List, [], 
 use Rattle.std.specs.Option.{option_copied}
 use Rattle.rs_mean.specs.Run as run
 use Rattle.rs_mean.specs.Scalars.{alike}
+use Rattle.rs_text.specs.Tree.{Ty, Record, Tys, no_tys, more_tys, OptionTy, no_ty, some_ty, tys, option_ty}
 use Rattle.rs_tree.specs.declared.ty.RPath.{RPath}
-use Rattle.rs_tree.specs.Tree.{Ty, Record, Tys, no_tys, more_tys, OptionTy, no_ty, some_ty, tys, option_ty}
 use Rattle.rs_tree.specs.Views.{function_view, ty_view}
 use Rattle.rs_scene.specs.declared.values.Pointed.{Pointed}
 

@@ -6,7 +6,7 @@ use Rattle.mem_bytes.specs.declared.value.Value.TheVariants.{Whole}
 use Rattle.rs_mean.specs.Run as run
 use Rattle.rs_mean.specs.World.{Round, again, done}
 use Rattle.rs_mean.specs.Values.{Typed}
-use Rattle.rs_tree.specs.Tree.{Stmts, ArmTree, LiteralArm}
+use Rattle.rs_text.specs.Tree.{Stmts, ArmTree, LiteralArm}
 use Rattle.rs_value.specs.Views.{typed_view}
 use Rattle.rs_scene.specs.declared.flow.Flow.{Flow}
 use Rattle.rs_scene.specs.declared.flow.Flow.TheVariants as flow

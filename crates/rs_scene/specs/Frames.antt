@@ -6,7 +6,7 @@ use Rattle.rs_mean.specs.Calls.{begin_params, begin_locals}
 use Rattle.rs_mean.specs.Lookups.{LocalBlock}
 use Rattle.rs_mean.specs.Values.{Typed}
 use Rattle.rs_mean.specs.World.{Run, pure, seq}
-use Rattle.rs_tree.specs.Tree.{FunctionTree, ModuleTree}
+use Rattle.rs_text.specs.Tree.{FunctionTree, ModuleTree}
 
 -- the parameters and locals of a called function begin
 abbrev pub frame_begins : List ModuleTree → FunctionTree → List Typed → Run (List LocalBlock)

@@ -6,7 +6,7 @@ ghost use Rattle.rs_scene.specs.Flows.{behind_block, body_of, chosen, flow_view,
 ghost use Rattle.rs_machine.specs.Does.{Stays, end_of};
 ghost use Rattle.rs_mean.specs.Run as run;
 ghost use Rattle.rs_mean.specs.World.{pure};
-ghost use Rattle.rs_tree.specs.Tree.{stmts};
+ghost use Rattle.rs_text.specs.Tree.{stmts};
 ghost use Rattle.rs_tree.specs.Views.{arm_view, stmt_view};
 ghost use Rattle.rs_value.specs.Views.{typed_view};
 

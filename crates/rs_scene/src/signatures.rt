@@ -8,7 +8,7 @@ ghost use Rattle.rs_mean.specs.Calls.{accepts};
 ghost use Rattle.rs_mean.specs.Lookups.{signature_of, own_signature};
 ghost use Rattle.rs_mean.specs.Run as run;
 ghost use Rattle.rs_mean.specs.Scalars.{alike};
-ghost use Rattle.rs_tree.specs.Tree.{option_ty, some_ty, tys};
+ghost use Rattle.rs_text.specs.Tree.{option_ty, some_ty, tys};
 ghost use Rattle.rs_tree.specs.Views.{function_view, local_view, ty_view};
 ghost use Rattle.rs_layout.specs.Found.{callee_view};
 ghost use Rattle.rs_value.specs.Views.{typed_view, value_ty_view};

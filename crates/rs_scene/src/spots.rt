@@ -6,7 +6,7 @@ ghost use Rattle.rs_scene.specs.Scenes.{IsScene, frame_view, home_view};
 ghost use Rattle.rs_machine.specs.Does.{Stays, end_of, found_end};
 ghost use Rattle.rs_machine.specs.Steps.{LookDoes};
 ghost use Rattle.rs_mean.specs.Run as run;
-ghost use Rattle.rs_tree.specs.Tree as tree;
+ghost use Rattle.rs_text.specs.Tree as tree;
 ghost use Rattle.rs_tree.specs.Views.{module_view, ty_view};
 ghost use Rattle.std.specs.Option.{option_copied};
 ghost use Rattle.mem_bytes.specs.Pointers.{moved};

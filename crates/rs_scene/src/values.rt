@@ -9,8 +9,8 @@ ghost use Rattle.rs_machine.specs.Does.{Stays, end_of, found_end};
 ghost use Rattle.rs_mean.specs.Run as run;
 ghost use Rattle.rs_mean.specs.Values.{truth, typed};
 ghost use Rattle.rs_mean.specs.World.{or_fails, pure};
-ghost use Rattle.rs_tree.specs.Tree as tree;
-ghost use Rattle.rs_tree.specs.Tree.{option_ty, tys};
+ghost use Rattle.rs_text.specs.Tree as tree;
+ghost use Rattle.rs_text.specs.Tree.{option_ty, tys};
 ghost use Rattle.rs_tree.specs.Views.{module_view, ty_view};
 ghost use Rattle.rs_value.specs.Views.{seen_as, typed_view};
 

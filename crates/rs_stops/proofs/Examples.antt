@@ -4,9 +4,9 @@ use Rattle.std.proofs.Common.{refl}
 use Rattle.cr_world.specs.Known.{known_table}
 use Rattle.cr_world.specs.World.{trail_of, full}
 use Rattle.mem_bytes.specs.Counted.{Limit}
-use Rattle.rs_tree.specs.declared.item.Attribute.TheVariants.{Mangled}
-use Rattle.rs_tree.specs.declared.ty.IntegerTy.TheVariants.{I32}
-use Rattle.rs_tree.specs.Tree.{Integer, Array, Literal, Return, stmts, FunctionItem, CrateTree}
+use Rattle.rs_text.specs.declared.attribute.Attribute.TheVariants.{Mangled}
+use Rattle.rs_text.specs.declared.integer.IntegerTy.TheVariants.{I32}
+use Rattle.rs_text.specs.Tree.{Integer, Array, Literal, Return, stmts, FunctionItem, CrateTree}
 use Rattle.rs_mean.specs.Run.{RProgress, ended, stopped, rs_run_on}
 use Rattle.rs_mean.specs.World.{pure, fails, ends, seq, takes_unit, local, tells, grants, begins, rounds}
 

@@ -7,7 +7,7 @@ use Rattle.ext_calls.specs.declared.call.Call.{Call}
 use Rattle.mem_bytes.specs.Counted.{Limit, after_alloc}
 use Rattle.mem_bytes.specs.declared.value.Ptr.{Ptr}
 use Rattle.mem_bytes.specs.declared.value.Value.{Value}
-use Rattle.rs_tree.specs.Tree.{OuterTree, FunctionTree, ModuleTree}
+use Rattle.rs_text.specs.Tree.{OuterTree, FunctionTree, ModuleTree}
 use Rattle.rs_mean.specs.declared.cause.Cause.{Cause}
 use Rattle.rs_mean.specs.Calls.{outer_call}
 use Rattle.rs_mean.specs.Run.{bodies_within, ran, seen_of}

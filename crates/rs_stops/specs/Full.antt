@@ -2,7 +2,7 @@
 use Rattle.std.specs.Prelude.{ℕ, None}
 use Rattle.cr_world.specs.World.{Outside, trail_of, wrong, full, asks, astray}
 use Rattle.rs_mean.specs.Run.{RProgress, going, ended, stopped, rs_run_on}
-use Rattle.rs_tree.specs.Tree.{CrateTree}
+use Rattle.rs_text.specs.Tree.{CrateTree}
 
 -- what a run comes to whose objects all have room
 abbrev pub HasRoom : RProgress → Type 0

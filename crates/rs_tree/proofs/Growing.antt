@@ -1,8 +1,8 @@
 -- Lists that grow until memory runs out.
 use Rattle.std.proofs.Common.{◌≡◌, ℕ, List, [], ◌∷◌, ◌++◌, Option, Some, None, sym, ap, subst, ◌∙◌, append_assoc, append-nil}
-use Rattle.rs_tree.specs.declared.files.Line.{Line}
-use Rattle.rs_tree.specs.Lines.{line}
-use Rattle.rs_tree.specs.Printing.{Appends, grown, AddsLine}
+use Rattle.rs_text.specs.declared.line.Line.{Line}
+use Rattle.rs_text.specs.Lines.{line}
+use Rattle.rs_text.specs.Printing.{Appends, grown, AddsLine}
 
 pub nothing_more : {A : Type 0} (a : Option (List A)) → Appends a a []
 nothing_more None = tt

@@ -1,5 +1,7 @@
 -- What variants of the declared types are as trees.
 use Rattle.std.proofs.Common.{◌≡◌, rules, map, List, Option, option_map}
+use Rattle.rs_text.specs.Tree as tree
+use Rattle.rs_text.specs.Tree.{tys, option_ty}
 use Rattle.rs_tree.specs.declared.expr.RExpr.{RExpr}
 use Rattle.rs_tree.specs.declared.expr.RExpr.TheFolds.{fold_out-RExpr}
 use Rattle.rs_tree.specs.declared.expr.RExpr.TheBlock as plain
@@ -10,8 +12,6 @@ use Rattle.rs_tree.specs.declared.ty.RTy.{RTy, fold_out-RTy, fold-roll-RTy}
 use Rattle.rs_tree.specs.declared.ty.RTy.TheBlock as raw
 use Rattle.rs_tree.specs.declared.ty.RTy.TheViews as made
 use Rattle.rs_tree.specs.declared.ty.RTy.TheViews.{the_lemmas}
-use Rattle.rs_tree.specs.Tree as tree
-use Rattle.rs_tree.specs.Tree.{tys, option_ty}
 use Rattle.rs_tree.specs.Views.{ty_view, expr_view}
 
 pub void_view : ty_view raw.Void ≡ tree.Void

@@ -1,8 +1,8 @@
 -- The two parts of an expression and of a statement are the whole.
 use Rattle.std.proofs.Common.{ℕ, ◌≡◌, ◌++◌, refl, append-nil, append_assoc}
-use Rattle.rs_tree.specs.Lines.{stmt_lines, expr_text}
-use Rattle.rs_tree.specs.Parts.{first_text, second_text, simple_lines, compound_lines}
-use Rattle.rs_tree.specs.Tree.{Expr, Literal, Truth, NoFunction, Read, Call, CallBy, Wrapped, WrappingNeg, Offset, OffsetFrom, IsNull, IsNone, AddressOf, NullPointer, SomeFunction, Transmute, Neg, Not, Cast, Binary, And, Or, Choose, Stmt, Assign, Eval, CopyBytes, If, Loop, Block, Break, Continue, Match, Return}
+use Rattle.rs_text.specs.Lines.{stmt_lines, expr_text}
+use Rattle.rs_text.specs.Parts.{first_text, second_text, simple_lines, compound_lines}
+use Rattle.rs_text.specs.Tree.{Expr, Literal, Truth, NoFunction, Read, Call, CallBy, Wrapped, WrappingNeg, Offset, OffsetFrom, IsNull, IsNone, AddressOf, NullPointer, SomeFunction, Transmute, Neg, Not, Cast, Binary, And, Or, Choose, Stmt, Assign, Eval, CopyBytes, If, Loop, Block, Break, Continue, Match, Return}
 
 pub expr_in_parts : (e : Expr) → first_text e ++ second_text e ≡ expr_text e
 expr_in_parts (Literal value ty) = append-nil (expr_text (Literal value ty))

@@ -1,5 +1,7 @@
 -- Which tree a value of each declared type is.
 use Rattle.std.specs.Prelude.{map, option_map}
+use Rattle.rs_text.specs.Tree as tree
+use Rattle.rs_text.specs.Tree.{Ty, Place, Expr, Stmt, ArmTree, FieldTree, RecordTree, StaticTree, OuterTree, LocalTree, FunctionTree, ItemTree, ModuleTree, CrateTree, tys, option_ty, exprs, stmts, arms}
 use Rattle.rs_tree.specs.declared.expr.RExpr.{RExpr}
 use Rattle.rs_tree.specs.declared.expr.RExpr.TheFolds.{fold-RExpr, fold-RPlace}
 use Rattle.rs_tree.specs.declared.expr.RExpr.TheOpen as e
@@ -20,8 +22,6 @@ use Rattle.rs_tree.specs.declared.stmt.RStmt.TheFolds.{fold-RStmt, fold-Arm}
 use Rattle.rs_tree.specs.declared.stmt.RStmt.TheOpen as s
 use Rattle.rs_tree.specs.declared.ty.RTy.{RTy, fold-RTy}
 use Rattle.rs_tree.specs.declared.ty.RTy.TheOpen as t
-use Rattle.rs_tree.specs.Tree as tree
-use Rattle.rs_tree.specs.Tree.{Ty, Place, Expr, Stmt, ArmTree, FieldTree, RecordTree, StaticTree, OuterTree, LocalTree, FunctionTree, ItemTree, ModuleTree, CrateTree, tys, option_ty, exprs, stmts, arms}
 
 -- ---- one node, with the trees of its children
 

@@ -3,7 +3,7 @@
 
 ghost use Rattle.std.specs.Prelude.{◌≡◌, [], Some};
 ghost use Rattle.std.specs.Fmt.{signed_decimal};
-ghost use Rattle.rs_tree.specs.Printing.{Appends};
+ghost use Rattle.rs_text.specs.Printing.{Appends};
 
 use cr_base::{Int, Name};
 use itoa::Buffer;

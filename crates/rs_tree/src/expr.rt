@@ -1,5 +1,6 @@
-use crate::ty::{IntegerTy, RPath, RTy};
+use crate::ty::{RPath, RTy};
 use cr_base::{Boxed, Int, Items, Name};
+use rs_text::{IntegerTy, Operator, Wrapping};
 
 /// A place (the Rust Reference, "Place expressions and value expressions").
 #[cycle(expression)]
@@ -66,34 +67,4 @@ pub enum RExpr {
     Or(Boxed<RExpr>, Boxed<RExpr>),
     /// `if e { e } else { e }` ("if expressions").
     Choose(Boxed<RExpr>, Boxed<RExpr>, Boxed<RExpr>),
-}
-
-/// An operator between two operands that are both evaluated (the Rust Reference, "Arithmetic and logical
-/// binary operators" and "Comparison operators").
-#[derive(Clone, Copy, PartialEq, Eq)]
-pub enum Operator {
-    Add,
-    Sub,
-    Mul,
-    Div,
-    Rem,
-    BitAnd,
-    BitOr,
-    BitXor,
-    Shl,
-    Shr,
-    Equal,
-    NotEqual,
-    Less,
-    LessEqual,
-    Greater,
-    GreaterEqual,
-}
-
-/// An operation modulo 2 to the width of an integer type (`core`, the integer types' methods).
-#[derive(Clone, Copy, PartialEq, Eq)]
-pub enum Wrapping {
-    WrappingAdd,
-    WrappingSub,
-    WrappingMul,
 }

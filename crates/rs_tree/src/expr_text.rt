@@ -2,22 +2,23 @@
 #![tactic(auto, using(crate::proofs::Growing::growing))]
 
 ghost use Rattle.std.specs.Prelude.{◌≡◌, ◌++◌, [], ◌∷◌, map, option_map, codes};
-ghost use Rattle.rs_tree.specs.Forms as forms;
-ghost use Rattle.rs_tree.specs.Lines as text;
-ghost use Rattle.rs_tree.specs.Parts as parts;
-ghost use Rattle.rs_tree.specs.Printing.{Appends};
-ghost use Rattle.rs_tree.specs.Tree as tree;
-ghost use Rattle.rs_tree.specs.Tree.{exprs, tys, option_ty};
+ghost use Rattle.rs_text.specs.Forms as forms;
+ghost use Rattle.rs_text.specs.Lines as text;
+ghost use Rattle.rs_text.specs.Parts as parts;
+ghost use Rattle.rs_text.specs.Printing.{Appends};
+ghost use Rattle.rs_text.specs.Tree as tree;
+ghost use Rattle.rs_text.specs.Tree.{exprs, tys, option_ty};
 ghost use Rattle.rs_tree.specs.Views.{ty_view, place_view, expr_view};
 
 use crate::draft::Draft;
 use crate::expr::{RExpr, RPlace};
-use crate::ty::{IntegerTy, RPath, RTy};
+use crate::ty::{RPath, RTy};
 use crate::type_text::{put_path, put_signature, put_ty};
 use crate::words::{
     address_of, integer_word, null_of, operator_mark, transmute_of, truth_word, wrapping_word,
 };
 use cr_base::{Boxed, Int, Items};
+use rs_text::IntegerTy;
 
 /// Writes a literal with its type.
 pub(crate) fn put_literal(draft: &mut Draft, value: Int, ty: IntegerTy)

@@ -1,6 +1,7 @@
 use crate::stmt::RStmt;
 use crate::ty::RTy;
 use cr_base::{Boxed, Int, Items, Name};
+use rs_text::Attribute;
 
 /// A crate: its modules, in the order of their units, and the module that has `main_0`.
 #[derive(Drop)]
@@ -46,18 +47,6 @@ pub struct Record {
 pub struct Field {
     pub name: Name,
     pub ty: Boxed<RTy>,
-}
-
-/// The attribute that says by which symbol an item is known to the linker (the Rust Reference,
-/// "Application binary interface").
-#[derive(Drop)]
-pub enum Attribute {
-    /// None: the item is known to its crate alone.
-    Mangled,
-    /// `#[no_mangle]`: the symbol is the item's name.
-    NoMangle,
-    /// `#[export_name = "s"]`: the symbol is s.
-    ExportName(Name),
 }
 
 /// `pub static mut x: T = ..;`, a static object (the Rust Reference, "Static items").

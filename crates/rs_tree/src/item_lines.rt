@@ -3,21 +3,22 @@
 
 ghost use Rattle.std.specs.Prelude.{◌≡◌, ◌++◌, [], ◌∷◌, ◌+◌, map, option_map, codes};
 ghost use Rattle.std.specs.List.{flat_map};
-ghost use Rattle.rs_tree.specs.declared.ty.IntegerTy.TheVariants as integer;
-ghost use Rattle.rs_tree.specs.Lines as text;
-ghost use Rattle.rs_tree.specs.Printing.{Appends};
-ghost use Rattle.rs_tree.specs.Tree as tree;
+ghost use Rattle.rs_text.specs.declared.integer.IntegerTy.TheVariants as integer;
+ghost use Rattle.rs_text.specs.Lines as text;
+ghost use Rattle.rs_text.specs.Printing.{Appends};
+ghost use Rattle.rs_text.specs.Tree as tree;
 ghost use Rattle.rs_tree.specs.Views.{ty_view, field_view, record_view, static_view, outer_view, local_view, function_view, item_view};
 
 use crate::draft::Draft;
 use crate::expr_text::put_literal;
-use crate::item::{Attribute, Field, Function, Item, Local, Outer, Record, Static};
+use crate::item::{Field, Function, Item, Local, Outer, Record, Static};
 use crate::page::Page;
 use crate::stmt_lines::put_stmts;
-use crate::ty::{IntegerTy, RTy};
+use crate::ty::RTy;
 use crate::type_text::{put_result, put_ty};
 use crate::words::{function_of, record_word, static_zeroed, zeroed};
 use cr_base::{Boxed, Int, Items, Name};
+use rs_text::{Attribute, IntegerTy};
 
 // Writes a name and its type.
 fn put_typed(draft: &mut Draft, name: &Name, ty: &Boxed<RTy>)

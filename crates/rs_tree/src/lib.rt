@@ -1,6 +1,6 @@
-//! The Rust that is written: its trees, which of them are crates, their tokens and their text, what files
-//! read as, and the printed lines (the Rust Reference, "Items", "Statements and expressions" and
-//! "Lexical structure", as far as the subset of the written crates goes).
+//! The Rust that is written as values: trees of the written crates, which trees of `rs_text` they are, and
+//! their printed lines (the Rust Reference, "Items" and "Statements and expressions", as far as the subset of
+//! the written crates goes).
 #![tactic(auto)]
 
 mod draft;
@@ -17,9 +17,10 @@ mod ty;
 mod type_text;
 mod words;
 
-pub use expr::{Operator, RExpr, RPlace, Wrapping};
-pub use files::{Files, Line};
-pub use item::{Attribute, Crate, Field, Function, Item, Local, Module, Outer, Record, Static};
+pub use expr::{RExpr, RPlace};
+pub use files::Files;
+pub use item::{Crate, Field, Function, Item, Local, Module, Outer, Record, Static};
 pub use lines::{cargo_lines, lines_of, main_lines, module_lines};
+pub use rs_text::{Attribute, IntegerTy, Line, Operator, Wrapping};
 pub use stmt::{Arm, RStmt};
-pub use ty::{IntegerTy, RPath, RTy};
+pub use ty::{RPath, RTy};

@@ -3,17 +3,17 @@
 
 ghost use Rattle.std.specs.Prelude.{◌≡◌, ◌++◌, [], ◌∷◌, map, IfOk};
 ghost use Rattle.std.specs.List.{flat_map};
-ghost use Rattle.rs_tree.specs.Lines as text;
-ghost use Rattle.rs_tree.specs.Printing.{Appends};
+ghost use Rattle.rs_text.specs.Lines as text;
+ghost use Rattle.rs_text.specs.Printing.{Appends};
 ghost use Rattle.rs_tree.specs.Views.{module_view, crate_view};
 
 use crate::draft::Draft;
-use crate::files::Line;
 use crate::item::{Crate, Module};
 use crate::item_lines::put_items;
 use crate::page::Page;
 use crate::words::{exit_of, initialiser_of};
 use cr_base::{Items, Memory};
+use rs_text::Line;
 use std::alloc::Global;
 
 /// The printed lines of all files of a crate, in the order in which the files are put: the modules,
@@ -76,7 +76,7 @@ fn put_main(page: &mut Page, whole: &Crate)
     page.fixed(0, "}");
 }
 
-#[tactic(auto, unfolding(crate::specs::Lines::allow_line))]
+#[tactic(auto, unfolding(rs_text::specs::Lines::allow_line))]
 fn allow_line(page: &mut Page)
     ensures { Appends page.old page.new (text.allow_line ∷ []) }
 {
@@ -118,7 +118,7 @@ fn exit_line(page: &mut Page, whole: &Crate)
     page.line(2, draft);
 }
 
-#[tactic(auto, using(crate::proofs::Growing::growing_lines), unfolding(crate::specs::Lines::cargo_lines))]
+#[tactic(auto, using(crate::proofs::Growing::growing_lines), unfolding(rs_text::specs::Lines::cargo_lines))]
 fn put_cargo(page: &mut Page)
     ensures { Appends page.old page.new text.cargo_lines }
 {

@@ -2,12 +2,12 @@
 #![tactic(auto, using(crate::proofs::Growing::growing_lines))]
 
 ghost use Rattle.std.specs.Prelude.{◌≡◌, [], ◌∷◌, ◌++◌, Some, None, IfOk};
-ghost use Rattle.rs_tree.specs.Lines.{line};
-ghost use Rattle.rs_tree.specs.Printing.{Appends, AddsLine};
+ghost use Rattle.rs_text.specs.Lines.{line};
+ghost use Rattle.rs_text.specs.Printing.{Appends, AddsLine};
 
 use crate::draft::Draft;
-use crate::files::Line;
 use cr_base::{Items, Memory, Name};
+use rs_text::Line;
 use std::alloc::Global;
 use std::marker::Model;
 
@@ -22,7 +22,7 @@ pub(crate) struct Page {
 
 impl Model for Page {
     ghost use Rattle.std.specs.Prelude.{List, Option, Some, None, if◌then◌else◌};
-    ghost use Rattle.rs_tree.specs.declared.files.Line.{Line};
+    ghost use Rattle.rs_text.specs.declared.line.Line.{Line};
 
     ghost Value = { Option (List Line) };
 

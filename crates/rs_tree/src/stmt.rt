@@ -1,6 +1,6 @@
 use crate::expr::{RExpr, RPlace};
-use crate::ty::IntegerTy;
 use cr_base::{Boxed, Int, Items, Name};
+use rs_text::IntegerTy;
 
 /// A statement (the Rust Reference, "Statements"). A label is kept without its quote.
 #[cycle(statement)]

@@ -2,20 +2,20 @@
 #![tactic(auto, using(crate::proofs::Growing::growing_lines))]
 
 ghost use Rattle.std.specs.Prelude.{◌≡◌, ◌++◌, [], ◌∷◌, ◌+◌, map, option_map, codes};
-ghost use Rattle.rs_tree.specs.Lines as text;
-ghost use Rattle.rs_tree.specs.Lines.{line};
-ghost use Rattle.rs_tree.specs.Parts as parts;
-ghost use Rattle.rs_tree.specs.Printing.{Appends};
-ghost use Rattle.rs_tree.specs.Tree as tree;
-ghost use Rattle.rs_tree.specs.Tree.{stmts, arms};
+ghost use Rattle.rs_text.specs.Lines as text;
+ghost use Rattle.rs_text.specs.Lines.{line};
+ghost use Rattle.rs_text.specs.Parts as parts;
+ghost use Rattle.rs_text.specs.Printing.{Appends};
+ghost use Rattle.rs_text.specs.Tree as tree;
+ghost use Rattle.rs_text.specs.Tree.{stmts, arms};
 ghost use Rattle.rs_tree.specs.Views.{place_view, expr_view, stmt_view, arm_view};
 
 use crate::expr::{RExpr, RPlace};
 use crate::expr_text::{put_between, put_literal, put_place};
 use crate::page::Page;
 use crate::stmt::{Arm, RStmt};
-use crate::ty::IntegerTy;
 use cr_base::{Boxed, Int, Items, Name};
+use rs_text::IntegerTy;
 
 // Prints the line of an expression between two texts.
 fn expr_line(page: &mut Page, depth: u32, before: &str, value: &Boxed<RExpr>, after: &str)

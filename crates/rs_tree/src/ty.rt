@@ -1,4 +1,5 @@
 use cr_base::{Boxed, Items, Name};
+use rs_text::IntegerTy;
 
 /// A type (the Rust Reference, "Type system").
 #[derive(Drop)]
@@ -19,21 +20,6 @@ pub enum RTy {
     Code(Items<RTy>, Option<Boxed<RTy>>),
     /// `crate::m::x`, the record x of the module m.
     Record(RPath),
-}
-
-/// An integer type (the Rust Reference, "Numeric types").
-#[derive(Clone, Copy, PartialEq, Eq)]
-pub enum IntegerTy {
-    I8,
-    I16,
-    I32,
-    I64,
-    U8,
-    U16,
-    U32,
-    U64,
-    Isize,
-    Usize,
 }
 
 /// `crate::m::x`, an item of a module (the Rust Reference, "Paths").

@@ -2,10 +2,10 @@
 #![tactic(auto, using(crate::proofs::Growing::growing))]
 
 ghost use Rattle.std.specs.Prelude.{map, option_map};
-ghost use Rattle.rs_tree.specs.Lines as text;
-ghost use Rattle.rs_tree.specs.Printing.{Appends};
-ghost use Rattle.rs_tree.specs.Tree as tree;
-ghost use Rattle.rs_tree.specs.Tree.{tys, option_ty};
+ghost use Rattle.rs_text.specs.Lines as text;
+ghost use Rattle.rs_text.specs.Printing.{Appends};
+ghost use Rattle.rs_text.specs.Tree as tree;
+ghost use Rattle.rs_text.specs.Tree.{tys, option_ty};
 ghost use Rattle.rs_tree.specs.Views.{ty_view};
 
 use crate::draft::Draft;

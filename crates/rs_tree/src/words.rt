@@ -1,11 +1,10 @@
 //! The words that stand for a variant each.
 
 ghost use Rattle.std.specs.Prelude.{◌≡◌};
-ghost use Rattle.rs_tree.specs.Lines as text;
-ghost use Rattle.rs_tree.specs.Words.{integer_word, operator_mark, wrapping_word, truth_word, record_word};
+ghost use Rattle.rs_text.specs.Lines as text;
+ghost use Rattle.rs_text.specs.Words.{integer_word, operator_mark, wrapping_word, truth_word, record_word};
 
-use crate::expr::{Operator, Wrapping};
-use crate::ty::IntegerTy;
+use rs_text::{IntegerTy, Operator, Wrapping};
 
 pub(crate) fn integer_word(ty: IntegerTy) -> &'static str
     ensures { result.now ≡ integer_word ty }
@@ -69,56 +68,56 @@ pub(crate) fn record_word(is_union: bool) -> &'static str
     if is_union { "union" } else { "struct" }
 }
 
-#[tactic(auto, unfolding(crate::specs::Lines::address_of))]
+#[tactic(auto, unfolding(rs_text::specs::Lines::address_of))]
 pub(crate) fn address_of() -> &'static str
     ensures { result.now ≡ text.address_of }
 {
     "core::ptr::addr_of_mut!("
 }
 
-#[tactic(auto, unfolding(crate::specs::Lines::null_of))]
+#[tactic(auto, unfolding(rs_text::specs::Lines::null_of))]
 pub(crate) fn null_of() -> &'static str
     ensures { result.now ≡ text.null_of }
 {
     "core::ptr::null_mut::<"
 }
 
-#[tactic(auto, unfolding(crate::specs::Lines::transmute_of))]
+#[tactic(auto, unfolding(rs_text::specs::Lines::transmute_of))]
 pub(crate) fn transmute_of() -> &'static str
     ensures { result.now ≡ text.transmute_of }
 {
     "core::mem::transmute::<"
 }
 
-#[tactic(auto, unfolding(crate::specs::Lines::function_of))]
+#[tactic(auto, unfolding(rs_text::specs::Lines::function_of))]
 pub(crate) fn function_of() -> &'static str
     ensures { result.now ≡ text.function_of }
 {
     "pub unsafe extern \"C\" fn "
 }
 
-#[tactic(auto, unfolding(crate::specs::Lines::zeroed))]
+#[tactic(auto, unfolding(rs_text::specs::Lines::zeroed))]
 pub(crate) fn zeroed() -> &'static str
     ensures { result.now ≡ text.zeroed }
 {
     " = core::mem::zeroed();"
 }
 
-#[tactic(auto, unfolding(crate::specs::Lines::static_zeroed))]
+#[tactic(auto, unfolding(rs_text::specs::Lines::static_zeroed))]
 pub(crate) fn static_zeroed() -> &'static str
     ensures { result.now ≡ text.static_zeroed }
 {
     "unsafe { core::mem::zeroed() }"
 }
 
-#[tactic(auto, unfolding(crate::specs::Lines::exit_of))]
+#[tactic(auto, unfolding(rs_text::specs::Lines::exit_of))]
 pub(crate) fn exit_of() -> &'static str
     ensures { result.now ≡ text.exit_of }
 {
     "std::process::exit(crate::"
 }
 
-#[tactic(auto, unfolding(crate::specs::Lines::initialiser_of))]
+#[tactic(auto, unfolding(rs_text::specs::Lines::initialiser_of))]
 pub(crate) fn initialiser_of() -> &'static str
     ensures { result.now ≡ text.initialiser_of }
 {

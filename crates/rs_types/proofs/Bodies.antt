@@ -1,8 +1,8 @@
 -- The last statement of a body.
 use Rattle.std.proofs.Common.{◌≡◌, Bool, false, List, [], ◌∷◌, map, refl}
 use Rattle.rs_mean.specs.Typing.{gives_value, ends_with_value}
+use Rattle.rs_text.specs.Tree.{Stmt, stmts}
 use Rattle.rs_tree.specs.declared.stmt.RStmt.{RStmt}
-use Rattle.rs_tree.specs.Tree.{Stmt, stmts}
 use Rattle.rs_tree.specs.Views.{stmt_view}
 use Rattle.rs_types.specs.Bodies.{ends_from}
 

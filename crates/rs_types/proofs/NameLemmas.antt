@@ -4,9 +4,9 @@ use Rattle.std.specs.List.{list_any, flat_map}
 use Rattle.std.proofs.lemmas.List.{reverse-append}
 use Rattle.std.proofs.lemmas.List.Folds.{list_any-append}
 use Rattle.rs_mean.specs.Typing.{item_names, names_typed}
-use Rattle.rs_tree.specs.Names.{is_among}
-use Rattle.rs_tree.specs.Tree.{LocalTree, ItemTree, ModuleTree}
-use Rattle.rs_tree.specs.Valid.{all_differ}
+use Rattle.rs_text.specs.Names.{is_among}
+use Rattle.rs_text.specs.Tree.{LocalTree, ItemTree, ModuleTree}
+use Rattle.rs_text.specs.Valid.{all_differ}
 use Rattle.rs_types.specs.Names.{local_names, is_item_name, are_new}
 
 abbrev Name : Type 0

@@ -4,12 +4,12 @@ use Rattle.std.specs.List.{list_all}
 use Rattle.std.proofs.lemmas.Bool.{and_parts}
 use Rattle.rs_layout.specs.Layouts.{AreAligned, ModulesAreAligned}
 use Rattle.rs_layout.proofs.LayoutsAligned.{earlier_aligned, crate_aligned}
+use Rattle.rs_text.specs.Lines.{module_names}
+use Rattle.rs_text.specs.Tree.{ItemTree}
+use Rattle.rs_text.specs.Valid.{valid_item, valid_items, valid_names, valid_crate, has_entry, are_in_order, ends_with_initialiser}
 use Rattle.rs_tree.specs.declared.item.Crate.{Crate}
 use Rattle.rs_tree.specs.declared.item.Item.{Item}
 use Rattle.rs_tree.specs.declared.item.Module.{Module}
-use Rattle.rs_tree.specs.Lines.{module_names}
-use Rattle.rs_tree.specs.Tree.{ItemTree}
-use Rattle.rs_tree.specs.Valid.{valid_item, valid_items, valid_names, valid_crate, has_entry, are_in_order, ends_with_initialiser}
 use Rattle.rs_tree.specs.Views.{item_view, module_view, crate_view}
 
 -- ---- items of a valid module

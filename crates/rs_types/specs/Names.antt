@@ -2,8 +2,8 @@
 use Rattle.std.specs.Prelude.{ℕ, Bool, not, List, map, flat_map}
 use Rattle.std.specs.List.{list_any}
 use Rattle.rs_mean.specs.Typing.{item_names}
-use Rattle.rs_tree.specs.Names.{is_among}
-use Rattle.rs_tree.specs.Tree.{OuterTree, LocalTree, ItemTree}
+use Rattle.rs_text.specs.Names.{is_among}
+use Rattle.rs_text.specs.Tree.{OuterTree, LocalTree, ItemTree}
 
 abbrev pub outer_names : List OuterTree → List (List ℕ)
 outer_names outers = map (λ fun. fun.name) outers

@@ -3,7 +3,7 @@
 ghost use Rattle.std.specs.Prelude.{◌≡◌, [], Some, map, option_map, IfOk, IsTrue};
 ghost use Rattle.rs_layout.specs.Layouts.{ModulesAreAligned};
 ghost use Rattle.rs_mean.specs.Typing.{first_ill, first_ill_item, well_typed};
-ghost use Rattle.rs_tree.specs.Valid.{valid_crate, valid_items};
+ghost use Rattle.rs_text.specs.Valid.{valid_crate, valid_items};
 ghost use Rattle.rs_tree.specs.Views.{crate_view, module_view};
 ghost use Rattle.rs_types.specs.Checked.{IfIllTyped, place_view};
 

@@ -5,10 +5,10 @@ ghost use Rattle.std.specs.List.{list_all, list_any};
 ghost use Rattle.rs_layout.specs.Layouts.{AreAligned, IsAligned, ModulesAreAligned, by_front};
 ghost use Rattle.rs_mean.specs.Scalars.{fits_integer, same_results};
 ghost use Rattle.rs_mean.specs.Typing as typing;
-ghost use Rattle.rs_tree.specs.declared.ty.IntegerTy.TheVariants.{I8, I32};
-ghost use Rattle.rs_tree.specs.Tree as tree;
-ghost use Rattle.rs_tree.specs.Tree.{option_ty, some_ty, stmts, tys};
-ghost use Rattle.rs_tree.specs.Valid.{all_differ};
+ghost use Rattle.rs_text.specs.declared.integer.IntegerTy.TheVariants.{I8, I32};
+ghost use Rattle.rs_text.specs.Tree as tree;
+ghost use Rattle.rs_text.specs.Tree.{option_ty, some_ty, stmts, tys};
+ghost use Rattle.rs_text.specs.Valid.{all_differ};
 ghost use Rattle.rs_types.specs.Bodies as bodies;
 ghost use Rattle.rs_tree.specs.Views.{field_view, function_view, item_view, local_view, module_view, outer_view, record_view, static_view, stmt_view, ty_view};
 

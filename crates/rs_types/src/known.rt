@@ -5,7 +5,7 @@ ghost use Rattle.std.specs.List.{list_all};
 ghost use Rattle.cr_world.specs.Known.{known_named};
 ghost use Rattle.rs_mean.specs.Lookups.{symbol_of};
 ghost use Rattle.rs_mean.specs.Typing as typing;
-ghost use Rattle.rs_tree.specs.Names.{bare_name};
+ghost use Rattle.rs_text.specs.Names.{bare_name};
 ghost use Rattle.rs_tree.specs.Views.{module_view, outer_view, ty_view};
 ghost use Rattle.rs_layout.specs.Layouts.{ModulesAreAligned};
 ghost use Rattle.rs_types.specs.KnownTypes.{known_view, param_view, params_view};

@@ -3,8 +3,8 @@
 ghost use Rattle.std.specs.Prelude.{◌≡◌, ◌++◌, not, map, reverse};
 ghost use Rattle.std.specs.List.{list_any};
 ghost use Rattle.rs_mean.specs.Typing as typing;
-ghost use Rattle.rs_tree.specs.Names.{is_among};
-ghost use Rattle.rs_tree.specs.Valid.{all_differ};
+ghost use Rattle.rs_text.specs.Names.{is_among};
+ghost use Rattle.rs_text.specs.Valid.{all_differ};
 ghost use Rattle.rs_tree.specs.Views.{item_view, local_view, module_view, outer_view};
 ghost use Rattle.rs_types.specs.Names as names;
 

@@ -1,10 +1,10 @@
 -- Lists of trees, by the values that these are the trees of.
 use Rattle.std.proofs.Common.{◌≡◌, ℕ, Bool, false, List, [], ◌∷◌, map, option_map, slice_get, codes, refl, ap}
 use Rattle.std.proofs.lemmas.Option.{slice_get-map}
+use Rattle.rs_text.specs.Tree.{ItemTree}
+use Rattle.rs_text.specs.Valid.{is_function, ends_with_initialiser, has_entry}
 use Rattle.rs_tree.specs.declared.item.Item.{Item}
 use Rattle.rs_tree.specs.declared.item.Module.{Module}
-use Rattle.rs_tree.specs.Tree.{ItemTree}
-use Rattle.rs_tree.specs.Valid.{is_function, ends_with_initialiser, has_entry}
 use Rattle.rs_tree.specs.Views.{item_view, module_view}
 use Rattle.rs_valid.specs.Lists.{ends_from}
 

@@ -1,9 +1,9 @@
 -- Types of lists of `i8`, and the last items and the names of modules.
 use Rattle.std.specs.Prelude.{ℕ, suc, nat_le, Bool, true, false, ◌&&◌, List, [], ◌∷◌, map, codes, Option, Some, None, if◌then◌else◌}
+use Rattle.rs_text.specs.declared.integer.IntegerTy.TheVariants.{I8}
+use Rattle.rs_text.specs.Tree.{Ty, Integer, Array, ItemTree}
+use Rattle.rs_text.specs.Valid.{is_function, kind, next_kind, valid_item}
 use Rattle.rs_tree.specs.declared.item.Module.{Module}
-use Rattle.rs_tree.specs.declared.ty.IntegerTy.TheVariants.{I8}
-use Rattle.rs_tree.specs.Tree.{Ty, Integer, Array, ItemTree}
-use Rattle.rs_tree.specs.Valid.{is_function, kind, next_kind, valid_item}
 use Rattle.rs_tree.specs.Views.{module_view}
 
 abbrev pub is_i8 : Ty → Bool

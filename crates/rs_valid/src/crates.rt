@@ -2,8 +2,8 @@
 
 ghost use Rattle.std.specs.Prelude.{◌≡◌, false, map, codes, bytes_eq, slice_get};
 ghost use Rattle.std.specs.List.{list_all, list_any};
-ghost use Rattle.rs_tree.specs.Names as names;
-ghost use Rattle.rs_tree.specs.Valid as valid;
+ghost use Rattle.rs_text.specs.Names as names;
+ghost use Rattle.rs_text.specs.Valid as valid;
 ghost use Rattle.rs_tree.specs.Views.{item_view, module_view, crate_view};
 ghost use Rattle.rs_valid.specs.Lists as lists;
 

@@ -1,9 +1,9 @@
 //! Valid places and expressions.
 
 ghost use Rattle.std.specs.Prelude.{◌≡◌, map, option_map};
-ghost use Rattle.rs_tree.specs.Forms as forms;
-ghost use Rattle.rs_tree.specs.Tree.{exprs, tys, option_ty};
-ghost use Rattle.rs_tree.specs.Valid as valid;
+ghost use Rattle.rs_text.specs.Forms as forms;
+ghost use Rattle.rs_text.specs.Tree.{exprs, tys, option_ty};
+ghost use Rattle.rs_text.specs.Valid as valid;
 ghost use Rattle.rs_tree.specs.Views.{ty_view, place_view, expr_view};
 
 use crate::types::{are_valid_tys, is_valid_result, is_valid_target, is_valid_ty};

@@ -2,7 +2,7 @@
 
 ghost use Rattle.std.specs.Prelude.{◌≡◌, map};
 ghost use Rattle.std.specs.List.{list_all};
-ghost use Rattle.rs_tree.specs.Valid as valid;
+ghost use Rattle.rs_text.specs.Valid as valid;
 ghost use Rattle.rs_valid.specs.Lists as lists;
 ghost use Rattle.rs_tree.specs.Views.{ty_view, field_view, record_view, static_view, outer_view, local_view, function_view, item_view};
 

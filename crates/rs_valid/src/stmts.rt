@@ -1,9 +1,9 @@
 //! Valid statements.
 
 ghost use Rattle.std.specs.Prelude.{◌≡◌, map, option_map};
-ghost use Rattle.rs_tree.specs.Forms as forms;
-ghost use Rattle.rs_tree.specs.Tree.{stmts, arms};
-ghost use Rattle.rs_tree.specs.Valid as valid;
+ghost use Rattle.rs_text.specs.Forms as forms;
+ghost use Rattle.rs_text.specs.Tree.{stmts, arms};
+ghost use Rattle.rs_text.specs.Valid as valid;
 ghost use Rattle.rs_tree.specs.Views.{expr_view, stmt_view, arm_view};
 
 use crate::exprs::{is_valid_expr, is_valid_place, is_value};

@@ -1,8 +1,8 @@
 //! Valid types.
 
 ghost use Rattle.std.specs.Prelude.{◌≡◌, map, option_map};
-ghost use Rattle.rs_tree.specs.Tree.{tys, option_ty};
-ghost use Rattle.rs_tree.specs.Valid as valid;
+ghost use Rattle.rs_text.specs.Tree.{tys, option_ty};
+ghost use Rattle.rs_text.specs.Valid as valid;
 ghost use Rattle.rs_tree.specs.Views.{ty_view};
 
 use crate::words::is_valid_path;

@@ -2,9 +2,9 @@
 
 ghost use Rattle.std.specs.Prelude.{◌≡◌, bytes_eq};
 ghost use Rattle.std.specs.List.{list_all, list_any};
-ghost use Rattle.rs_tree.specs.Names as names;
-ghost use Rattle.rs_tree.specs.Names.{path_words, keywords};
-ghost use Rattle.rs_tree.specs.Valid.{valid_path, valid_label, valid_symbol};
+ghost use Rattle.rs_text.specs.Names as names;
+ghost use Rattle.rs_text.specs.Names.{path_words, keywords};
+ghost use Rattle.rs_text.specs.Valid.{valid_path, valid_label, valid_symbol};
 
 use cr_base::Name;
 use rs_tree::RPath;
@@ -64,14 +64,14 @@ const KEYWORDS: [&[u8]; 48] = [
     b"yield",
 ];
 
-#[tactic(auto, unfolding(rs_tree::specs::Names::path_words))]
+#[tactic(auto, unfolding(rs_text::specs::Names::path_words))]
 fn is_path_word(name: &[u8]) -> bool
     ensures { result ≡ names.is_among path_words name.now }
 {
     is_among(&PATH_WORDS, name)
 }
 
-#[tactic(auto, unfolding(rs_tree::specs::Names::keywords))]
+#[tactic(auto, unfolding(rs_text::specs::Names::keywords))]
 fn is_keyword(name: &[u8]) -> bool
     ensures { result ≡ names.is_among keywords name.now }
 {

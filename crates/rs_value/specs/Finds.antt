@@ -2,7 +2,7 @@
 use Rattle.std.specs.Prelude.{◌≡◌, ℕ, ◌/◌, ◌^◌, ◌<◌, ℤ, pos, negsuc, Result, Ok, Err}
 use Rattle.rs_mean.specs.declared.cause.Cause.{Cause}
 use Rattle.rs_mean.specs.Numbers.{shifted}
-use Rattle.rs_tree.specs.declared.ty.IntegerTy.{IntegerTy}
+use Rattle.rs_text.specs.declared.integer.IntegerTy.{IntegerTy}
 use Rattle.rs_value.specs.declared.trouble.Trouble.{Trouble}
 use Rattle.rs_value.specs.declared.trouble.Trouble.TheVariants.{Wrong, Memory}
 

@@ -10,10 +10,10 @@ use Rattle.rs_mean.specs.declared.cause.Cause.TheVariants.{WrongCall}
 use Rattle.rs_mean.specs.Numbers.{compared}
 use Rattle.rs_mean.specs.World.{or_cause, cause_of_pointer}
 use Rattle.rs_mean.specs.Values.{Typed, typed, truth, wrapping_neg_of, is_null_of, is_none_of, neg_of, not_of, cast_of, transmuted}
-use Rattle.rs_tree.specs.declared.expr.Operator.{Operator}
-use Rattle.rs_tree.specs.declared.ty.IntegerTy.{IntegerTy}
-use Rattle.rs_tree.specs.declared.ty.IntegerTy.TheVariants.{Isize}
-use Rattle.rs_tree.specs.Tree.{Integer, Boolean, Pointer, Ty}
+use Rattle.rs_text.specs.declared.integer.IntegerTy.{IntegerTy}
+use Rattle.rs_text.specs.declared.integer.IntegerTy.TheVariants.{Isize}
+use Rattle.rs_text.specs.declared.operator.Operator.{Operator}
+use Rattle.rs_text.specs.Tree.{Integer, Boolean, Pointer, Ty}
 use Rattle.rs_tree.specs.Views.{ty_view}
 use Rattle.rs_value.specs.declared.operators.Unary.{Unary}
 use Rattle.rs_value.specs.declared.operators.Unary.TheVariants as unary

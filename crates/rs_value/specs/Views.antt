@@ -3,8 +3,8 @@ use Rattle.std.specs.Prelude.{map, option_map, Result, Ok, Err}
 use Rattle.std.specs.Option.{option_copied}
 use Rattle.rs_mean.specs.Calls.{Spot, spot}
 use Rattle.rs_mean.specs.Values.{Typed, typed}
-use Rattle.rs_tree.specs.Tree as tree
-use Rattle.rs_tree.specs.Tree.{Ty, tys, option_ty}
+use Rattle.rs_text.specs.Tree as tree
+use Rattle.rs_text.specs.Tree.{Ty, tys, option_ty}
 use Rattle.rs_tree.specs.Views.{ty_view}
 use Rattle.rs_value.specs.declared.typed.TypedValue.{TypedValue}
 use Rattle.rs_value.specs.declared.typed.ValueSpot.{ValueSpot}

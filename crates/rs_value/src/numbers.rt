@@ -4,7 +4,7 @@ ghost use Rattle.std.specs.Prelude.{◌≡◌, ℤ, pos, neg_ℤ, ◌*ℤ◌, �
 ghost use Rattle.cr_base.specs.Scalar.{IsWhole, IsInteger, converted, modulus, residue};
 ghost use Rattle.rs_mean.specs.Numbers as number;
 ghost use Rattle.rs_mean.specs.Scalars as scalar;
-ghost use Rattle.rs_tree.specs.declared.expr.Operator.TheVariants as op;
+ghost use Rattle.rs_text.specs.declared.operator.Operator.TheVariants as op;
 ghost use Rattle.rs_value.specs.Finds.{Finds, Counts, right_by};
 
 use crate::trouble::Trouble;

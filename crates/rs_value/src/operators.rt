@@ -7,7 +7,7 @@ ghost use Rattle.rs_mean.specs.Layout.{laid_of};
 ghost use Rattle.rs_mean.specs.Values as of;
 ghost use Rattle.rs_mean.specs.Values.{typed, truth};
 ghost use Rattle.rs_mean.specs.World.{or_cause, cause_of_pointer};
-ghost use Rattle.rs_tree.specs.Tree as tree;
+ghost use Rattle.rs_text.specs.Tree as tree;
 ghost use Rattle.rs_tree.specs.Views.{ty_view, module_view};
 ghost use Rattle.rs_layout.specs.Layouts.{ModulesAreAligned};
 ghost use Rattle.rs_value.specs.Finds.{Finds};

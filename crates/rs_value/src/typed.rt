@@ -3,7 +3,7 @@
 ghost use Rattle.std.specs.Prelude.{◌≡◌, option_map};
 ghost use Rattle.std.specs.Option.{option_copied};
 ghost use Rattle.rs_mean.specs.Scalars.{alike, integer_number, same_integer};
-ghost use Rattle.rs_tree.specs.Tree as tree;
+ghost use Rattle.rs_text.specs.Tree as tree;
 ghost use Rattle.rs_tree.specs.Views.{ty_view};
 ghost use Rattle.rs_value.specs.Views.{value_ty_view};
 

@@ -3,7 +3,7 @@ use Rattle.std.proofs.Common.{◌≡◌, ◌∙◌, ◌<◌, ◌+◌, ℕ, suc, 
 use Rattle.std.proofs.lemmas.List.{length-map}
 use Rattle.std.proofs.lemmas.Option.{slice_get-get_or, slice_get-map}
 use Rattle.rs_mean.specs.Typing.{ItemPlace, first_ill_from, first_ill_item, placed_in}
-use Rattle.rs_tree.specs.Tree.{ModuleTree}
+use Rattle.rs_text.specs.Tree.{ModuleTree}
 use Rattle.rs_tree.specs.Views.{module_view}
 use Rattle.rs_tree.specs.declared.item.Module.{Module}
 use Rattle.rs_types.specs.Checked.{place}

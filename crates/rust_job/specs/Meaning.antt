@@ -7,9 +7,9 @@ use Rattle.rs_mean.specs.Run.{RProgress}
 use Rattle.rs_mean.specs.Run as r
 use Rattle.rs_mean.specs.Typing.{ItemPlace, first_ill, well_typed}
 use Rattle.rs_parse.specs.Crates.{IsAtFault}
-use Rattle.rs_tree.specs.Lines.{module_names}
-use Rattle.rs_tree.specs.Reads.{ReadsAs}
-use Rattle.rs_tree.specs.Tree.{CrateTree}
+use Rattle.rs_text.specs.Lines.{module_names}
+use Rattle.rs_text.specs.Reads.{ReadsAs}
+use Rattle.rs_text.specs.Tree.{CrateTree}
 use Rattle.run_ends.specs.Runs.{Progress, going, ended, wrong, full, asks_for, astray, Meaning, IsRun}
 use Rattle.run_ends.specs.Told.{name_at}
 use Rattle.run_ends.specs.declared.end.End.{End}

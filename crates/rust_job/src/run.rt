@@ -2,8 +2,8 @@
 
 ghost use Rattle.std.specs.Prelude.{◌≡◌, ◌≤◌, ◌<◌, true, false, length, map, Some, IfOk, IfErr};
 ghost use Rattle.rs_mean.specs.Typing.{first_ill, well_typed};
-ghost use Rattle.rs_tree.specs.Reads.{ReadsAs};
-ghost use Rattle.rs_tree.specs.Valid.{valid_crate};
+ghost use Rattle.rs_text.specs.Reads.{ReadsAs};
+ghost use Rattle.rs_text.specs.Valid.{valid_crate};
 ghost use Rattle.rs_tree.specs.Views.{crate_view, module_view};
 ghost use Rattle.run_ends.specs.Runs.{HasFailed, IsRun};
 ghost use Rattle.run_ends.specs.Told.{name_at};

@@ -7,7 +7,7 @@
 //! `ill typed: MODULE: item ITEM`, with the numbers of the first item that isn't.
 
 ghost use Rattle.std.specs.Prelude.{IsTrue, IfSome};
-ghost use Rattle.rs_tree.specs.Valid.{valid_crate};
+ghost use Rattle.rs_text.specs.Valid.{valid_crate};
 ghost use Rattle.rs_tree.specs.Views.{crate_view};
 
 use cr_base::{Items, Memory, Text};

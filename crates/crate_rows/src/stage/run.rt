@@ -5,7 +5,7 @@
 
 ghost use Rattle.std.specs.Prelude.{◌≡◌, ◌≤◌, [], IsTrue};
 ghost use Rattle.rs_mean.specs.Typing.{well_typed};
-ghost use Rattle.rs_tree.specs.Valid.{valid_crate};
+ghost use Rattle.rs_text.specs.Valid.{valid_crate};
 ghost use Rattle.rs_tree.specs.Views.{crate_view};
 
 use crate::stage::crates::{module_asked, read, write_ill};

@@ -4,7 +4,9 @@
 //! | step | answer |
 //! |---|---|
 //! | `hold FILE TEXT` | none: the shelf begins with this file, the first of a name counting; one of the system doesn't |
+//! | `hold_many FILE COUNT A$rB$rC` | none: the same with a file of the text A, so many times the text B, and the text C |
 //! | `fail NUMBER` | none: the call with this number on a shelf of `files` fails, counted from 0 |
+//! | `lack CALL` | none: each `get`, or each `put`, on a shelf of `files` finds no memory |
 //! | `get FILE LIMIT` | the bytes of the file, if they are at most LIMIT, or `too large` |
 //! | `put FILE TEXT` | `ok` |
 //! | `host HOST` | none: the host of the runs behind it, as `row_host.rt` says; before, each call is answered by 0 |
@@ -12,6 +14,7 @@
 //!
 //! Each call on the shelf may answer a fault in the place of that, by its name.
 
+use crate::stage::lacking::{Lacking, Lacks};
 use crate::stage::row_host::RowHost;
 use cr_base::{Items, Text};
 use ext_calls::{Host, SureHost};
@@ -23,9 +26,16 @@ use std::rt::Files;
 
 pub(crate) fn answer(alloc: Global, asked: &mut Asked, out: &mut Answer) {
     let steps = asked.rest();
-    let Held { files, fails } = read_held(alloc, asked);
+    let Held {
+        files,
+        fails,
+        lacks,
+    } = read_held(alloc, asked);
     asked.begin(steps);
-    let shelf = MemShelf::new(files, fails);
+    let shelf = Lacking {
+        shelf: MemShelf::new(files, fails),
+        lacks,
+    };
     let host = RowHost::zeros(alloc);
     answer_steps(&mut Stored { shelf, host }, alloc, asked, out);
 }
@@ -49,18 +59,25 @@ pub(crate) fn answer_on_disk<R: Files>(rt: &R, alloc: Global, asked: &mut Asked,
 struct Held {
     files: Vec<File>,
     fails: Vec<u64>,
+    lacks: Lacks,
 }
 
 fn read_held(alloc: Global, asked: &mut Asked) -> Held {
     let mut held = Held {
         files: Vec::new(alloc),
         fails: Vec::new(alloc),
+        lacks: Lacks {
+            get: false,
+            put: false,
+        },
     };
     for step in asked.rest().split(" | ") {
         asked.begin(step);
         match asked.word() {
             "hold" => hold(alloc, asked, &mut held.files),
+            "hold_many" => hold_many(alloc, asked, &mut held.files),
             "fail" => fail(asked, &mut held.fails),
+            "lack" => lack(asked, &mut held.lacks),
             _ => {}
         }
     }
@@ -75,6 +92,40 @@ pub(crate) fn hold(alloc: Global, asked: &mut Asked, files: &mut Vec<File>) {
         bytes: Items::of(asked.bytes(alloc)),
     };
     asked.had(files.push(file));
+}
+
+// Adds the file of a name and of a text that stands so many times between two others.
+fn hold_many(alloc: Global, asked: &mut Asked, files: &mut Vec<File>) {
+    let name = asked.word();
+    let count: u32 = asked.number();
+    let text = asked.rest();
+    let parts = asked.found(text.split_once("$r"), ("", ""));
+    let behind = asked.found(parts.1.split_once("$r"), ("", ""));
+    let mut bytes = text_of(alloc, asked, parts.0);
+    let repeated = text_of(alloc, asked, behind.0);
+    for _ in 0..count {
+        asked.had(bytes.extend_from_slice(repeated.as_slice()));
+    }
+    let last = text_of(alloc, asked, behind.1);
+    asked.had(bytes.extend_from_slice(last.as_slice()));
+    let file = File {
+        name: Text::of(asked.string(alloc, name)),
+        bytes: Items::of(bytes),
+    };
+    asked.had(files.push(file));
+}
+
+fn text_of<'a>(alloc: Global, asked: &mut Asked<'a>, text: &'a str) -> Vec<u8> {
+    asked.begin(text);
+    asked.bytes(alloc)
+}
+
+fn lack(asked: &mut Asked, lacks: &mut Lacks) {
+    match asked.word() {
+        "get" => lacks.get = true,
+        "put" => lacks.put = true,
+        _ => asked.refuse(),
+    }
 }
 
 fn fail(asked: &mut Asked, fails: &mut Vec<u64>) {
@@ -99,9 +150,11 @@ enum Step {
     Run,
 }
 
-const STEPS: [(&str, Step); 6] = [
+const STEPS: [(&str, Step); 8] = [
     ("hold", Step::Begin),
+    ("hold_many", Step::Begin),
     ("fail", Step::Begin),
+    ("lack", Step::Begin),
     ("get", Step::Get),
     ("put", Step::Put),
     ("host", Step::Host),

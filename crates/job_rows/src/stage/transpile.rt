@@ -59,8 +59,8 @@ fn job(alloc: Global, name: &str, asked: &mut Asked) -> Vec<String> {
     job
 }
 
-// Writes a file, where the shelf holds it.
-fn write_file(shelf: &mut MemShelf, name: &str, out: &mut Answer) {
+/// Writes a file, where the shelf holds it.
+pub(crate) fn write_file<S: Shelf>(shelf: &mut S, name: &str, out: &mut Answer) {
     if let Ok(Got::Bytes(bytes)) = shelf.get(name, LARGE) {
         out.text(" ");
         out.text(name);

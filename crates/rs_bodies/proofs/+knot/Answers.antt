@@ -9,7 +9,7 @@ use Rattle.rs_mean.specs.Laws.{bodies_of}
 use Rattle.rs_scene.specs.Calls.{pointed_view}
 use Rattle.rs_scene.specs.Flows.{flow_view}
 use Rattle.rs_scene.specs.Scenes.{frame_view, held_local}
-use Rattle.rs_tree.specs.Tree.{stmts}
+use Rattle.rs_text.specs.Tree.{stmts}
 use Rattle.rs_tree.specs.Views.{function_view, module_view, stmt_view}
 use Rattle.rs_value.specs.Views.{typed_view}
 use Rattle.std.proofs.Common.{map, option_map, sym, ◌∙◌}

@@ -3,7 +3,7 @@ use Rattle.rs_scene.specs.Scenes.{frame_view, held_local}
 use Rattle.rs_machine.specs.States.{state}
 use Rattle.rs_tree.specs.Views.{module_view, stmt_view}
 use Rattle.rs_mean.specs.Run.{run_stmts}
-use Rattle.rs_tree.specs.Tree.{stmts}
+use Rattle.rs_text.specs.Tree.{stmts}
 use Rattle.rs_bodies.proofs.Turned.{Follows, Turns}
 use Rattle.rs_bodies.proofs.+knot.Given as goal
 

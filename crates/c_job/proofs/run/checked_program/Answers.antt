@@ -1,7 +1,7 @@
 use Rattle.std.proofs.Common.{◌∙◌, List, ap, map, sym, subst}
 use Rattle.cx_core.specs.declared.unit.CoreUnit.{CoreUnit}
 use Rattle.cx_core.specs.Views.{view_unit}
-use Rattle.cx_link.specs.Program.{linked}
+use Rattle.cx_links.specs.Program.{linked}
 use Rattle.cx_linked.specs.Program.{AreUnbroken}
 use Rattle.c_job.proofs.Checked.{break_nothing}
 use Rattle.c_job.proofs.run.checked_program.Goals as goal

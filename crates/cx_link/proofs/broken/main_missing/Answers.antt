@@ -3,7 +3,7 @@ use Rattle.std.specs.Prelude.{not}
 use Rattle.cr_base.specs.declared.rule.Rule.TheVariants.{L3}
 use Rattle.cx_core.specs.Views.{view_unit}
 use Rattle.cx_link.specs.Mains.{has_main}
-use Rattle.cx_link.specs.Rules.{nowhere}
+use Rattle.cx_links.specs.Rules.{nowhere}
 use Rattle.cx_link.proofs.Joining.{main_is}
 use Rattle.cx_link.proofs.broken.main_missing.Goals as goal
 

@@ -1,6 +1,6 @@
 use Rattle.std.proofs.Common.{◌≡◌, ◌++◌, map, drop}
 use Rattle.cx_core.specs.Views.{view_mention, view_unit}
-use Rattle.cx_link.specs.Program.{all_mentions, counts_before, mentions_from}
+use Rattle.cx_links.specs.Program.{all_mentions, counts_before, mentions_from}
 use Rattle.cx_renumber.specs.Views.{view_counts}
 use Rattle.cx_link.proofs.joined.all_mentions.Given as goal
 

@@ -2,7 +2,7 @@ use Rattle.std.proofs.Common.{rules, ◌≡◌, ◌+◌, ◌++◌, suc, map, dro
 use Rattle.std.proofs.lemmas.List.{drop-map}
 use Rattle.std.proofs.lemmas.Option.{slice_get-map, slice_get_read}
 use Rattle.cx_core.specs.Views.{view_types, view_unit}
-use Rattle.cx_link.specs.Program.{counts_before, own_types, types_from, types_of_all, types_with}
+use Rattle.cx_links.specs.Program.{counts_before, own_types, types_from, types_of_all, types_with}
 use Rattle.cx_renumber.specs.Numbers.{counts_of, together}
 use Rattle.cx_renumber.specs.Views.{view_counts}
 use Rattle.cx_link.proofs.Joining.{counts_next, types_next}

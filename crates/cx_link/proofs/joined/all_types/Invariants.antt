@@ -1,6 +1,6 @@
 use Rattle.std.proofs.Common.{◌≡◌, map, drop}
 use Rattle.cx_core.specs.Views.{view_types, view_unit}
-use Rattle.cx_link.specs.Program.{counts_before, types_from, types_of_all, types_with}
+use Rattle.cx_links.specs.Program.{counts_before, types_from, types_of_all, types_with}
 use Rattle.cx_renumber.specs.Views.{view_counts}
 use Rattle.cx_link.proofs.joined.all_types.Given as goal
 

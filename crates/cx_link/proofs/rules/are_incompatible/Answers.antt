@@ -1,7 +1,7 @@
 use Rattle.std.proofs.Common.{rules, ◌≡◌, ap, ◌∙◌}
 use Rattle.std.specs.Prelude.{not}
 use Rattle.cx_core.specs.Views.{view_type, view_types}
-use Rattle.cx_link.proofs.Compatible.{compatible_is}
+use Rattle.cx_links.proofs.Compatible.{compatible_is}
 use Rattle.cx_link.proofs.rules.are_incompatible.Goals as goal
 
 pub returns : goal.returns

@@ -1,7 +1,7 @@
 use Rattle.std.proofs.Common.{◌≡◌, map, drop}
 use Rattle.cx_core.specs.Views.{view_mention, view_types}
 use Rattle.cx_link.specs.Chains.{Links}
-use Rattle.cx_link.specs.Rules.{first_in}
+use Rattle.cx_links.specs.Rules.{first_in}
 use Rattle.cx_link.proofs.rules.first_broken.Given as goal
 
 abbrev pub invariant-loop-one : goal.invariant-loop-one

@@ -2,7 +2,7 @@ use Rattle.std.proofs.Common.{rules, ◌≡◌, map, ap, sym, ◌∙◌}
 use Rattle.std.specs.Prelude.{is_some}
 use Rattle.cx_core.specs.Views.{view_mention}
 use Rattle.cx_link.specs.Chains.{indexed}
-use Rattle.cx_link.specs.Rules.{defines_external, is_kind_of}
+use Rattle.cx_links.specs.Rules.{defines_external, is_kind_of}
 use Rattle.cx_link.proofs.Chains.{any_is_some}
 use Rattle.cx_link.proofs.rules.is_defined.Goals as goal
 

@@ -2,7 +2,7 @@ use Rattle.std.proofs.Common.{rules, arith, ◌≡◌, ◌<◌, ◌+◌, map, op
 use Rattle.std.proofs.lemmas.Option.{slice_get-map, slice_get_read}
 use Rattle.cx_core.specs.Views.{view_mention, view_types}
 use Rattle.cx_link.specs.Chains.{indexed, kind_of, relates, wanted, latest}
-use Rattle.cx_link.specs.Rules.{is_kind_of}
+use Rattle.cx_links.specs.Rules.{is_kind_of}
 use Rattle.cx_link.proofs.Chains.{Walks, walk_begins, walk_goes, walk_finds, walk_ends, steps_back, falls, latest_before, holds_in, same_length}
 use Rattle.cx_link.proofs.rules.some_relates.Goals as goal
 

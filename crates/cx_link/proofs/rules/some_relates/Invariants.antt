@@ -1,7 +1,7 @@
 use Rattle.std.proofs.Common.{map, suc, option_map, unwrap_or}
 use Rattle.cx_core.specs.Views.{view_mention, view_types}
 use Rattle.cx_link.specs.Chains.{kind_of, relates, wanted}
-use Rattle.cx_link.specs.Rules.{is_kind_of}
+use Rattle.cx_links.specs.Rules.{is_kind_of}
 use Rattle.cx_link.proofs.Chains.{Walks}
 use Rattle.cx_link.proofs.rules.some_relates.Given as goal
 

@@ -1,7 +1,7 @@
 use Rattle.std.proofs.Common.{◌≡◌, ◌++◌, map, drop}
 use Rattle.cx_core.specs.Trees.{CUnit}
 use Rattle.cx_core.specs.Views.{view_object, view_unit}
-use Rattle.cx_link.specs.Program.{from_each}
+use Rattle.cx_links.specs.Program.{from_each}
 use Rattle.cx_linked.specs.Found.{all_found, found_in, view_found}
 use Rattle.cx_linked.proofs.found.all_objects.Given as goal
 

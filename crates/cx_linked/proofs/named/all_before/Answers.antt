@@ -1,7 +1,7 @@
 use Rattle.std.proofs.Common.{rules, ◌≡◌, ◌+◌, ◌++◌, [], ◌∷◌, suc, map, option_map, Some, slice_get, length, refl, ap, sym, ◌∙◌}
 use Rattle.std.proofs.lemmas.Option.{slice_get-map, slice_get_read}
 use Rattle.cx_core.specs.Views.{view_unit}
-use Rattle.cx_link.specs.Program.{counts_before}
+use Rattle.cx_links.specs.Program.{counts_before}
 use Rattle.cx_link.proofs.Joining.{counts_next}
 use Rattle.cx_linked.specs.Named.{before_alone}
 use Rattle.cx_linked.proofs.Gathered.{each_goes, map_append}

@@ -1,6 +1,6 @@
 use Rattle.std.proofs.Common.{◌≡◌, ◌++◌, map, drop}
 use Rattle.cx_core.specs.Views.{view_unit}
-use Rattle.cx_link.specs.Program.{counts_before, from_each}
+use Rattle.cx_links.specs.Program.{counts_before, from_each}
 use Rattle.cx_linked.specs.Named.{all_before, before_alone}
 use Rattle.cx_renumber.specs.Views.{view_counts}
 use Rattle.cx_linked.proofs.named.all_before.Given as goal

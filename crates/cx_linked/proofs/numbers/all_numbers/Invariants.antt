@@ -1,6 +1,6 @@
 use Rattle.std.proofs.Common.{◌≡◌, ◌++◌, map, drop}
 use Rattle.cx_core.specs.Views.{view_unit}
-use Rattle.cx_link.specs.Program.{from_each}
+use Rattle.cx_links.specs.Program.{from_each}
 use Rattle.cx_linked.specs.Named.{all_numbers, numbers_alone, units_of}
 use Rattle.cx_renumber.specs.Views.{view_numbers}
 use Rattle.cx_linked.proofs.numbers.all_numbers.Given as goal

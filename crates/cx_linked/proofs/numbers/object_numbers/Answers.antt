@@ -2,7 +2,7 @@ use Rattle.std.proofs.Common.{rules, ◌≡◌, ◌-◌, ◌≤◌, Some, slice_
 use Rattle.std.proofs.lemmas.Option.{slice_get_read}
 use Rattle.cx_core.specs.Trees.{CObject}
 use Rattle.cx_core.specs.Views.{view_object}
-use Rattle.cx_link.specs.Program.{object_as}
+use Rattle.cx_links.specs.Program.{object_as}
 use Rattle.cx_linked.specs.Named.{units_of}
 use Rattle.cx_linked.proofs.Tables.{table_steps, within_table}
 use Rattle.cx_linked.proofs.numbers.object_numbers.Goals as goal

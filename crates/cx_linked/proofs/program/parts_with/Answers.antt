@@ -1,7 +1,7 @@
 use Rattle.std.proofs.Common.{rules, ◌≡◌, refl, ap, sym, ◌∙◌}
 use Rattle.cx_core.specs.Trees.{CTypes}
 use Rattle.cx_core.specs.Views.{view_types}
-use Rattle.cx_link.specs.Program.{linked, types_of_all}
+use Rattle.cx_links.specs.Program.{linked, types_of_all}
 use Rattle.cx_linked.specs.Linking.{units_in}
 use Rattle.cx_linked.specs.Named.{with_things}
 use Rattle.cx_linked.proofs.Gathered.{program_is}

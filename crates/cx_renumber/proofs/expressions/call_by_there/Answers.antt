@@ -1,7 +1,7 @@
-use Rattle.std.proofs.Common.{rules, ◌≡◌, sym, ap, subst, ◌∙◌, map, IfOk, option_map}
-use Rattle.cx_core.specs.Trees.{expr, call, call_by, literal}
-use Rattle.cx_core.specs.Views.{exprs_of, puts_of, view_expr, view_put, view_type}
-use Rattle.cx_renumber.specs.Numbers.{expr_there, exprs_there, put_there, puts_there, type_there}
+use Rattle.std.proofs.Common.{rules, ◌≡◌, sym, ap, subst, ◌∙◌, map, IfOk}
+use Rattle.cx_core.specs.Trees.{expr, call_by}
+use Rattle.cx_core.specs.Views.{exprs_of, view_expr, view_type}
+use Rattle.cx_renumber.specs.Numbers.{expr_there, exprs_there, type_there}
 use Rattle.cx_renumber.specs.Views.{retyped, view_numbers}
 use Rattle.cx_renumber.proofs.Lists.{exprs_are}
 use Rattle.cx_renumber.proofs.Opened.{call_by_view}

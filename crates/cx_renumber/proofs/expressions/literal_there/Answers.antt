@@ -1,7 +1,7 @@
-use Rattle.std.proofs.Common.{rules, ◌≡◌, sym, ap, subst, ◌∙◌, map, IfOk, option_map}
-use Rattle.cx_core.specs.Trees.{expr, call, call_by, literal}
-use Rattle.cx_core.specs.Views.{exprs_of, puts_of, view_expr, view_put, view_type}
-use Rattle.cx_renumber.specs.Numbers.{expr_there, exprs_there, put_there, puts_there, type_there}
+use Rattle.std.proofs.Common.{rules, ◌≡◌, sym, ap, subst, ◌∙◌, map, IfOk}
+use Rattle.cx_core.specs.Trees.{expr, literal}
+use Rattle.cx_core.specs.Views.{puts_of, view_expr, view_put, view_type}
+use Rattle.cx_renumber.specs.Numbers.{put_there, puts_there, type_there}
 use Rattle.cx_renumber.specs.Views.{retyped, view_numbers}
 use Rattle.cx_renumber.proofs.Lists.{puts_are}
 use Rattle.cx_renumber.proofs.Opened.{literal_view}

@@ -1,7 +1,7 @@
-use Rattle.std.proofs.Common.{rules, ◌≡◌, sym, ap, subst, ◌∙◌, map, IfOk, option_map}
+use Rattle.std.proofs.Common.{rules, ◌≡◌, sym, ap, subst, ◌∙◌, map, IfOk}
 use Rattle.cx_core.specs.Trees.{stmt, block}
-use Rattle.cx_core.specs.Views.{stmts_of, view_expr, view_stmt}
-use Rattle.cx_renumber.specs.Numbers.{expr_there, stmt_there}
+use Rattle.cx_core.specs.Views.{stmts_of, view_stmt}
+use Rattle.cx_renumber.specs.Numbers.{stmt_there}
 use Rattle.cx_renumber.specs.Views.{holding, view_numbers}
 use Rattle.cx_renumber.proofs.Opened.{block_view}
 use Rattle.cx_renumber.proofs.Lists.{stmts_are}

@@ -2,7 +2,7 @@ use Rattle.std.proofs.Common.{rules, ◌≡◌, ℕ, ◌<◌, map, length, Some,
 use Rattle.cx_core.specs.Views.{view_unit}
 use Rattle.cx_link.proofs.Chains.{same_length}
 use Rattle.cx_link.proofs.Joining.{stands_within}
-use Rattle.cx_link.specs.Rules.{broken_links}
+use Rattle.cx_links.specs.Rules.{broken_links}
 use Rattle.cx_units.proofs.Steps.{together_stops}
 use Rattle.cx_units.proofs.checked.check_units.Goals as goal
 

@@ -1,5 +1,5 @@
 use Rattle.std.proofs.Common.{◌≡◌, ◌++◌, map, drop}
-use Rattle.rs_tree.specs.Text.{module_path}
+use Rattle.rs_text.specs.Text.{module_path}
 use Rattle.front.proofs.crate_files.module_paths.Given as goal
 
 -- the paths so far, and those of the names that are left

@@ -1,7 +1,7 @@
 use Rattle.std.proofs.Common.{◌∙◌, ap, map, List}
 use Rattle.rs_mean.specs.Lookups.{functions_of, statics_of}
+use Rattle.rs_text.specs.Tree.{ModuleTree}
 use Rattle.rs_tree.specs.declared.item.Module.{Module}
-use Rattle.rs_tree.specs.Tree.{ModuleTree}
 use Rattle.rs_tree.specs.Views.{crate_view, module_view}
 use Rattle.rs_scene.specs.Scenes.{held_function, held_static}
 use Rattle.rs_scene.specs.declared.scene.HeldFunction.{HeldFunction}

@@ -1,6 +1,6 @@
 use Rattle.std.proofs.Common.{◌≡◌, map, drop}
 use Rattle.rs_mean.specs.Typing.{args_fit}
-use Rattle.rs_tree.specs.Tree.{exprs}
+use Rattle.rs_text.specs.Tree.{exprs}
 use Rattle.rs_tree.specs.Views.{expr_view}
 use Rattle.rs_kinds.specs.Scopes.{scope_view}
 use Rattle.rs_kinds.specs.Signatures.{params_view}

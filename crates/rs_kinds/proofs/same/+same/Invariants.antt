@@ -1,6 +1,6 @@
 use Rattle.std.proofs.Common.{◌≡◌, map, drop}
 use Rattle.rs_mean.specs.Scalars.{same_types}
-use Rattle.rs_tree.specs.Tree.{tys}
+use Rattle.rs_text.specs.Tree.{tys}
 use Rattle.rs_tree.specs.Views.{ty_view}
 use Rattle.rs_kinds.proofs.same.+same.Given as goal
 

@@ -1,6 +1,6 @@
 use Rattle.std.proofs.Common.{◌≡◌, map, drop}
 use Rattle.rs_mean.specs.Scalars.{same_types}
-use Rattle.rs_tree.specs.Tree.{tys, LocalTree}
+use Rattle.rs_text.specs.Tree.{tys, LocalTree}
 use Rattle.rs_tree.specs.Views.{ty_view, local_view}
 use Rattle.rs_kinds.proofs.signature.are_types_of.Given as goal
 

@@ -1,6 +1,6 @@
 use Rattle.std.proofs.Common.{◌≡◌, map, drop}
 use Rattle.rs_mean.specs.Typing.{params_stand}
-use Rattle.rs_tree.specs.Tree.{tys}
+use Rattle.rs_text.specs.Tree.{tys}
 use Rattle.rs_tree.specs.Views.{ty_view, module_view}
 use Rattle.rs_kinds.proofs.stands.+stands.Given as goal
 

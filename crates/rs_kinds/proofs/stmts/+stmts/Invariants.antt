@@ -1,6 +1,6 @@
 use Rattle.std.proofs.Common.{◌≡◌, map, drop, option_map}
 use Rattle.rs_mean.specs.Typing.{arms_typed, own_type, stmts_typed}
-use Rattle.rs_tree.specs.Tree.{arms, stmts}
+use Rattle.rs_text.specs.Tree.{arms, stmts}
 use Rattle.rs_tree.specs.Views.{arm_view, stmt_view}
 use Rattle.rs_kinds.specs.Kinds.{kind_view}
 use Rattle.rs_kinds.specs.Scopes.{scope_view}

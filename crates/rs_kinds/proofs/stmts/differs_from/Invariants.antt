@@ -1,6 +1,6 @@
 use Rattle.std.proofs.Common.{◌≡◌, map, drop}
 use Rattle.rs_mean.specs.Typing.{arm_differs}
-use Rattle.rs_tree.specs.Tree.{arms}
+use Rattle.rs_text.specs.Tree.{arms}
 use Rattle.rs_tree.specs.Views.{arm_view}
 use Rattle.rs_kinds.proofs.stmts.differs_from.Given as goal
 

@@ -1,9 +1,9 @@
 use Rattle.std.proofs.Common.{◌≡◌, List, Some, map, ap, sym, subst, ◌∙◌, is_some}
 use Rattle.cr_base.specs.Layout.{no_front}
 use Rattle.rs_mean.specs.Layout.{laid_of}
+use Rattle.rs_text.specs.Tree.{RecordTree}
 use Rattle.rs_tree.specs.declared.item.Field.{Field}
 use Rattle.rs_tree.specs.declared.item.Module.{Module}
-use Rattle.rs_tree.specs.Tree.{RecordTree}
 use Rattle.rs_tree.specs.Views.{crate_view, field_view, module_view, record_view}
 use Rattle.rs_layout.specs.Layouts.{ModulesAreAligned, byte_numbered}
 use Rattle.rs_layout.specs.LayoutsNumbered.{record_numbered}

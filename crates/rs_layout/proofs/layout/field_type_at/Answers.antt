@@ -1,7 +1,7 @@
 use Rattle.std.proofs.Common.{List, map, ap, ◌∙◌, option_map, Option}
 use Rattle.rs_mean.specs.Layout.{FieldPlace, laid_of, field_of}
+use Rattle.rs_text.specs.Tree.{RecordTree}
 use Rattle.rs_tree.specs.declared.item.Field.{Field}
-use Rattle.rs_tree.specs.Tree.{RecordTree}
 use Rattle.rs_tree.specs.Views.{field_view, module_view, record_view}
 use Rattle.rs_layout.specs.Layouts.{field_type_among}
 use Rattle.rs_layout.proofs.Layouts.{field_type_is}

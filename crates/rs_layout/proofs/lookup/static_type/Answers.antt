@@ -1,6 +1,6 @@
 use Rattle.std.proofs.Common.{sym, ap, ◌∙◌, map, option_map, Some}
+use Rattle.rs_text.specs.Tree.{StaticTree}
 use Rattle.rs_tree.specs.declared.ty.RTy.{RTy}
-use Rattle.rs_tree.specs.Tree.{StaticTree}
 use Rattle.rs_tree.specs.Views.{module_view, ty_view}
 use Rattle.rs_layout.proofs.Found.{static_is_found}
 use Rattle.rs_layout.proofs.lookup.static_type.Goals as goal

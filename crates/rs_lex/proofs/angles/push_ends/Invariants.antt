@@ -1,5 +1,5 @@
 use Rattle.std.proofs.Common.{◌≡◌, ◌++◌, replicate}
-use Rattle.rs_tree.specs.Tokens.{Close}
+use Rattle.rs_text.specs.Tokens.{Close}
 use Rattle.rs_lex.specs.Views.{tokens_view}
 use Rattle.rs_lex.proofs.angles.push_ends.Given as goal
 

@@ -1,5 +1,5 @@
 use Rattle.std.proofs.Common.{◌≡◌, drop, map}
-use Rattle.rs_tree.specs.Tokens.{first_mark}
+use Rattle.rs_text.specs.Tokens.{first_mark}
 use Rattle.rs_lex.proofs.marks.first_mark.Given as goal
 
 abbrev pub invariant-loop-entry : goal.invariant-loop-entry

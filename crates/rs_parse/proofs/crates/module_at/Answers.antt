@@ -2,7 +2,7 @@ use Rattle.rs_tree.specs.Views.{item_view}
 use Rattle.std.proofs.Common.{not, ◌&&◌, List, map, codes, ap, ◌∙◌}
 use Rattle.rs_tree.specs.declared.item.Item.{Item}
 use Rattle.std.specs.List.{list_any}
-use Rattle.rs_tree.specs.Valid.{is_function}
+use Rattle.rs_text.specs.Valid.{is_function}
 use Rattle.rs_parse.specs.Reading.{FileHas}
 use Rattle.rs_parse.proofs.ModuleFiles.{file_has, no_main_at, main_at, wrong_at}
 use Rattle.rs_parse.proofs.crates.module_at.Goals as goal

@@ -1,7 +1,7 @@
 use Rattle.std.proofs.Common.{◌≡◌, drop}
 use Rattle.std.specs.List.{list_all}
 use Rattle.rs_parse.specs.Crates.{stands_once}
-use Rattle.rs_tree.specs.Text.{module_path}
+use Rattle.rs_text.specs.Text.{module_path}
 use Rattle.rs_valid.specs.Lists.{names_of}
 use Rattle.rs_parse.proofs.names.have_files.Given as goal
 

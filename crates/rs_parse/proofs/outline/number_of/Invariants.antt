@@ -1,5 +1,5 @@
 use Rattle.std.proofs.Common.{◌≡◌, drop}
-use Rattle.rs_tree.specs.Names.{is_among}
+use Rattle.rs_text.specs.Names.{is_among}
 use Rattle.rs_valid.specs.Lists.{names_of}
 use Rattle.rs_parse.proofs.outline.number_of.Given as goal
 

@@ -1,5 +1,5 @@
 use Rattle.std.proofs.Common.{◌≡◌, ◌++◌, drop}
-use Rattle.rs_tree.specs.Lines.{text_of_lines}
+use Rattle.rs_text.specs.Lines.{text_of_lines}
 use Rattle.rs_print.proofs.bytes.bytes_of.Given as goal
 
 -- what is written, and what is left to write, are all that is written

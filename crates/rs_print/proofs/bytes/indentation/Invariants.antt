@@ -1,5 +1,5 @@
 use Rattle.std.proofs.Common.{◌≡◌, ◌++◌}
-use Rattle.rs_tree.specs.Lines.{indentation}
+use Rattle.rs_text.specs.Lines.{indentation}
 use Rattle.rs_print.proofs.bytes.indentation.Given as goal
 
 -- the blanks of the braces so far are written

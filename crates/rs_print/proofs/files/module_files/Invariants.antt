@@ -1,5 +1,5 @@
 use Rattle.std.proofs.Common.{◌≡◌, ◌++◌, map, drop, IsTrue}
-use Rattle.rs_tree.specs.Text.{module_file}
+use Rattle.rs_text.specs.Text.{module_file}
 use Rattle.rs_print.specs.Condition.{have_words}
 use Rattle.rs_tree.specs.Views.{module_view}
 use Rattle.rs_print.proofs.files.module_files.Given as goal

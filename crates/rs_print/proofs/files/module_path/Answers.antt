@@ -1,5 +1,5 @@
 use Rattle.std.proofs.Common.{◌≡◌, rules}
-use Rattle.rs_tree.specs.Text.{module_path}
+use Rattle.rs_text.specs.Text.{module_path}
 use Rattle.rs_print.proofs.Paths.{path_is_text}
 use Rattle.rs_print.proofs.files.module_path.Goals as goal
 

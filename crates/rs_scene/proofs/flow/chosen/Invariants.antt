@@ -1,5 +1,5 @@
 use Rattle.std.proofs.Common.{◌≡◌, map, drop}
-use Rattle.rs_tree.specs.Tree.{stmts}
+use Rattle.rs_text.specs.Tree.{stmts}
 use Rattle.rs_tree.specs.Views.{arm_view, stmt_view}
 use Rattle.rs_value.specs.Views.{typed_view}
 use Rattle.rs_scene.specs.Flows.{chosen}

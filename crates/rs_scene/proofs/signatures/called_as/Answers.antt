@@ -1,8 +1,8 @@
 use Rattle.std.proofs.Common.{◌∙◌, ap, map, option_map, List, Option}
 use Rattle.std.specs.Option.{option_copied}
+use Rattle.rs_text.specs.Tree.{tys, option_ty}
 use Rattle.rs_tree.specs.declared.item.Local.{Local}
 use Rattle.rs_tree.specs.declared.ty.RTy.{RTy}
-use Rattle.rs_tree.specs.Tree.{tys, option_ty}
 use Rattle.rs_tree.specs.Views.{local_view, ty_view}
 use Rattle.rs_scene.specs.Calls.{are_alike}
 use Rattle.rs_scene.proofs.signatures.called_as.Goals as goal

@@ -3,7 +3,7 @@ use Rattle.rs_mean.specs.Lookups.{OwnFunction, number_from}
 use Rattle.rs_mean.specs.Run.{function_value}
 use Rattle.rs_machine.specs.Does.{Stays, end_of}
 use Rattle.rs_machine.proofs.Outgoing.{settled_end}
-use Rattle.rs_tree.specs.Tree.{tys, option_ty}
+use Rattle.rs_text.specs.Tree.{tys, option_ty}
 use Rattle.rs_tree.specs.Views.{ty_view}
 use Rattle.rs_value.specs.Views.{typed_view}
 use Rattle.rs_scene.proofs.values.some_function.Goals as goal

@@ -1,7 +1,7 @@
 use Rattle.std.proofs.Common.{map, drop}
-use Rattle.rs_tree.specs.Lines.{behind_commas, exprs_texts}
-use Rattle.rs_tree.specs.Printing.{Appends, grown}
-use Rattle.rs_tree.specs.Tree.{exprs}
+use Rattle.rs_text.specs.Lines.{behind_commas, exprs_texts}
+use Rattle.rs_text.specs.Printing.{Appends, grown}
+use Rattle.rs_text.specs.Tree.{exprs}
 use Rattle.rs_tree.specs.Views.{expr_view}
 use Rattle.rs_tree.proofs.expr_text.+expr_text.Given as goal
 

@@ -1,7 +1,7 @@
 use Rattle.std.proofs.Common.{map, drop}
 use Rattle.std.specs.List.{flat_map}
-use Rattle.rs_tree.specs.Lines.{outer_lines}
-use Rattle.rs_tree.specs.Printing.{Appends, grown}
+use Rattle.rs_text.specs.Lines.{outer_lines}
+use Rattle.rs_text.specs.Printing.{Appends, grown}
 use Rattle.rs_tree.specs.Views.{outer_view}
 use Rattle.rs_tree.proofs.item_lines.all_outer_lines.Given as goal
 

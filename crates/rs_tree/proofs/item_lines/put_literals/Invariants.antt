@@ -1,7 +1,7 @@
 use Rattle.std.proofs.Common.{map, drop}
-use Rattle.rs_tree.specs.declared.ty.IntegerTy.TheVariants.{I8}
-use Rattle.rs_tree.specs.Lines.{behind_commas, literal_text}
-use Rattle.rs_tree.specs.Printing.{Appends, grown}
+use Rattle.rs_text.specs.declared.integer.IntegerTy.TheVariants.{I8}
+use Rattle.rs_text.specs.Lines.{behind_commas, literal_text}
+use Rattle.rs_text.specs.Printing.{Appends, grown}
 use Rattle.rs_tree.proofs.item_lines.put_literals.Given as goal
 
 -- what is printed, and what is left to print, are all that is printed

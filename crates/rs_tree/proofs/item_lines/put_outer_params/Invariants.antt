@@ -1,6 +1,6 @@
 use Rattle.std.proofs.Common.{◌+◌, map, drop}
-use Rattle.rs_tree.specs.Lines.{behind_commas, outer_params}
-use Rattle.rs_tree.specs.Printing.{Appends, grown}
+use Rattle.rs_text.specs.Lines.{behind_commas, outer_params}
+use Rattle.rs_text.specs.Printing.{Appends, grown}
 use Rattle.rs_tree.specs.Views.{ty_view}
 use Rattle.rs_tree.proofs.item_lines.put_outer_params.Given as goal
 

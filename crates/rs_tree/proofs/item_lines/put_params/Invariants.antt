@@ -1,6 +1,6 @@
 use Rattle.std.proofs.Common.{map, drop}
-use Rattle.rs_tree.specs.Lines.{behind_commas, param_text}
-use Rattle.rs_tree.specs.Printing.{Appends, grown}
+use Rattle.rs_text.specs.Lines.{behind_commas, param_text}
+use Rattle.rs_text.specs.Printing.{Appends, grown}
 use Rattle.rs_tree.specs.Views.{local_view}
 use Rattle.rs_tree.proofs.item_lines.put_params.Given as goal
 

@@ -1,6 +1,6 @@
 use Rattle.std.proofs.Common.{map, drop}
-use Rattle.rs_tree.specs.Lines.{initialiser_line}
-use Rattle.rs_tree.specs.Printing.{Appends, grown}
+use Rattle.rs_text.specs.Lines.{initialiser_line}
+use Rattle.rs_text.specs.Printing.{Appends, grown}
 use Rattle.rs_tree.specs.Views.{module_view}
 use Rattle.rs_tree.proofs.lines.initialiser_lines.Given as goal
 

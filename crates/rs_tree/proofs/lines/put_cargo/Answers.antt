@@ -1,5 +1,5 @@
 use Rattle.std.proofs.Common.{refl}
-use Rattle.rs_tree.specs.Lines.{cargo_lines}
+use Rattle.rs_text.specs.Lines.{cargo_lines}
 use Rattle.rs_tree.proofs.Growing.{then}
 use Rattle.rs_tree.proofs.lines.put_cargo.Goals as goal
 

@@ -1,7 +1,7 @@
 use Rattle.std.proofs.Common.{map, drop}
 use Rattle.std.specs.List.{flat_map}
-use Rattle.rs_tree.specs.Lines.{module_lines}
-use Rattle.rs_tree.specs.Printing.{Appends, grown}
+use Rattle.rs_text.specs.Lines.{module_lines}
+use Rattle.rs_text.specs.Printing.{Appends, grown}
 use Rattle.rs_tree.specs.Views.{module_view}
 use Rattle.rs_tree.proofs.lines.put_modules.Given as goal
 

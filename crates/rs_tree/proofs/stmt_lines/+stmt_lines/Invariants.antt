@@ -1,7 +1,7 @@
 use Rattle.std.proofs.Common.{map, drop}
-use Rattle.rs_tree.specs.Lines.{stmts_lines, arms_lines}
-use Rattle.rs_tree.specs.Printing.{Appends, grown}
-use Rattle.rs_tree.specs.Tree.{stmts, arms}
+use Rattle.rs_text.specs.Lines.{stmts_lines, arms_lines}
+use Rattle.rs_text.specs.Printing.{Appends, grown}
+use Rattle.rs_text.specs.Tree.{stmts, arms}
 use Rattle.rs_tree.specs.Views.{stmt_view, arm_view}
 use Rattle.rs_tree.proofs.stmt_lines.+stmt_lines.Given as goal
 

@@ -1,7 +1,7 @@
 use Rattle.std.proofs.Common.{map, drop}
-use Rattle.rs_tree.specs.Lines.{behind_commas, tys_texts}
-use Rattle.rs_tree.specs.Printing.{Appends, grown}
-use Rattle.rs_tree.specs.Tree.{tys}
+use Rattle.rs_text.specs.Lines.{behind_commas, tys_texts}
+use Rattle.rs_text.specs.Printing.{Appends, grown}
+use Rattle.rs_text.specs.Tree.{tys}
 use Rattle.rs_tree.specs.Views.{ty_view}
 use Rattle.rs_tree.proofs.type_text.+type_text.Given as goal
 

@@ -1,6 +1,6 @@
 use Rattle.std.proofs.Common.{◌≡◌, map, length}
+use Rattle.rs_text.specs.Valid.{all_differ}
 use Rattle.rs_tree.specs.Views.{field_view}
-use Rattle.rs_tree.specs.Valid.{all_differ}
 use Rattle.rs_types.proofs.items.fields_differ.Given as goal
 
 -- what is left answers for all

@@ -1,5 +1,5 @@
 use Rattle.std.proofs.Common.{◌≡◌, map, drop}
-use Rattle.rs_tree.specs.Tree.{tys}
+use Rattle.rs_text.specs.Tree.{tys}
 use Rattle.rs_tree.specs.Views.{local_view, module_view}
 use Rattle.rs_mean.specs.Typing.{params_stand}
 use Rattle.rs_types.proofs.items.params_stand.Given as goal

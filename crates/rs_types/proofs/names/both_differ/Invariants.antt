@@ -1,6 +1,6 @@
 use Rattle.std.proofs.Common.{◌≡◌, ◌++◌, map, length}
+use Rattle.rs_text.specs.Valid.{all_differ}
 use Rattle.rs_tree.specs.Views.{local_view}
-use Rattle.rs_tree.specs.Valid.{all_differ}
 use Rattle.rs_types.specs.Names.{local_names}
 use Rattle.rs_types.proofs.names.both_differ.Given as goal
 

@@ -1,5 +1,5 @@
 use Rattle.std.proofs.Common.{◌≡◌, map, drop}
-use Rattle.rs_tree.specs.Names.{is_among}
+use Rattle.rs_text.specs.Names.{is_among}
 use Rattle.rs_tree.specs.Views.{outer_view}
 use Rattle.rs_types.specs.Names.{outer_names}
 use Rattle.rs_types.proofs.names.outers_have_name.Given as goal

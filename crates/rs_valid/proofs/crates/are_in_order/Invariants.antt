@@ -1,5 +1,5 @@
 use Rattle.std.proofs.Common.{◌≡◌, map, drop}
-use Rattle.rs_tree.specs.Valid.{are_in_order}
+use Rattle.rs_text.specs.Valid.{are_in_order}
 use Rattle.rs_tree.specs.Views.{item_view}
 use Rattle.rs_valid.proofs.crates.are_in_order.Given as goal
 

@@ -1,6 +1,6 @@
 use Rattle.std.proofs.Common.{◌≡◌, drop}
 use Rattle.std.specs.List.{list_all}
-use Rattle.rs_tree.specs.Names.{is_module_name}
+use Rattle.rs_text.specs.Names.{is_module_name}
 use Rattle.rs_valid.specs.Lists.{names_of}
 use Rattle.rs_valid.proofs.crates.are_module_names.Given as goal
 

@@ -1,6 +1,6 @@
 use Rattle.std.proofs.Common.{◌≡◌, map, drop}
 use Rattle.std.specs.List.{list_all}
-use Rattle.rs_tree.specs.Valid.{valid_items}
+use Rattle.rs_text.specs.Valid.{valid_items}
 use Rattle.rs_tree.specs.Views.{module_view}
 use Rattle.rs_valid.proofs.crates.are_valid_modules.Given as goal
 

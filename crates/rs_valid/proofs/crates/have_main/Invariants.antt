@@ -1,6 +1,6 @@
 use Rattle.std.proofs.Common.{◌≡◌, map, drop, codes}
 use Rattle.std.specs.List.{list_any}
-use Rattle.rs_tree.specs.Valid.{is_function}
+use Rattle.rs_text.specs.Valid.{is_function}
 use Rattle.rs_tree.specs.Views.{item_view}
 use Rattle.rs_valid.proofs.crates.have_main.Given as goal
 

@@ -1,5 +1,5 @@
 use Rattle.std.proofs.Common.{◌≡◌, length}
-use Rattle.rs_tree.specs.Valid.{all_differ}
+use Rattle.rs_text.specs.Valid.{all_differ}
 use Rattle.rs_valid.specs.Lists.{names_of}
 use Rattle.rs_valid.proofs.crates.have_other_names.Given as goal
 

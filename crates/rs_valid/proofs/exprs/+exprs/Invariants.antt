@@ -1,6 +1,6 @@
 use Rattle.std.proofs.Common.{◌≡◌, map, drop}
-use Rattle.rs_tree.specs.Tree.{exprs}
-use Rattle.rs_tree.specs.Valid.{valid_exprs}
+use Rattle.rs_text.specs.Tree.{exprs}
+use Rattle.rs_text.specs.Valid.{valid_exprs}
 use Rattle.rs_tree.specs.Views.{expr_view}
 use Rattle.rs_valid.proofs.exprs.+exprs.Given as goal
 

@@ -1,6 +1,6 @@
 use Rattle.std.proofs.Common.{◌≡◌, map, drop}
 use Rattle.std.specs.List.{list_all}
-use Rattle.rs_tree.specs.Valid.{valid_field}
+use Rattle.rs_text.specs.Valid.{valid_field}
 use Rattle.rs_tree.specs.Views.{field_view}
 use Rattle.rs_valid.proofs.items.are_valid_fields.Given as goal
 

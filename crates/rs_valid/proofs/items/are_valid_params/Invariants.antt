@@ -1,6 +1,6 @@
 use Rattle.std.proofs.Common.{◌≡◌, map, drop}
 use Rattle.std.specs.List.{list_all}
-use Rattle.rs_tree.specs.Valid.{valid_ty}
+use Rattle.rs_text.specs.Valid.{valid_ty}
 use Rattle.rs_tree.specs.Views.{ty_view}
 use Rattle.rs_valid.proofs.items.are_valid_params.Given as goal
 

@@ -1,6 +1,6 @@
 use Rattle.std.proofs.Common.{◌≡◌, map, drop}
-use Rattle.rs_tree.specs.Tree.{stmts, arms}
-use Rattle.rs_tree.specs.Valid.{valid_stmts, valid_arms}
+use Rattle.rs_text.specs.Tree.{stmts, arms}
+use Rattle.rs_text.specs.Valid.{valid_stmts, valid_arms}
 use Rattle.rs_tree.specs.Views.{stmt_view, arm_view}
 use Rattle.rs_valid.proofs.stmts.+stmts.Given as goal
 

@@ -1,6 +1,6 @@
 use Rattle.std.proofs.Common.{◌≡◌, map, drop}
-use Rattle.rs_tree.specs.Tree.{tys}
-use Rattle.rs_tree.specs.Valid.{valid_tys}
+use Rattle.rs_text.specs.Tree.{tys}
+use Rattle.rs_text.specs.Valid.{valid_tys}
 use Rattle.rs_tree.specs.Views.{ty_view}
 use Rattle.rs_valid.proofs.types.+types.Given as goal
 

@@ -1,7 +1,7 @@
 use Rattle.std.proofs.Common.{option_map, ap, sym, ◌∙◌}
 use Rattle.std.specs.Option.{option_copied}
 use Rattle.cx_core.specs.Views.{view_object}
-use Rattle.cx_link.specs.Program.{is_in}
+use Rattle.cx_links.specs.Program.{is_in}
 use Rattle.cx_linked.specs.Found.{view_found}
 use Rattle.cx_linked.specs.Named.{units_of}
 use Rattle.cx_linked.proofs.FirstPlaces.{declared_object_is}

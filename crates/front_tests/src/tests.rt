@@ -1,4 +1,0 @@
-mod full;
-mod large;
-mod statuses;
-mod sure;

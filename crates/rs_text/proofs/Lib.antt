@@ -1,0 +1,2 @@
+pub mod ExampleCrate
+pub mod ExampleReads

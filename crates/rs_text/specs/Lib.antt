@@ -1,0 +1,12 @@
+pub mod Forms
+pub mod Lines
+pub mod Names
+pub mod Parts
+pub mod Printing
+pub mod Reads
+pub mod Spelling
+pub mod Text
+pub mod Tokens
+pub mod Tree
+pub mod Valid
+pub mod Words
