@@ -38,18 +38,12 @@ module _ (setting : CSetting) (frame : Frame) (before later : Blocks) (pick inde
   is : view_work one ≡ get_or (map view_work works) index (view_work one)
   is = map_at works index one within (read_at works index one found)
 
-  pub at : drop index (map view_work works) ≡ view_work one ∷ drop (index + 1) (map view_work works)
+  at : drop index (map view_work works) ≡ view_work one ∷ drop (index + 1) (map view_work works)
   at = drop_more (map view_work works) index (view_work one) seen ∙ ap (λ (head : CWork). head ∷ drop (index + 1) (map view_work works)) (sym is)
 
   replaced : map view_work (set works index new) ≡ take index (map view_work works) ++ view_work new ∷ drop (index + 1) (map view_work works)
   replaced = map-set view_work works index new ∙ set_split (map view_work works) index (view_work new) seen
       ∙ ap (λ (number : ℕ). take index (map view_work works) ++ view_work new ∷ drop number (map view_work works)) (sym (add-one index))
-
-  pub taken_in : take (index + 1) (map view_work works) ≡ take index (map view_work works) ++ view_work one ∷ []
-  taken_in = rw add-one (take-suc (map view_work works) index (view_work one) seen ∙ ap (λ (last : CWork). take index (map view_work works) ++ last ∷ []) (sym is))
-
-  pub unchanged : view_work new ≡ view_work one → map view_work (set works index new) ≡ map view_work works
-  unchanged same = map-set view_work works index new ∙ ap (set (map view_work works) index) same ∙ set_same (map view_work works) index (view_work one) seen is
 
   pub first_walked : (result : Result Walked Halt) → IsMove result → Walks result setting frame before later pick (view_work one) (view_work new) →
       WalksFrom result setting frame before later pick index (map view_work works) (map view_work (set works index new))
@@ -67,12 +61,15 @@ module _ (setting : CSetting) (frame : Frame) (before later : Blocks) (pick inde
   module _ (count : ℕ) (mid : Blocks) (left : List Work)
       (passed : Walks (Ok (walked.Passed count)) setting frame before mid pick (view_work one) (view_work new)) where
     kept : map view_work (set works index new) ≡ map view_work works
-    kept = unchanged passed.2
+    kept = map-set view_work works index new ∙ ap (set (map view_work works) index) passed.2 ∙ set_same (map view_work works) index (view_work one) seen is
 
     here : (result : Result Walked Halt) → WalksFrom result setting frame mid later (pick - count) (index + 1) (map view_work (set works index new)) (map view_work left) →
         WalksFrom result setting frame before later (pick - count) (index + 1) (map view_work works) (map view_work left)
     here result goes = subst (λ (blocks : Blocks). WalksFrom result setting frame blocks later (pick - count) (index + 1) (map view_work works) (map view_work left)) passed.3
         (subst (λ (list : List CWork). WalksFrom result setting frame mid later (pick - count) (index + 1) list (map view_work left)) kept goes)
+
+    taken_in : take (index + 1) (map view_work works) ≡ take index (map view_work works) ++ view_work one ∷ []
+    taken_in = rw add-one (take-suc (map view_work works) index (view_work one) seen ∙ ap (λ (last : CWork). take index (map view_work works) ++ last ∷ []) (sym is))
 
     rest_walked : (result : Result Walked Halt) → IsMove result →
         WalksFrom result setting frame mid later (pick - count) (index + 1) (map view_work (set works index new)) (map view_work left) →
@@ -105,10 +102,6 @@ module _ (setting : CSetting) (frame : Frame) (before later : Blocks) (pick inde
         subst (λ (other : Result Walked Halt). ReachesFrom None other setting frame before later pick index (map view_work works) (map view_work left)) (sym adds) (rest_same taken goes)
     rest_reached (Some more) None taken last adds goes =
         subst (λ (other : Result Walked Halt). ReachesFrom None other setting frame before later pick index (map view_work works) (map view_work left)) (sym adds) tt
-
--- an index that isn't at the end or behind it
-pub below : {index count other : ℕ} → index < count → count ≡ other → index < other
-below {index = index} within is = subst (λ (most : ℕ). index < most) is within
 
 -- ---- sizes
 

@@ -1,7 +1,6 @@
 mod Behind
 mod Bridged
 mod Filled
-mod FirstReady
 mod Lasts
 mod Moving
 mod Opened

@@ -1,7 +1,6 @@
 pub mod Added
 pub mod Fills
 pub mod Halts
-pub mod Leftmost
 pub mod Next
 pub mod Nodes
 pub mod Parts

@@ -3,7 +3,6 @@
 
 mod choices;
 mod halt;
-mod leftmost;
 mod literals;
 mod nodes;
 mod operands;

@@ -4,7 +4,6 @@ ghost use Rattle.cx_eval.specs.Next.{IsNext, Takes, setting_by};
 ghost use Rattle.cx_work.specs.Views.{view_work};
 
 use crate::halt::{Halt, Walked};
-use crate::leftmost::first_step;
 use crate::walk::walk;
 use cr_base::{Memory, Place, URule};
 use cx_access::Setting;
@@ -38,8 +37,13 @@ fn next_of<'a>(taken: Result<Walked<'a>, Halt>) -> Result<Next<'a>, Memory>
     }
 }
 
-// A step of an expression by a walk that counts the ready nodes in front of the pick.
-fn counted_step<'a, S: Store, O: Objects>(
+/// Takes one step of an expression, at the ready node with the number `pick`, from 0 on in post-order, in a setting.
+///
+/// # Errors
+///
+/// `Memory` for want of memory. It stands, too, for a step that no typed program has, for a `pick` that isn't below the number of the
+/// ready nodes.
+pub fn take_step_in<'a, S: Store, O: Objects>(
     alloc: Global,
     work: &mut Work<'a>,
     pick: u64,
@@ -55,34 +59,6 @@ fn counted_step<'a, S: Store, O: Objects>(
         Some(_) => Err(Memory),
         None => next_of(taken),
     }
-}
-
-/// Takes one step of an expression, at the ready node with the number `pick`, from 0 on in post-order, in a setting.
-///
-/// # Errors
-///
-/// `Memory` for want of memory. It stands, too, for a step that no typed program has, for a `pick` that isn't below the number of the
-/// ready nodes.
-#[tactic(auto, using(crate::proofs::FirstReady::first_taken, crate::proofs::FirstReady::taken_behind))]
-pub fn take_step_in<'a, S: Store, O: Objects>(
-    alloc: Global,
-    work: &mut Work<'a>,
-    pick: u64,
-    objects: &O,
-    setting: &Setting<'a>,
-    store: &mut S,
-) -> Result<Next<'a>, Memory>
-    ensures step { Takes result (view_setting setting.now) (O.frame objects.now) (S.memory store.old) (S.memory store.new) pick (view_work work.old) (view_work work.new) }
-    ensures limit { S.limit store.new ≡ S.limit store.old }
-{
-    if pick > 0 {
-        return counted_step(alloc, work, pick, objects, setting, store);
-    }
-    let mut taken = Err(Halt::Memory);
-    if first_step(alloc, store, objects, setting, work, &mut taken) {
-        return next_of(taken);
-    }
-    counted_step(alloc, work, pick, objects, setting, store)
 }
 
 /// The same of a program with layouts.

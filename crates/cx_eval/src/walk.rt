@@ -20,7 +20,7 @@ use std::alloc::Global;
 
 // Whether the node of a tree is ready itself.
 #[inline(always)]
-pub(crate) fn is_ready(work: &Work<'_>) -> bool
+fn is_ready(work: &Work<'_>) -> bool
     ensures { result ≡ node_ready (view_work work.now) }
 {
     match work {
@@ -36,7 +36,7 @@ pub(crate) fn is_ready(work: &Work<'_>) -> bool
 }
 
 // The step of a node that is ready itself.
-pub(crate) fn node_step<'a, S: Store, O: Objects>(
+fn node_step<'a, S: Store, O: Objects>(
     alloc: Global,
     store: &mut S,
     objects: &O,

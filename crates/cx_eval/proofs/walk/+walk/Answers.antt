@@ -1,8 +1,11 @@
-use Rattle.std.proofs.Common.{ℕ, ◌<◌, ◌+◌, subst, drop, set}
+use Rattle.std.proofs.Common.{ℕ, ◌≡◌, ◌<◌, ◌+◌, subst, drop, set}
 use Rattle.cx_access.specs.Views.{view_setting}
 use Rattle.cx_work.specs.Weights.{weight, weights}
-use Rattle.cx_eval.proofs.Bridged.{below, first_reached, rest_reached, weight_behind, weight_below}
+use Rattle.cx_eval.proofs.Bridged.{first_reached, rest_reached, weight_behind, weight_below}
 use Rattle.cx_eval.proofs.walk.+walk.Goals as goal
+
+below : {index count other : ℕ} → index < count → count ≡ other → index < other
+below {index = index} within is = subst (λ (most : ℕ). index < most) is within
 
 pub walk_from-returns-in-None-clause-reaches : goal.walk_from-returns-in-None-clause-reaches
 walk_from-returns-in-None-clause-reaches g t c =
