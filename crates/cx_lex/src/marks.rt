@@ -1,6 +1,7 @@
 //! Marks.
 
-ghost use Rattle.std.specs.Prelude.{◌≡◌, ◌<◌, ◌≤◌, length, map, IfSome};
+ghost use Rattle.std.specs.Prelude.{nat_eq, ◌≡◌, ◌<◌, ◌≤◌, length, map, IfSome};
+ghost use Rattle.std.specs.List.{starts_with};
 ghost use Rattle.cx_lex.specs.Marks.{marks};
 ghost use Rattle.cx_lex.specs.Mirror.{mark_in};
 
@@ -60,12 +61,26 @@ const MARKS: [(&[u8], Punct); 50] = [
     (b",", Punct::Comma),
 ];
 
+// Whether bytes begin with a mark. Most marks that are looked for begin otherwise.
+fn begins_with(bytes: &[u8], mark: &[u8]) -> bool
+    ensures { result ≡ starts_with nat_eq bytes.now mark.now }
+{
+    if let [first, ..] = mark {
+        if let [head, ..] = bytes {
+            if head != first {
+                return false;
+            }
+        }
+    }
+    bytes.starts_with(mark)
+}
+
 fn mark_in(table: &[(&[u8], Punct)], bytes: &[u8]) -> Option<(usize, Punct)>
     ensures value { result ≡ mark_in (map (λ entry. (entry.0.now, entry.1)) table.now) bytes.now }
     ensures within { IfSome result (λ mark. mark.0 ≤ length bytes.now) }
 {
     for entry in table {
-        if bytes.starts_with(entry.0) {
+        if begins_with(bytes, entry.0) {
             return Some((entry.0.len(), entry.1));
         }
     }

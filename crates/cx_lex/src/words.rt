@@ -1,6 +1,6 @@
 //! Identifiers and keywords, and the words that the profile leaves out.
 
-ghost use Rattle.std.specs.Prelude.{◌≡◌, ◌<◌, ◌≤◌, ◌+◌, [], ◌∷◌, length, map, IfOk};
+ghost use Rattle.std.specs.Prelude.{bytes_eq, ◌≡◌, ◌<◌, ◌≤◌, ◌+◌, [], ◌∷◌, length, map, IfOk};
 ghost use Rattle.cx_lex.specs.Words.{entry_of, keywords, floating_words, gnu_words, builtin_prefix, is_among, word_rule, key_or_word};
 
 use crate::token::{Keyword, TokenKind};
@@ -79,11 +79,21 @@ const GNU_WORDS: [&[u8]; 21] = [
 // The beginning of the names of GNU C's built-in functions.
 const BUILTIN_PREFIX: &[u8] = b"__builtin_";
 
+// Whether two words are the same. Most words that are compared differ in their lengths.
+fn is_word(word: &[u8], other: &[u8]) -> bool
+    ensures { result ≡ bytes_eq word.now other.now }
+{
+    if word.len() != other.len() {
+        return false;
+    }
+    word == other
+}
+
 fn entry_of(table: &[(&[u8], Keyword)], word: &[u8]) -> Option<Keyword>
     ensures { result ≡ entry_of (map (λ entry. (entry.0.now, entry.1)) table.now) word.now }
 {
     for entry in table {
-        if word == entry.0 {
+        if is_word(word, entry.0) {
             return Some(entry.1);
         }
     }
@@ -101,7 +111,7 @@ fn is_among(words: &[&[u8]], word: &[u8]) -> bool
     ensures { result ≡ is_among (map (λ entry. entry.now) words.now) word.now }
 {
     for entry in words {
-        if word == *entry {
+        if is_word(word, entry) {
             return true;
         }
     }
