@@ -1,17 +1,17 @@
 -- Constants of static objects, by the forms of expressions.
-use Rattle.std.proofs.Common.{◌≡◌, refl, ap, ◌∙◌, sym, ℕ, Bool, true, false, ◌&&◌, ◌||◌, Option, None, Some}
+use Rattle.std.proofs.Common.{◌≡◌, refl, ap, ◌∙◌, sym, ℕ, Bool, false, ◌&&◌, ◌||◌, None}
 use Rattle.std.specs.Prelude.{is_some}
 use Rattle.cx_core.specs.declared.expr.CoreExpr.{CoreExpr}
 use Rattle.cx_core.specs.declared.expr.Op2.{Op2}
 use Rattle.cx_core.specs.declared.expr.Op2.TheVariants as op2
-use Rattle.cx_core.specs.Trees.{CTy, ty, void, basic, enum_type, pointer, array, record_type, function, CTypes, CExpr, expr, CForm, binary, type_of}
+use Rattle.cx_core.specs.Trees.{ty, void, basic, enum_type, pointer, array, record_type, function, CTypes, CExpr, expr, binary, type_of}
 use Rattle.cx_core.specs.Views.{view_expr, view_type}
 use Rattle.cx_init.specs.Constants.{adds}
 use Rattle.cx_operands.proofs.Values.{place_no_constant, nothing_no_constant, type_of_view}
 use Rattle.cx_rules.specs.declared.kinds.OperandKind.TheVariants.{Place, VoidPlace}
 use Rattle.cx_rules.specs.Initial.{is_initial, is_initial_form, is_initial_pointer, is_fixed}
 use Rattle.cx_rules.specs.Operands.{constant_of, value_by, value_of_place}
-use Rattle.cx_rules.specs.Types.{is_array, is_pointer}
+use Rattle.cx_rules.specs.Types.{is_array}
 
 module _ (types : CTypes) (statics : ℕ → Bool) where
   pub initial_by : (value : CExpr) → (is_some (constant_of types value) || is_initial_pointer types statics value) ≡ is_initial types statics value

@@ -1,5 +1,6 @@
 pub mod Ascents
 pub mod Found
+pub mod Fronts
 pub mod Initials
 pub mod Ordering
 pub mod PartsLaws

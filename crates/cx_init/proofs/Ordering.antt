@@ -1,6 +1,6 @@
 -- What is kept, and its order.
-use Rattle.std.proofs.Common.{arith, map, ◌≡◌, refl, ap, sym, ◌∙◌, ℕ, zero, suc, ◌+◌, length, Bool, true, false, if◌then◌else◌, List, [], ◌∷◌, ◌++◌, take, drop}
-use Rattle.std.proofs.lemmas.List.{length-append, length-map, map-append, take-map, drop-map}
+use Rattle.std.proofs.Common.{arith, map, ◌≡◌, refl, ap, sym, ◌∙◌, ℕ, suc, ◌+◌, length, Bool, true, false, if◌then◌else◌, List, [], ◌∷◌, ◌++◌, take, drop, reverse}
+use Rattle.std.proofs.lemmas.List.{append_assoc, length-append, length-map, length-reverse, map-append, reverse-append, reverse-reverse, take-map, take_at, drop-map, drop_at}
 use Rattle.cx_core.specs.Trees.{CTy, CTypes}
 use Rattle.cx_init.specs.Orders.{kept_flags, chosen, place_among, ordered_onto}
 use Rattle.cx_rules.specs.Initial.{CStored, kept_by, kept, comes_before, put_in_order, in_order}
@@ -13,15 +13,54 @@ kept_is types type [] = refl
 kept_is types type (one ∷ others) =
     kept_one (kept_by types type others one) one (chosen (kept_flags types type others) others) (kept types type others) (kept_is types type others)
 
-put_by : (before : Bool) (one first : CStored) (others : List CStored) (place : ℕ)
-    → take place others ++ one ∷ drop place others ≡ put_in_order one others
-    → take (if before then suc place else 0) (first ∷ others) ++ one ∷ drop (if before then suc place else 0) (first ∷ others) ≡ (if before then first ∷ put_in_order one others else one ∷ first ∷ others)
-put_by true one first others place is = ap (λ rest. first ∷ rest) is
-put_by false one first others place is = refl
+-- where a value goes among others that are in order
+record Put (one : CStored) (sorted : List CStored) : Type 0 where
+  front : List CStored
+  back : List CStored
+  is : sorted ≡ front ++ back
+  behind : length back ≡ place_among sorted one.path
+  put : put_in_order one sorted ≡ front ++ one ∷ back
 
-pub put_is : (one : CStored) (sorted : List CStored) → take (place_among sorted one.path) sorted ++ one ∷ drop (place_among sorted one.path) sorted ≡ put_in_order one sorted
-put_is one [] = refl
-put_is one (first ∷ others) = put_by (comes_before first.path one.path) one first others (place_among others one.path) (put_is one others)
+put_head : (one first : CStored) (others : List CStored) (before : Bool) → comes_before first.path one.path ≡ before → Put one others → Put one (first ∷ others)
+put_head one first others false t s = record { front = []; back = first ∷ others; is = refl; behind = rw t refl; put = rw t refl }
+put_head one first others true t s = record {
+  front = first ∷ s.front;
+  back = s.back;
+  is = ap (λ rest. first ∷ rest) s.is;
+  behind = rw t s.behind;
+  put = rw t (ap (λ rest. first ∷ rest) s.put);
+}
+
+put_split : (one : CStored) (sorted : List CStored) → Put one sorted
+put_split one [] = record { front = []; back = []; is = refl; behind = refl; put = refl }
+put_split one (first ∷ others) = put_head one first others (comes_before first.path one.path) refl (put_split one others)
+
+turned_round : {A : Type 0} (front back : List A) (x : A) → reverse (front ++ x ∷ back) ≡ reverse back ++ x ∷ reverse front
+turned_round front back x =
+    reverse-append front (x ∷ back) ∙ ap (λ later. later ++ reverse front) (reverse-append (x ∷ []) back)
+    ∙ append_assoc (reverse back) (x ∷ []) (reverse front)
+
+module _ (one : CStored) (held : List CStored) (n : ℕ) (s : Put one (reverse held)) (place : n ≡ place_among (reverse held) one.path) where
+  held_is : held ≡ reverse s.back ++ reverse s.front
+  held_is = sym (reverse-reverse held) ∙ ap reverse s.is ∙ reverse-append s.front s.back
+
+  count_is : length (reverse s.back) ≡ n
+  count_is = length-reverse s.back ∙ s.behind ∙ sym place
+
+  front_is : take n held ≡ reverse s.back
+  front_is = ap (take n) held_is ∙ take_at (reverse s.back) (reverse s.front) n count_is
+
+  back_is : drop n held ≡ reverse s.front
+  back_is = ap (drop n) held_is ∙ drop_at (reverse s.back) (reverse s.front) n count_is
+
+  put_is : reverse (take n held ++ one ∷ drop n held) ≡ put_in_order one (reverse held)
+  put_is =
+      ap (λ front. reverse (front ++ one ∷ drop n held)) front_is
+      ∙ ap (λ back. reverse (reverse s.back ++ one ∷ back)) back_is
+      ∙ turned_round (reverse s.back) (reverse s.front) one
+      ∙ ap (λ front. front ++ one ∷ reverse (reverse s.back)) (reverse-reverse s.front)
+      ∙ ap (λ back. s.front ++ one ∷ back) (reverse-reverse s.back)
+      ∙ sym s.put
 
 pub onto_append : (stored more sorted : List CStored) → ordered_onto (stored ++ more) sorted ≡ ordered_onto stored (ordered_onto more sorted)
 onto_append [] more sorted = refl
@@ -45,13 +84,22 @@ pub flags_length : (types : CTypes) (type : CTy) (stored : List CStored) → len
 flags_length types type [] = refl
 flags_length types type (one ∷ others) = ap suc (flags_length types type others)
 
-pub inserted : {A : Type 0} (view : A → CStored) (sorted : List A) (one : A) (place : ℕ) → place ≡ place_among (map view sorted) (view one).path
-    → map view (take place sorted ++ one ∷ drop place sorted) ≡ put_in_order (view one) (map view sorted)
-inserted view sorted one place is =
-    map-append view (take place sorted) (one ∷ drop place sorted)
-    ∙ ap (λ front. front ++ view one ∷ map view (drop place sorted)) (sym (take-map view place sorted))
-    ∙ ap (λ back. take place (map view sorted) ++ view one ∷ back) (sym (drop-map view place sorted))
-    ∙ ap (λ n. take n (map view sorted) ++ view one ∷ drop n (map view sorted)) is ∙ put_is (view one) (map view sorted)
+-- a value is put among others that are held the last first
+pub inserted : {A : Type 0} (view : A → CStored) (held now : List A) (one : A) (place : ℕ) → place ≡ place_among (reverse (map view held)) (view one).path
+    → now ≡ take place held ++ one ∷ drop place held → reverse (map view now) ≡ put_in_order (view one) (reverse (map view held))
+inserted view held now one place is there =
+    ap (λ xs. reverse (map view xs)) there
+    ∙ ap reverse (map-append view (take place held) (one ∷ drop place held)
+    ∙ ap (λ front. front ++ view one ∷ map view (drop place held)) (sym (take-map view place held))
+    ∙ ap (λ back. take place (map view held) ++ view one ∷ back) (sym (drop-map view place held)))
+    ∙ put_is (view one) (map view held) place (put_split (view one) (reverse (map view held))) is
+
+pub turned_views : {A : Type 0} (view : A → CStored) (held : List A) → map view (reverse held) ≡ reverse (map view held)
+turned_views view [] = refl
+turned_views view (one ∷ others) =
+    ap (map view) (reverse-append (one ∷ []) others) ∙ map-append view (reverse others) (one ∷ [])
+    ∙ ap (λ front. front ++ view one ∷ []) (turned_views view others)
+    ∙ sym (reverse-append (view one ∷ []) (map view others))
 
 -- ---- a turn that takes the last of those that are left
 

@@ -1,11 +1,11 @@
 -- Parts of objects, and the puts of what is stored in them.
-use Rattle.std.proofs.Common.{arith, ◌≡◌, refl, ap, sym, ◌∙◌, ℕ, ◌+◌, ◌*◌, ◌++◌, max, nat_lt, Bool, true, false, if◌then◌else◌, List, [], ◌∷◌, Option, None, Some, option_map}
+use Rattle.std.proofs.Common.{arith, ◌≡◌, refl, ap, sym, ◌∙◌, ℕ, ◌+◌, ◌*◌, ◌++◌, max, nat_lt, Bool, if◌then◌else◌, List, [], ◌∷◌, Option, None, Some, option_map}
 use Rattle.cr_base.specs.declared.layout.Laid.{Laid}
 use Rattle.cx_core.specs.Layouts.{extent, layouts_of}
-use Rattle.cx_core.specs.Trees.{CTy, ty, CTyForm, void, basic, enum_type, pointer, array, record_type, function, CTypes, CPut, CPuts}
+use Rattle.cx_core.specs.Trees.{CTy, ty, void, basic, enum_type, pointer, array, record_type, function, CTypes, CPut}
 use Rattle.cx_core.specs.ValidTypes.{CPart, part_at, direct_part}
 use Rattle.cx_core.specs.Views as view
-use Rattle.cx_init.specs.Parts.{after_one, completed_by, element_part, has_index, least_from, part_from, put_of, put_before, puts_listed}
+use Rattle.cx_init.specs.Parts.{after_one, completed_by, element_part, least_from, part_from, put_of, put_before, puts_listed}
 use Rattle.cx_rules.specs.Pieces.{CFilled, filled_object}
 use Rattle.cx_rules.specs.Types.{size_of}
 use Rattle.cx_rules.specs.Initial.{CStored, least_length, completed_type, put_at, puts_from, puts_of, kept, in_order}

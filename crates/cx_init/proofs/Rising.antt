@@ -62,7 +62,7 @@ both_of false other is = absurd cc
 -- ---- so of values of which each rises to the next, each rises to all behind it
 
 module _ (types : CTypes) (type : CTy) where
-  neither : (one other : Bool) → (not one && not other) ≡ true → (one ≡ false) × (other ≡ false)
+  pub neither : (one other : Bool) → (not one && not other) ≡ true → (one ≡ false) × (other ≡ false)
   neither false false is = (refl, refl)
   neither false true is = absurd cc
   neither true other is = absurd cc
@@ -77,7 +77,7 @@ module _ (types : CTypes) (type : CTy) where
       not_either (comes_before third first) (takes_away types (Some type) third first) (behind_both first second third one.0 two.0)
       (left_both types (Some type) first second third one.0 two.0 one.1 two.1)
 
-  rises_past : (one next : CStored) (others : List CStored) → rises types type one.path next.path ≡ true → rises_to types type next others ≡ true → rises_to types type one others ≡ true
+  pub rises_past : (one next : CStored) (others : List CStored) → rises types type one.path next.path ≡ true → rises_to types type next others ≡ true → rises_to types type one others ≡ true
   rises_past one next [] is also = refl
   rises_past one next (third ∷ others) is also = rises_over one.path next.path third.path is also
 

@@ -1,11 +1,11 @@
 -- The bytes of string literals in arrays.
-use Rattle.std.proofs.Common.{arith, ◌≡◌, refl, ap, ◌∙◌, ℕ, zero, suc, ◌+◌, ◌-◌, Bool, true, false, List, [], ◌∷◌, ◌++◌, Option, None, Some, if◌then◌else◌, option_map, nat_le, pos, slice_get}
+use Rattle.std.proofs.Common.{arith, ◌≡◌, refl, ℕ, ◌+◌, ◌-◌, Bool, false, List, [], ◌∷◌, Option, None, Some, option_map, nat_le, pos, slice_get}
 use Rattle.std.proofs.lemmas.Bool.Decides.{nat_tests}
 use Rattle.cr_base.specs.Scalar.{wrapped}
 use Rattle.cr_base.specs.declared.refusal.Place.{Place as TextPlace}
 use Rattle.cx_core.specs.Conversions.{scalar_of, scalar_of_basic, scalar_of_pointer, basic_of, basic_of_enum}
 use Rattle.cx_core.specs.Trees.{CTy, ty, CTyForm, void, basic, enum_type, pointer, array, record_type, function, CTypes}
-use Rattle.cx_rules.specs.Initial.{CAt, CStored, has_element, byte_value, bytes_from, as_scalar}
+use Rattle.cx_rules.specs.Initial.{CAt, has_element, bytes_from, as_scalar}
 
 pub no_more : (types : CTypes) (at : TextPlace) (where_is : CAt) (element : CTy) (length : Option ℕ) (index : ℕ) (bytes : List ℕ)
     → has_element types element length index ≡ false → bytes_from types at where_is element length index bytes ≡ []

@@ -1,5 +1,5 @@
 -- How what is kept is found and put in order. Named by the contracts of parts alone.
-use Rattle.std.specs.Prelude.{ℕ, suc, Bool, true, not, ◌&&◌, if◌then◌else◌, List, [], ◌∷◌, Some}
+use Rattle.std.specs.Prelude.{ℕ, suc, Bool, true, not, ◌&&◌, if◌then◌else◌, List, [], ◌∷◌, length, Some}
 use Rattle.cx_core.specs.Trees.{CTy, CTypes}
 use Rattle.cx_init.specs.Ascending.{stands_behind}
 use Rattle.cx_rules.specs.Initial.{CStored, kept_by, comes_before, put_in_order, takes_away}
@@ -14,10 +14,10 @@ abbrev pub chosen : List Bool → List CStored → List CStored
 chosen (flag ∷ flags) (one ∷ others) = if flag then one ∷ chosen flags others else chosen flags others
 chosen _ _ = []
 
--- how many values stand before a part, up to the first that doesn't
+-- how many of those in order stand behind a part, from the first on that doesn't stand before it
 abbrev pub place_among : List CStored → List ℕ → ℕ
 place_among [] path = 0
-place_among (one ∷ others) path = if comes_before one.path path then suc (place_among others path) else 0
+place_among (one ∷ others) path = if comes_before one.path path then place_among others path else suc (length others)
 
 -- values, each put in its place among those behind it that are in order
 abbrev pub ordered_onto : List CStored → List CStored → List CStored
@@ -37,3 +37,8 @@ rises_to types type one (next ∷ others) = rises types type one.path next.path
 abbrev pub all_rise : CTypes → CTy → List CStored → Bool
 all_rise types type [] = true
 all_rise types type (one ∷ others) = rises_to types type one others && all_rise types type others
+
+-- how many values at the front rise, each to the next one
+abbrev pub rising_front : CTypes → CTy → List CStored → ℕ
+rising_front types type [] = 0
+rising_front types type (one ∷ others) = if rises_to types type one others then suc (rising_front types type others) else 1

@@ -1,8 +1,8 @@
 //! What later values leave, in the order of places (ISO C99, 6.7.8p19).
 
-ghost use Rattle.std.specs.Prelude.{◌≡◌, ◌≤◌, [], ◌∷◌, if◌then◌else◌, map, length, Some, IfOk, OnOk};
+ghost use Rattle.std.specs.Prelude.{◌≡◌, ◌≤◌, [], ◌∷◌, ◌++◌, if◌then◌else◌, map, length, reverse, Some, IfOk, OnOk};
 ghost use Rattle.cx_core.specs.Views.{view_type};
-ghost use Rattle.cx_init.specs.Orders.{all_rise, chosen, kept_flags, ordered_onto, place_among, rises, rises_to};
+ghost use Rattle.cx_init.specs.Orders.{all_rise, chosen, kept_flags, ordered_onto, place_among, rises, rises_to, rising_front};
 ghost use Rattle.cx_init.specs.Views.{view_stored};
 ghost use Rattle.cx_kinds.specs.Known.{IsKnown, types_in};
 ghost use Rattle.cx_rules.specs.Initial.{takes_away, kept_by, kept, put_in_order, in_order};
@@ -48,34 +48,71 @@ fn kept_by(known: Known, t: &Ty, later: &[Stored], one: &Stored) -> bool
     true
 }
 
-// Which of the values are kept.
+// How many values at the front stand one behind the other, and leave the one before.
+fn rising_front(known: Known, t: &Ty, stored: &[Stored]) -> usize
+    requires { IsKnown known }
+    ensures count { result ≡ rising_front (types_in known.entry) (view_type t.now) (map view_stored stored.now) }
+    ensures within { result ≤ length stored.now }
+{
+    for index in 0..stored.len() {
+        if !rises_to(known, t, &stored[index], &stored[index + 1..]) {
+            return index + 1;
+        }
+    }
+    stored.len()
+}
+
+// Whether later values leave each of these.
+fn flag_front(
+    known: Known,
+    t: &Ty,
+    front: &[Stored],
+    later: &[Stored],
+    flags: &mut Items<bool>,
+) -> Result<(), Memory>
+    requires { IsKnown known }
+    ensures { OnOk result (flags.new ≡ flags.old ++ map (kept_by (types_in known.entry) (view_type t.now) (map view_stored later.now)) (map view_stored front.now)) }
+{
+    for one in front {
+        flags.push(kept_by(known, t, later, one))?;
+    }
+    Ok(())
+}
+
+// Which of the values are kept. Values that rise leave one another, so each is compared with those alone that come behind the first one that doesn't
+// rise.
 fn kept_flags(alloc: Global, known: Known, t: &Ty, stored: &[Stored]) -> Result<Items<bool>, Memory>
     requires { IsKnown known }
     ensures { IfOk result (λ flags. flags ≡ kept_flags (types_in known.entry) (view_type t.now) (map view_stored stored.now)) }
 {
     let mut flags = Items::new(alloc);
-    for index in 0..stored.len() {
-        flags.push(kept_by(known, t, &stored[index + 1..], &stored[index]))?;
+    let mut start = 0;
+    while start < stored.len() {
+        let end = start + rising_front(known, t, &stored[start..]);
+        flag_front(known, t, &stored[start..end], &stored[end..], &mut flags)?;
+        start = end;
     }
     Ok(flags)
 }
 
-// How many of the values stand before a part, up to the first that doesn't.
+// Behind how many of the values that are held, the last first, a part goes.
 fn place_among(sorted: &[Stored], path: &[u64]) -> usize
-    ensures place { result ≡ place_among (map view_stored sorted.now) path.now }
+    ensures place { result ≡ place_among (reverse (map view_stored sorted.now)) path.now }
     ensures within { result ≤ length sorted.now }
 {
-    for index in 0..sorted.len() {
-        if !comes_before(sorted[index].path.as_slice(), path) {
-            return index;
+    let mut left = sorted;
+    while let Some((first, others)) = left.split_last() {
+        if !comes_before(first.path.as_slice(), path) {
+            return left.len();
         }
+        left = others;
     }
-    sorted.len()
+    0
 }
 
-// A value gets its place among others that are in order.
+// A value gets its place among others that are in order, and are held the last first.
 fn put_in_order(sorted: &mut Vec<Stored>, one: Stored) -> Result<(), Memory>
-    ensures { OnOk result (map view_stored sorted.new.items ≡ put_in_order (view_stored one) (map view_stored sorted.old.items)) }
+    ensures { OnOk result (reverse (map view_stored sorted.new.items) ≡ put_in_order (view_stored one) (reverse (map view_stored sorted.old.items))) }
 {
     let place = place_among(sorted.as_slice(), one.path.as_slice());
     sorted.insert(place, one)?;
@@ -133,13 +170,23 @@ pub(crate) fn kept_in_order(
 }
 
 fn keep_flagged(is_kept: bool, one: Stored, sorted: &mut Vec<Stored>) -> Result<(), Memory>
-    ensures { OnOk result (map view_stored sorted.new.items ≡ ordered_onto (if is_kept then view_stored one ∷ [] else []) (map view_stored sorted.old.items)) }
+    ensures { OnOk result (reverse (map view_stored sorted.new.items) ≡ ordered_onto (if is_kept then view_stored one ∷ [] else []) (reverse (map view_stored sorted.old.items))) }
 {
     if is_kept {
         put_in_order(sorted, one)
     } else {
         Ok(())
     }
+}
+
+// The values that are held the last first, turned round.
+#[tactic(auto, using(crate::proofs::Ordering::turned_views))]
+fn turned(sorted: Vec<Stored>) -> Items<Stored>
+    ensures { map view_stored result ≡ reverse (map view_stored sorted.items) }
+{
+    let mut sorted = sorted;
+    sorted.reverse();
+    Items::of(sorted)
 }
 
 // The values whose flag is set, in order.
@@ -157,12 +204,12 @@ fn chosen_in_order(
     let mut sorted = Vec::new(alloc);
     for _index in 0..left.len() {
         let Some(one) = left.pop() else {
-            return Ok(Items::of(sorted));
+            return Ok(turned(sorted));
         };
         let Some(is_kept) = flags.pop() else {
-            return Ok(Items::of(sorted));
+            return Ok(turned(sorted));
         };
         keep_flagged(is_kept, one, &mut sorted)?;
     }
-    Ok(Items::of(sorted))
+    Ok(turned(sorted))
 }
