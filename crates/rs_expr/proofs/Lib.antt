@@ -1,3 +1,4 @@
+pub mod Chosen
 pub mod CursorLemmas
 pub mod NumberLemmas
 pub mod Turns

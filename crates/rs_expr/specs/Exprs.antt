@@ -181,6 +181,17 @@ moved operand below tokens = read_of (Offset operand (argument below tokens).0) 
 unfoldable pub measured : Expr → Reader Expr → Reader Expr
 measured operand below tokens = read_of (OffsetFrom operand (argument below tokens).0) (argument below tokens).1
 
+-- a method with an argument, which isn't `unwrap`, and its node
+abbrev pub applied_tree : Method → Expr → Expr → Expr
+applied_tree AddMethod operand arg = Wrapped operand WrappingAdd arg
+applied_tree SubMethod operand arg = Wrapped operand WrappingSub arg
+applied_tree MulMethod operand arg = Wrapped operand WrappingMul arg
+applied_tree OffsetMethod operand arg = Offset operand arg
+applied_tree _ operand arg = OffsetFrom operand arg
+
+abbrev pub applied : Method → Expr → Reader Expr → Reader Expr
+applied word operand below tokens = read_of (applied_tree word operand (argument below tokens).0) (argument below tokens).1
+
 -- a method without arguments, behind its parenthesis
 abbrev pub plain_by : Method → Expr → Reader Expr
 plain_by NegMethod operand tokens = read_of (WrappingNeg operand) (drop 1 tokens)
@@ -247,6 +258,16 @@ or_right left below tokens = read_of (Or left (right below tokens).0) (right bel
 unfoldable pub operated : Expr → Reader Expr → Reader Expr
 operated left below tokens = read_of (Binary left (operator_of (text_at tokens)) (right below tokens).0) (right below tokens).1
 
+-- an operator between two operands, by its mark, and its node
+abbrev pub joined_tree : Sign → Expr → Operator → Expr → Expr
+joined_tree of.AndAnd left operator right = And left right
+joined_tree of.OrOr left operator right = Or left right
+joined_tree _ left operator right = Binary left operator right
+
+abbrev pub joined : Sign → Expr → Reader Expr → Reader Expr
+joined sign left below tokens =
+    read_of (joined_tree sign left (operator_of (text_at tokens)) (right below tokens).0) (right below tokens).1
+
 abbrev pub continuation_by : Sign → Expr → Reader Expr → Reader Expr
 continuation_by of.As left below tokens = cast left tokens
 continuation_by of.AndAnd left below tokens = and_right left below tokens
@@ -275,6 +296,15 @@ inverted below tokens = read_of (Not (right below tokens).0) (right below tokens
 -- `*o`
 unfoldable pub pointed : Reader Expr → Reader Expr
 pointed below tokens = read_of (Read (Deref (right below tokens).0)) (right below tokens).1
+
+-- an operator before its operand, by its mark, and its node
+abbrev pub prefixed_tree : Sign → Expr → Expr
+prefixed_tree of.Minus operand = Neg operand
+prefixed_tree of.Bang operand = Not operand
+prefixed_tree _ operand = Read (Deref operand)
+
+abbrev pub prefixed : Sign → Reader Expr → Reader Expr
+prefixed sign below tokens = read_of (prefixed_tree sign (right below tokens).0) (right below tokens).1
 
 abbrev pub is_number : Sign → Bool
 is_number of.Number = true

@@ -3,32 +3,44 @@
 ghost use Rattle.std.specs.Prelude.{◌≡◌, map};
 ghost use Rattle.rs_expr.specs.Exprs as reader;
 ghost use Rattle.rs_expr.specs.Reading.{Gives, listed, part, added};
-ghost use Rattle.rs_tree.specs.Views.{ty_view, expr_view};
+ghost use Rattle.rs_tree.specs.Views.{expr_view};
 
 use crate::cursor::Cursor;
-use crate::expr_nodes::{
-    address_of, call_of, function_value, literal_of, no_function, null_pointer, place_of,
-    read_local, read_static, transmuted, truth,
-};
+use crate::expr_nodes::{address_of, call_of, function_value, no_function, read_of, transmuted};
 use crate::exprs::expr;
+use crate::lists::with_last;
 use crate::numbers::literal;
 use crate::sign::Sign;
-use crate::types::{Signature, function_ty, ty};
+use crate::types::{function_ty, item_path, ty};
 use crate::words::{CoreWord, core_word};
 use cr_base::{Boxed, Items, Memory};
-use rs_tree::{RExpr, RPath, RTy};
+use rs_tree::{RExpr, RPlace};
 use std::alloc::Global;
+
+/// An expression and the mark behind it.
+#[cycle(expr)]
+#[tactic(auto, unfolding(crate::specs::Exprs::argument))]
+pub(crate) fn expr_and_mark(
+    alloc: Global,
+    cursor: &mut Cursor<'_>,
+    levels: usize,
+) -> Result<Boxed<RExpr>, Memory>
+    ensures { Gives (λ e. expr_view e) result cursor.new (reader.argument (reader.expr levels) cursor.old) }
+{
+    let read = expr(alloc, cursor, levels)?;
+    cursor.skip(1);
+    Ok(read)
+}
 
 // `core::ptr::addr_of_mut!(p)`
 #[cycle(expr)]
-#[tactic(auto, unfolding(crate::specs::Exprs::address))]
+#[tactic(auto, unfolding(crate::specs::Exprs::address, crate::specs::Exprs::argument))]
 fn address(alloc: Global, cursor: &mut Cursor<'_>, levels: usize) -> Result<Boxed<RExpr>, Memory>
     ensures { Gives (λ e. expr_view e) result cursor.new (reader.address (reader.expr levels) cursor.old) }
 {
     cursor.skip(7);
-    let place = place_of(alloc, expr(alloc, cursor, levels)?)?;
-    cursor.skip(1);
-    address_of(alloc, place)
+    let read = expr_and_mark(alloc, cursor, levels)?;
+    address_of(alloc, read)
 }
 
 // `core::ptr::null_mut::<T>()`
@@ -39,62 +51,22 @@ fn null(alloc: Global, cursor: &mut Cursor<'_>) -> Result<Boxed<RExpr>, Memory>
     cursor.skip(7);
     let target = ty(alloc, cursor, cursor.len())?;
     cursor.skip(3);
-    null_pointer(alloc, target)
-}
-
-// `T>(e)` of a transmutation, whose first type is read.
-#[cycle(expr)]
-#[tactic(auto, unfolding(crate::specs::Exprs::transmute_to))]
-fn transmute_to(
-    alloc: Global,
-    cursor: &mut Cursor<'_>,
-    levels: usize,
-    from: Boxed<RTy>,
-) -> Result<Boxed<RExpr>, Memory>
-    ensures { Gives (λ e. expr_view e) result cursor.new (reader.transmute_to (ty_view from) (reader.expr levels) cursor.old) }
-{
-    let to = ty(alloc, cursor, cursor.len())?;
-    cursor.skip(2);
-    let operand = expr(alloc, cursor, levels)?;
-    cursor.skip(1);
-    transmuted(alloc, from, to, operand)
+    Boxed::new(alloc, RExpr::NullPointer(target))
 }
 
 // `core::mem::transmute::<T, T>(e)`
 #[cycle(expr)]
-#[tactic(auto, unfolding(crate::specs::Exprs::transmute))]
+#[tactic(auto, unfolding(crate::specs::Exprs::transmute, crate::specs::Exprs::transmute_to, crate::specs::Exprs::argument))]
 fn transmute(alloc: Global, cursor: &mut Cursor<'_>, levels: usize) -> Result<Boxed<RExpr>, Memory>
     ensures { Gives (λ e. expr_view e) result cursor.new (reader.transmute (reader.expr levels) cursor.old) }
 {
     cursor.skip(7);
     let from = ty(alloc, cursor, cursor.len())?;
     cursor.skip(1);
-    transmute_to(alloc, cursor, levels, from)
-}
-
-// A call of a function of `core`.
-#[cycle(expr)]
-#[tactic(auto, unfolding(crate::specs::Exprs::core_call))]
-fn core_call(alloc: Global, cursor: &mut Cursor<'_>, levels: usize) -> Result<Boxed<RExpr>, Memory>
-    ensures { Gives (λ e. expr_view e) result cursor.new (reader.core_call (reader.expr levels) cursor.old) }
-{
-    match core_word(cursor.text_behind_four()) {
-        CoreWord::AddressWord => address(alloc, cursor, levels),
-        CoreWord::NullWord => null(alloc, cursor),
-        CoreWord::TransmuteWord => transmute(alloc, cursor, levels),
-    }
-}
-
-// `crate::m::x`
-#[tactic(auto, unfolding(crate::specs::Exprs::item_path))]
-fn item_path(alloc: Global, cursor: &mut Cursor<'_>) -> Result<RPath, Memory>
-    ensures { Gives (λ path. (path.home, path.name)) result cursor.new (reader.item_path cursor.old) }
-{
+    let to = ty(alloc, cursor, cursor.len())?;
     cursor.skip(2);
-    let home = cursor.name(alloc)?;
-    cursor.skip(1);
-    let name = cursor.name(alloc)?;
-    Ok(RPath { home, name })
+    let operand = expr_and_mark(alloc, cursor, levels)?;
+    transmuted(alloc, from, to, operand)
 }
 
 // `Some(crate::m::x as unsafe extern "C" fn(T) -> T)`
@@ -106,9 +78,9 @@ fn some_function(alloc: Global, cursor: &mut Cursor<'_>) -> Result<Boxed<RExpr>,
     cursor.skip(2);
     let path = item_path(alloc, cursor)?;
     cursor.skip(1);
-    let Signature { params, result } = function_ty(alloc, cursor, levels)?;
+    let signature = function_ty(alloc, cursor, levels)?;
     cursor.skip(1);
-    function_value(alloc, path, params, result)
+    function_value(alloc, path, signature)
 }
 
 // One more expression of a list.
@@ -122,10 +94,9 @@ fn next_expr(
 ) -> Result<Items<RExpr>, Memory>
     ensures { Gives (λ l. map expr_view l) result cursor.new (added (part (reader.expr levels)) (map expr_view list) cursor.old) }
 {
-    let mut list = list;
-    list.push(expr(alloc, cursor, levels)?.into_inner())?;
+    let one = expr(alloc, cursor, levels)?;
     cursor.skip_comma();
-    Ok(list)
+    with_last(list, one)
 }
 
 /// The expressions of a list up to its parenthesis.
@@ -154,11 +125,11 @@ pub(crate) fn args(
 fn call(alloc: Global, cursor: &mut Cursor<'_>, levels: usize) -> Result<Boxed<RExpr>, Memory>
     ensures { Gives (λ e. expr_view e) result cursor.new (reader.call (reader.expr levels) cursor.old) }
 {
-    let RPath { home, name } = item_path(alloc, cursor)?;
+    let path = item_path(alloc, cursor)?;
     cursor.skip(1);
     let args = args(alloc, cursor, levels)?;
     cursor.skip(1);
-    call_of(alloc, home, name, args)
+    call_of(alloc, path, args)
 }
 
 // `crate::m::x`, a static object.
@@ -166,20 +137,8 @@ fn call(alloc: Global, cursor: &mut Cursor<'_>, levels: usize) -> Result<Boxed<R
 fn static_object(alloc: Global, cursor: &mut Cursor<'_>) -> Result<Boxed<RExpr>, Memory>
     ensures { Gives (λ e. expr_view e) result cursor.new (reader.static_object cursor.old) }
 {
-    let RPath { home, name } = item_path(alloc, cursor)?;
-    read_static(alloc, home, name)
-}
-
-// A call of a function of the crate, or a static object.
-#[cycle(expr)]
-#[tactic(auto, unfolding(crate::specs::Exprs::path))]
-fn path(alloc: Global, cursor: &mut Cursor<'_>, levels: usize) -> Result<Boxed<RExpr>, Memory>
-    ensures { Gives (λ e. expr_view e) result cursor.new (reader.path (reader.expr levels) cursor.old) }
-{
-    if cursor.peek_behind_five() == Sign::LeftParenthesis {
-        return call(alloc, cursor, levels);
-    }
-    static_object(alloc, cursor)
+    let path = item_path(alloc, cursor)?;
+    read_of(alloc, RPlace::Static(path))
 }
 
 // A parameter or local.
@@ -188,17 +147,21 @@ fn local(alloc: Global, cursor: &mut Cursor<'_>) -> Result<Boxed<RExpr>, Memory>
     ensures { Gives (λ e. expr_view e) result cursor.new (reader.local cursor.old) }
 {
     let name = cursor.name(alloc)?;
-    read_local(alloc, name)
+    read_of(alloc, RPlace::Local(name))
 }
 
 // What begins with a name.
 #[cycle(expr)]
-#[tactic(auto, unfolding(crate::specs::Exprs::named))]
+#[tactic(auto, unfolding(crate::specs::Exprs::named, crate::specs::Exprs::core_call))]
 fn named(alloc: Global, cursor: &mut Cursor<'_>, levels: usize) -> Result<Boxed<RExpr>, Memory>
     ensures { Gives (λ e. expr_view e) result cursor.new (reader.named (reader.expr levels) cursor.old) }
 {
     match cursor.peek_behind() {
-        Sign::PathMark => core_call(alloc, cursor, levels),
+        Sign::PathMark => match core_word(cursor.text_behind_four()) {
+            CoreWord::AddressWord => address(alloc, cursor, levels),
+            CoreWord::NullWord => null(alloc, cursor),
+            CoreWord::TransmuteWord => transmute(alloc, cursor, levels),
+        },
         Sign::LeftParenthesis => some_function(alloc, cursor),
         _ => local(alloc, cursor),
     }
@@ -210,23 +173,7 @@ pub(crate) fn number(alloc: Global, cursor: &mut Cursor<'_>) -> Result<Boxed<REx
     ensures { Gives (λ e. expr_view e) result cursor.new (reader.number cursor.old) }
 {
     let (value, ty) = literal(cursor);
-    literal_of(alloc, value, ty)
-}
-
-// An expression in parentheses.
-#[cycle(expr)]
-#[tactic(auto, unfolding(crate::specs::Exprs::in_parentheses))]
-fn in_parentheses(
-    alloc: Global,
-    cursor: &mut Cursor<'_>,
-    levels: usize,
-) -> Result<Boxed<RExpr>, Memory>
-    ensures { Gives (λ e. expr_view e) result cursor.new (reader.in_parentheses (reader.expr levels) cursor.old) }
-{
-    cursor.skip(1);
-    let read = expr(alloc, cursor, levels)?;
-    cursor.skip(1);
-    Ok(read)
+    Boxed::new(alloc, RExpr::Literal(value, ty))
 }
 
 // A literal of `bool`, or no function.
@@ -239,12 +186,12 @@ fn word_value(alloc: Global, cursor: &mut Cursor<'_>) -> Result<Boxed<RExpr>, Me
     if sign == Sign::NoneWord {
         return no_function(alloc);
     }
-    truth(alloc, sign == Sign::True)
+    Boxed::new(alloc, RExpr::Truth(sign == Sign::True))
 }
 
 // What stands before dots.
 #[cycle(expr)]
-#[tactic(auto, unfolding(crate::specs::Exprs::base))]
+#[tactic(auto, unfolding(crate::specs::Exprs::base, crate::specs::Exprs::in_parentheses, crate::specs::Exprs::argument, crate::specs::Exprs::path))]
 pub(crate) fn base(
     alloc: Global,
     cursor: &mut Cursor<'_>,
@@ -253,10 +200,18 @@ pub(crate) fn base(
     ensures { Gives (λ e. expr_view e) result cursor.new (reader.base (reader.expr levels) cursor.old) }
 {
     match cursor.peek() {
-        Sign::LeftParenthesis => in_parentheses(alloc, cursor, levels),
+        Sign::LeftParenthesis => {
+            cursor.skip(1);
+            expr_and_mark(alloc, cursor, levels)
+        }
         Sign::Number => number(alloc, cursor),
         Sign::True | Sign::False | Sign::NoneWord => word_value(alloc, cursor),
-        Sign::Crate => path(alloc, cursor, levels),
+        Sign::Crate => {
+            if cursor.peek_behind_five() == Sign::LeftParenthesis {
+                return call(alloc, cursor, levels);
+            }
+            static_object(alloc, cursor)
+        }
         _ => named(alloc, cursor, levels),
     }
 }

@@ -2,25 +2,17 @@
 
 ghost use Rattle.std.specs.Prelude.{◌≡◌, [], map, option_map, IfOk};
 ghost use Rattle.rs_expr.specs.Exprs as reader;
+ghost use Rattle.rs_expr.specs.Types.{signature_view};
 ghost use Rattle.rs_text.specs.Tree as tree;
 ghost use Rattle.rs_text.specs.Tree.{tys, option_ty, exprs};
 ghost use Rattle.rs_tree.specs.Views.{ty_view, place_view, expr_view};
 
-use cr_base::{Boxed, Int, Items, Memory, Name};
-use rs_tree::{IntegerTy, Operator, RExpr, RPath, RPlace, RTy, Wrapping};
+use crate::sign::Sign;
+use crate::types::Signature;
+use crate::words::Method;
+use cr_base::{Boxed, Items, Memory, Name};
+use rs_tree::{Operator, RExpr, RPath, RPlace, RTy, Wrapping};
 use std::alloc::Global;
-
-pub(crate) fn literal_of(alloc: Global, value: Int, ty: IntegerTy) -> Result<Boxed<RExpr>, Memory>
-    ensures { IfOk result (λ e. expr_view e ≡ tree.Literal value ty) }
-{
-    Boxed::new(alloc, RExpr::Literal(value, ty))
-}
-
-pub(crate) fn truth(alloc: Global, value: bool) -> Result<Boxed<RExpr>, Memory>
-    ensures { IfOk result (λ e. expr_view e ≡ tree.Truth value) }
-{
-    Boxed::new(alloc, RExpr::Truth(value))
-}
 
 pub(crate) fn no_function(alloc: Global) -> Result<Boxed<RExpr>, Memory>
     ensures { IfOk result (λ e. expr_view e ≡ tree.NoFunction) }
@@ -31,47 +23,33 @@ pub(crate) fn no_function(alloc: Global) -> Result<Boxed<RExpr>, Memory>
 pub(crate) fn read_of(alloc: Global, place: RPlace) -> Result<Boxed<RExpr>, Memory>
     ensures { IfOk result (λ e. expr_view e ≡ tree.Read (place_view place)) }
 {
-    let place = Boxed::new(alloc, place)?;
-    Boxed::new(alloc, RExpr::Read(place))
+    match Boxed::new(alloc, place) {
+        Ok(place) => Boxed::new(alloc, RExpr::Read(place)),
+        Err(memory) => Err(memory),
+    }
 }
 
-pub(crate) fn read_local(alloc: Global, name: Name) -> Result<Boxed<RExpr>, Memory>
-    ensures { IfOk result (λ e. expr_view e ≡ tree.Read (tree.Local name)) }
-{
-    read_of(alloc, RPlace::Local(name))
-}
-
-pub(crate) fn read_static(alloc: Global, home: Name, name: Name) -> Result<Boxed<RExpr>, Memory>
-    ensures { IfOk result (λ e. expr_view e ≡ tree.Read (tree.Static home name)) }
-{
-    read_of(alloc, RPlace::Static(RPath { home, name }))
-}
-
-pub(crate) fn read_deref(alloc: Global, operand: Boxed<RExpr>) -> Result<Boxed<RExpr>, Memory>
-    ensures { IfOk result (λ e. expr_view e ≡ tree.Read (tree.Deref (expr_view operand))) }
-{
-    read_of(alloc, RPlace::Deref(operand))
-}
-
-pub(crate) fn read_field(
+/// The address of a function of this signature.
+#[tactic(auto, using(rs_tree::proofs::Opened::some_view))]
+pub(crate) fn function_value(
     alloc: Global,
-    place: Boxed<RPlace>,
-    name: Name,
+    path: RPath,
+    signature: Signature,
 ) -> Result<Boxed<RExpr>, Memory>
-    ensures { IfOk result (λ e. expr_view e ≡ tree.Read (tree.Field (place_view place) name)) }
+    ensures { IfOk result (λ e. expr_view e ≡ tree.SomeFunction path.home path.name (tys (signature_view signature).params) (option_ty (signature_view signature).result)) }
 {
-    read_of(alloc, RPlace::Field(place, name))
+    let Signature { params, result } = signature;
+    Boxed::new(alloc, RExpr::SomeFunction(path, params, result))
 }
 
 pub(crate) fn call_of(
     alloc: Global,
-    home: Name,
-    name: Name,
+    path: RPath,
     args: Items<RExpr>,
 ) -> Result<Boxed<RExpr>, Memory>
-    ensures { IfOk result (λ e. expr_view e ≡ tree.Call home name (exprs (map expr_view args))) }
+    ensures { IfOk result (λ e. expr_view e ≡ tree.Call path.home path.name (exprs (map expr_view args))) }
 {
-    Boxed::new(alloc, RExpr::Call(RPath { home, name }, args))
+    Boxed::new(alloc, RExpr::Call(path, args))
 }
 
 pub(crate) fn call_by(
@@ -82,81 +60,6 @@ pub(crate) fn call_by(
     ensures { IfOk result (λ e. expr_view e ≡ tree.CallBy (expr_view operand) (exprs (map expr_view args))) }
 {
     Boxed::new(alloc, RExpr::CallBy(operand, args))
-}
-
-pub(crate) fn wrapped_of(
-    alloc: Global,
-    operand: Boxed<RExpr>,
-    operation: Wrapping,
-    arg: Boxed<RExpr>,
-) -> Result<Boxed<RExpr>, Memory>
-    ensures { IfOk result (λ e. expr_view e ≡ tree.Wrapped (expr_view operand) operation (expr_view arg)) }
-{
-    Boxed::new(alloc, RExpr::Wrapping(operand, operation, arg))
-}
-
-#[tactic(auto, using(rs_tree::proofs::Opened::wrapping_neg_view))]
-pub(crate) fn wrapping_neg(alloc: Global, operand: Boxed<RExpr>) -> Result<Boxed<RExpr>, Memory>
-    ensures { IfOk result (λ e. expr_view e ≡ tree.WrappingNeg (expr_view operand)) }
-{
-    Boxed::new(alloc, RExpr::WrappingNeg(operand))
-}
-
-pub(crate) fn offset(
-    alloc: Global,
-    operand: Boxed<RExpr>,
-    arg: Boxed<RExpr>,
-) -> Result<Boxed<RExpr>, Memory>
-    ensures { IfOk result (λ e. expr_view e ≡ tree.Offset (expr_view operand) (expr_view arg)) }
-{
-    Boxed::new(alloc, RExpr::Offset(operand, arg))
-}
-
-#[tactic(auto, using(rs_tree::proofs::Opened::offset_from_view))]
-pub(crate) fn offset_from(
-    alloc: Global,
-    operand: Boxed<RExpr>,
-    arg: Boxed<RExpr>,
-) -> Result<Boxed<RExpr>, Memory>
-    ensures { IfOk result (λ e. expr_view e ≡ tree.OffsetFrom (expr_view operand) (expr_view arg)) }
-{
-    Boxed::new(alloc, RExpr::OffsetFrom(operand, arg))
-}
-
-pub(crate) fn is_null(alloc: Global, operand: Boxed<RExpr>) -> Result<Boxed<RExpr>, Memory>
-    ensures { IfOk result (λ e. expr_view e ≡ tree.IsNull (expr_view operand)) }
-{
-    Boxed::new(alloc, RExpr::IsNull(operand))
-}
-
-pub(crate) fn is_none(alloc: Global, operand: Boxed<RExpr>) -> Result<Boxed<RExpr>, Memory>
-    ensures { IfOk result (λ e. expr_view e ≡ tree.IsNone (expr_view operand)) }
-{
-    Boxed::new(alloc, RExpr::IsNone(operand))
-}
-
-pub(crate) fn address_of(alloc: Global, place: Boxed<RPlace>) -> Result<Boxed<RExpr>, Memory>
-    ensures { IfOk result (λ e. expr_view e ≡ tree.AddressOf (place_view place)) }
-{
-    Boxed::new(alloc, RExpr::AddressOf(place))
-}
-
-pub(crate) fn null_pointer(alloc: Global, ty: Boxed<RTy>) -> Result<Boxed<RExpr>, Memory>
-    ensures { IfOk result (λ e. expr_view e ≡ tree.NullPointer (ty_view ty)) }
-{
-    Boxed::new(alloc, RExpr::NullPointer(ty))
-}
-
-#[tactic(auto, using(rs_tree::proofs::Opened::some_view))]
-pub(crate) fn function_value(
-    alloc: Global,
-    path: RPath,
-    params: Items<RTy>,
-    given: Option<Boxed<RTy>>,
-) -> Result<Boxed<RExpr>, Memory>
-    ensures { IfOk result (λ e. expr_view e ≡ tree.SomeFunction path.home path.name (tys (map ty_view params)) (option_ty (option_map ty_view given))) }
-{
-    Boxed::new(alloc, RExpr::SomeFunction(path, params, given))
 }
 
 #[tactic(auto, using(rs_tree::proofs::Opened::transmute_view))]
@@ -171,60 +74,6 @@ pub(crate) fn transmuted(
     Boxed::new(alloc, RExpr::Transmute(from, to, operand))
 }
 
-pub(crate) fn neg(alloc: Global, operand: Boxed<RExpr>) -> Result<Boxed<RExpr>, Memory>
-    ensures { IfOk result (λ e. expr_view e ≡ tree.Neg (expr_view operand)) }
-{
-    Boxed::new(alloc, RExpr::Neg(operand))
-}
-
-pub(crate) fn not(alloc: Global, operand: Boxed<RExpr>) -> Result<Boxed<RExpr>, Memory>
-    ensures { IfOk result (λ e. expr_view e ≡ tree.Not (expr_view operand)) }
-{
-    Boxed::new(alloc, RExpr::Not(operand))
-}
-
-#[tactic(auto, using(rs_tree::proofs::Opened::cast_view))]
-pub(crate) fn cast_of(
-    alloc: Global,
-    operand: Boxed<RExpr>,
-    ty: Boxed<RTy>,
-) -> Result<Boxed<RExpr>, Memory>
-    ensures { IfOk result (λ e. expr_view e ≡ tree.Cast (expr_view operand) (ty_view ty)) }
-{
-    Boxed::new(alloc, RExpr::Cast(operand, ty))
-}
-
-pub(crate) fn binary(
-    alloc: Global,
-    left: Boxed<RExpr>,
-    operator: Operator,
-    right: Boxed<RExpr>,
-) -> Result<Boxed<RExpr>, Memory>
-    ensures { IfOk result (λ e. expr_view e ≡ tree.Binary (expr_view left) operator (expr_view right)) }
-{
-    Boxed::new(alloc, RExpr::Binary(left, operator, right))
-}
-
-pub(crate) fn and(
-    alloc: Global,
-    left: Boxed<RExpr>,
-    right: Boxed<RExpr>,
-) -> Result<Boxed<RExpr>, Memory>
-    ensures { IfOk result (λ e. expr_view e ≡ tree.And (expr_view left) (expr_view right)) }
-{
-    Boxed::new(alloc, RExpr::And(left, right))
-}
-
-pub(crate) fn or(
-    alloc: Global,
-    left: Boxed<RExpr>,
-    right: Boxed<RExpr>,
-) -> Result<Boxed<RExpr>, Memory>
-    ensures { IfOk result (λ e. expr_view e ≡ tree.Or (expr_view left) (expr_view right)) }
-{
-    Boxed::new(alloc, RExpr::Or(left, right))
-}
-
 #[tactic(auto, using(rs_tree::proofs::Opened::choose_view))]
 pub(crate) fn choice(
     alloc: Global,
@@ -237,6 +86,71 @@ pub(crate) fn choice(
     Boxed::new(alloc, RExpr::Choose(condition, if_true, if_false))
 }
 
+/// `core::ptr::addr_of_mut!(p)` of the place that an expression reads.
+pub(crate) fn address_of(alloc: Global, expr: Boxed<RExpr>) -> Result<Boxed<RExpr>, Memory>
+    ensures { IfOk result (λ e. expr_view e ≡ tree.AddressOf (reader.place_of (expr_view expr))) }
+{
+    let place = place_of(alloc, expr)?;
+    Boxed::new(alloc, RExpr::AddressOf(place))
+}
+
+/// `-o`, `!o` or `*o`, by the mark before the operand.
+pub(crate) fn prefixed_of(
+    alloc: Global,
+    sign: Sign,
+    operand: Boxed<RExpr>,
+) -> Result<Boxed<RExpr>, Memory>
+    ensures { IfOk result (λ e. expr_view e ≡ reader.prefixed_tree sign (expr_view operand)) }
+{
+    match sign {
+        Sign::Minus => Boxed::new(alloc, RExpr::Neg(operand)),
+        Sign::Bang => Boxed::new(alloc, RExpr::Not(operand)),
+        _ => read_of(alloc, RPlace::Deref(operand)),
+    }
+}
+
+/// `o && o`, `o || o`, or another operator between two operands, by its mark.
+pub(crate) fn joined_of(
+    alloc: Global,
+    sign: Sign,
+    left: Boxed<RExpr>,
+    operator: Operator,
+    right: Boxed<RExpr>,
+) -> Result<Boxed<RExpr>, Memory>
+    ensures { IfOk result (λ e. expr_view e ≡ reader.joined_tree sign (expr_view left) operator (expr_view right)) }
+{
+    match sign {
+        Sign::AndAnd => Boxed::new(alloc, RExpr::And(left, right)),
+        Sign::OrOr => Boxed::new(alloc, RExpr::Or(left, right)),
+        _ => Boxed::new(alloc, RExpr::Binary(left, operator, right)),
+    }
+}
+
+/// A method with an argument, applied to an operand.
+#[tactic(auto, using(rs_tree::proofs::Opened::offset_from_view))]
+pub(crate) fn applied_of(
+    alloc: Global,
+    word: Method,
+    operand: Boxed<RExpr>,
+    arg: Boxed<RExpr>,
+) -> Result<Boxed<RExpr>, Memory>
+    ensures { IfOk result (λ e. expr_view e ≡ reader.applied_tree word (expr_view operand) (expr_view arg)) }
+{
+    match word {
+        Method::AddMethod => {
+            Boxed::new(alloc, RExpr::Wrapping(operand, Wrapping::WrappingAdd, arg))
+        }
+        Method::SubMethod => {
+            Boxed::new(alloc, RExpr::Wrapping(operand, Wrapping::WrappingSub, arg))
+        }
+        Method::MulMethod => {
+            Boxed::new(alloc, RExpr::Wrapping(operand, Wrapping::WrappingMul, arg))
+        }
+        Method::OffsetMethod => Boxed::new(alloc, RExpr::Offset(operand, arg)),
+        _ => Boxed::new(alloc, RExpr::OffsetFrom(operand, arg)),
+    }
+}
+
 // A place without a name.
 fn no_place(alloc: Global) -> Result<Boxed<RPlace>, Memory>
     ensures { IfOk result (λ p. place_view p ≡ tree.Local []) }
@@ -244,13 +158,19 @@ fn no_place(alloc: Global) -> Result<Boxed<RPlace>, Memory>
     Boxed::new(alloc, RPlace::Local(Name::of(Vec::new(alloc))))
 }
 
+// A value is let go here, where its type isn't known.
+fn let_go<T: Drop>(_value: T) {}
+
 // The place that an expression reads, if it reads one.
 fn place_in(expr: Boxed<RExpr>) -> Option<Boxed<RPlace>>
     ensures { option_map place_view result ≡ reader.place_in (expr_view expr) }
 {
     match expr.into_inner() {
         RExpr::Read(place) => Some(place),
-        _ => None,
+        other => {
+            let_go(other);
+            None
+        }
     }
 }
 

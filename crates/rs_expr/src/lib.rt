@@ -7,7 +7,7 @@ mod atoms;
 mod cursor;
 mod expr_nodes;
 mod exprs;
-mod nodes;
+mod lists;
 mod numbers;
 mod operands;
 mod sign;

@@ -6,16 +6,13 @@ ghost use Rattle.rs_expr.specs.Exprs as reader;
 ghost use Rattle.rs_expr.specs.Reading.{Gives};
 ghost use Rattle.rs_tree.specs.Views.{expr_view};
 
-use crate::atoms::{args, base};
+use crate::atoms::{args, base, expr_and_mark};
 use crate::cursor::Cursor;
-use crate::expr_nodes::{
-    call_by, is_none, is_null, offset, offset_from, place_of, read_field, wrapped_of, wrapping_neg,
-};
-use crate::exprs::expr;
+use crate::expr_nodes::{applied_of, call_by, place_of, read_of};
 use crate::sign::Sign;
 use crate::words::{Method, method_of};
 use cr_base::{Boxed, Memory};
-use rs_tree::{RExpr, Wrapping};
+use rs_tree::{RExpr, RPlace};
 use std::alloc::Global;
 
 // `unwrap()(e, e)`, behind its first parenthesis.
@@ -35,64 +32,23 @@ fn unwrapped(
     call_by(alloc, operand, args)
 }
 
-// An argument and the parenthesis behind it.
+// A method with an argument, behind its parenthesis.
 #[cycle(expr)]
-#[tactic(auto, unfolding(crate::specs::Exprs::argument))]
-fn argument(alloc: Global, cursor: &mut Cursor<'_>, levels: usize) -> Result<Boxed<RExpr>, Memory>
-    ensures { Gives (λ e. expr_view e) result cursor.new (reader.argument (reader.expr levels) cursor.old) }
-{
-    let read = expr(alloc, cursor, levels)?;
-    cursor.skip(1);
-    Ok(read)
-}
-
-// `wrapping_add(e)` and its like.
-#[cycle(expr)]
-#[tactic(auto, unfolding(crate::specs::Exprs::wrapped))]
-fn wrapped(
+fn applied(
     alloc: Global,
     cursor: &mut Cursor<'_>,
     levels: usize,
-    operand: Boxed<RExpr>,
-    operation: Wrapping,
-) -> Result<Boxed<RExpr>, Memory>
-    ensures { Gives (λ e. expr_view e) result cursor.new (reader.wrapped operation (expr_view operand) (reader.expr levels) cursor.old) }
-{
-    let arg = argument(alloc, cursor, levels)?;
-    wrapped_of(alloc, operand, operation, arg)
-}
-
-// `offset(e)`
-#[cycle(expr)]
-#[tactic(auto, unfolding(crate::specs::Exprs::moved))]
-fn moved(
-    alloc: Global,
-    cursor: &mut Cursor<'_>,
-    levels: usize,
+    word: Method,
     operand: Boxed<RExpr>,
 ) -> Result<Boxed<RExpr>, Memory>
-    ensures { Gives (λ e. expr_view e) result cursor.new (reader.moved (expr_view operand) (reader.expr levels) cursor.old) }
+    ensures { Gives (λ e. expr_view e) result cursor.new (reader.applied word (expr_view operand) (reader.expr levels) cursor.old) }
 {
-    let arg = argument(alloc, cursor, levels)?;
-    offset(alloc, operand, arg)
-}
-
-// `offset_from(e)`
-#[cycle(expr)]
-#[tactic(auto, unfolding(crate::specs::Exprs::measured))]
-fn measured(
-    alloc: Global,
-    cursor: &mut Cursor<'_>,
-    levels: usize,
-    operand: Boxed<RExpr>,
-) -> Result<Boxed<RExpr>, Memory>
-    ensures { Gives (λ e. expr_view e) result cursor.new (reader.measured (expr_view operand) (reader.expr levels) cursor.old) }
-{
-    let arg = argument(alloc, cursor, levels)?;
-    offset_from(alloc, operand, arg)
+    let arg = expr_and_mark(alloc, cursor, levels)?;
+    applied_of(alloc, word, operand, arg)
 }
 
 // A method without arguments, behind its parenthesis.
+#[tactic(auto, using(rs_tree::proofs::Opened::wrapping_neg_view))]
 fn plain_method(
     alloc: Global,
     cursor: &mut Cursor<'_>,
@@ -103,34 +59,9 @@ fn plain_method(
 {
     cursor.skip(1);
     match word {
-        Method::NegMethod => wrapping_neg(alloc, operand),
-        Method::IsNullMethod => is_null(alloc, operand),
-        _ => is_none(alloc, operand),
-    }
-}
-
-// A method, behind its parenthesis.
-#[cycle(expr)]
-#[tactic(auto, unfolding(crate::specs::Exprs::method))]
-fn method(
-    alloc: Global,
-    cursor: &mut Cursor<'_>,
-    levels: usize,
-    word: Method,
-    operand: Boxed<RExpr>,
-) -> Result<Boxed<RExpr>, Memory>
-    ensures { Gives (λ e. expr_view e) result cursor.new (reader.method word (expr_view operand) (reader.expr levels) cursor.old) }
-{
-    match word {
-        Method::Unwrap => unwrapped(alloc, cursor, levels, operand),
-        Method::AddMethod => wrapped(alloc, cursor, levels, operand, Wrapping::WrappingAdd),
-        Method::SubMethod => wrapped(alloc, cursor, levels, operand, Wrapping::WrappingSub),
-        Method::MulMethod => wrapped(alloc, cursor, levels, operand, Wrapping::WrappingMul),
-        Method::OffsetMethod => moved(alloc, cursor, levels, operand),
-        Method::OffsetFromMethod => measured(alloc, cursor, levels, operand),
-        Method::NegMethod | Method::IsNullMethod | Method::IsNoneMethod => {
-            plain_method(alloc, cursor, word, operand)
-        }
+        Method::NegMethod => Boxed::new(alloc, RExpr::WrappingNeg(operand)),
+        Method::IsNullMethod => Boxed::new(alloc, RExpr::IsNull(operand)),
+        _ => Boxed::new(alloc, RExpr::IsNone(operand)),
     }
 }
 
@@ -146,12 +77,12 @@ fn field(
     let place = place_of(alloc, operand)?;
     cursor.skip(1);
     let name = cursor.name(alloc)?;
-    read_field(alloc, place, name)
+    read_of(alloc, RPlace::Field(place, name))
 }
 
 // `.f`, or a method.
 #[cycle(expr)]
-#[tactic(auto, unfolding(crate::specs::Exprs::tail))]
+#[tactic(auto, unfolding(crate::specs::Exprs::tail, crate::specs::Exprs::method, crate::specs::Exprs::wrapped, crate::specs::Exprs::moved, crate::specs::Exprs::measured))]
 fn tail(
     alloc: Global,
     cursor: &mut Cursor<'_>,
@@ -166,7 +97,17 @@ fn tail(
     cursor.skip(1);
     let word = method_of(cursor.text());
     cursor.skip(2);
-    method(alloc, cursor, levels, word, operand)
+    match word {
+        Method::Unwrap => unwrapped(alloc, cursor, levels, operand),
+        Method::NegMethod | Method::IsNullMethod | Method::IsNoneMethod => {
+            plain_method(alloc, cursor, word, operand)
+        }
+        Method::AddMethod
+        | Method::SubMethod
+        | Method::MulMethod
+        | Method::OffsetMethod
+        | Method::OffsetFromMethod => applied(alloc, cursor, levels, word, operand),
+    }
 }
 
 // All that stands behind an operand, each behind a dot.

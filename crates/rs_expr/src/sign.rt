@@ -1,12 +1,13 @@
 //! What a token is to a reader.
 
-ghost use Rattle.std.specs.Prelude.{◌≡◌, map};
+ghost use Rattle.std.specs.Prelude.{◌≡◌};
 ghost use Rattle.rs_lex.specs.Views.{token_view};
 ghost use Rattle.rs_expr.specs.Exprs as exprs;
 ghost use Rattle.rs_expr.specs.Reading as reading;
 ghost use Rattle.rs_expr.specs.Signs as signs;
 ghost use Rattle.rs_expr.specs.declared.sign.Sign.TheVariants.{Name};
 
+use crate::words::entry_of;
 use rs_lex::{Token, TokenKind};
 
 /// What a token is to a reader.
@@ -146,17 +147,6 @@ const MARKS: [(&[u8], Sign); 18] = [
     (b"*", Sign::Star),
 ];
 
-fn sign_in(table: &[(&[u8], Sign)], text: &[u8], other: Sign) -> Sign
-    ensures { result ≡ signs.entry_of (map (λ entry. (entry.0.now, entry.1)) table.now) text.now other }
-{
-    for entry in table {
-        if entry.0 == text {
-            return entry.1;
-        }
-    }
-    other
-}
-
 fn begins_with_digit(word: &[u8]) -> bool
     ensures { result ≡ signs.begins_with_digit word.now }
 {
@@ -170,7 +160,7 @@ fn begins_with_digit(word: &[u8]) -> bool
 fn key_sign(word: &[u8]) -> Sign
     ensures { result ≡ signs.entry_of signs.words word.now Name }
 {
-    sign_in(&WORDS, word, Sign::Name)
+    entry_of(&WORDS, word, Sign::Name)
 }
 
 fn word_sign(word: &[u8]) -> Sign
@@ -186,7 +176,7 @@ fn word_sign(word: &[u8]) -> Sign
 fn mark_sign(mark: &[u8]) -> Sign
     ensures { result ≡ signs.mark_sign mark.now }
 {
-    sign_in(&MARKS, mark, Sign::OtherMark)
+    entry_of(&MARKS, mark, Sign::OtherMark)
 }
 
 /// What a token is.

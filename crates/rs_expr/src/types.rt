@@ -1,19 +1,21 @@
 //! Readers of types (the Rust Reference, "Types"). A function whose parameter is `levels` reads what holds types
 //! of at most so many levels.
 
-ghost use Rattle.std.specs.Prelude.{◌≡◌, map, option_map};
+ghost use Rattle.std.specs.Prelude.{◌≡◌, map, option_map, IfOk};
+ghost use Rattle.rs_expr.specs.Exprs as exprs;
 ghost use Rattle.rs_expr.specs.Reading.{Gives, listed, many, part, added, ends_list};
 ghost use Rattle.rs_expr.specs.Reading as reading;
 ghost use Rattle.rs_expr.specs.Types as reader;
+ghost use Rattle.rs_text.specs.Tree as tree;
 ghost use Rattle.rs_tree.specs.Views.{ty_view};
 
 use crate::cursor::Cursor;
-use crate::nodes::{array_of, boolean, code_of, integer, pointer_of, record_of, void};
+use crate::lists::with_last;
 use crate::numbers::size_of;
 use crate::sign::Sign;
 use crate::words::integer_of;
 use cr_base::{Boxed, Items, Memory};
-use rs_tree::RTy;
+use rs_tree::{RPath, RTy};
 use std::alloc::Global;
 
 /// The types of parameters, and that of a result.
@@ -21,6 +23,12 @@ use std::alloc::Global;
 pub(crate) struct Signature {
     pub params: Items<RTy>,
     pub result: Option<Boxed<RTy>>,
+}
+
+fn boolean(alloc: Global) -> Result<Boxed<RTy>, Memory>
+    ensures { IfOk result (λ t. ty_view t ≡ tree.Boolean) }
+{
+    Boxed::new(alloc, RTy::Boolean)
 }
 
 // `*mut T`
@@ -31,7 +39,7 @@ fn pointer(alloc: Global, cursor: &mut Cursor<'_>, levels: usize) -> Result<Boxe
 {
     cursor.skip(2);
     let target = ty(alloc, cursor, levels)?;
-    pointer_of(alloc, target)
+    Boxed::new(alloc, RTy::Pointer(target))
 }
 
 // `[T; N]`
@@ -45,19 +53,28 @@ fn array(alloc: Global, cursor: &mut Cursor<'_>, levels: usize) -> Result<Boxed<
     cursor.skip(1);
     let size = size_of(cursor.text());
     cursor.skip(2);
-    array_of(alloc, element, size)
+    Boxed::new(alloc, RTy::Array(element, size))
 }
 
-// `crate::m::x`
-#[tactic(auto, unfolding(crate::specs::Types::record_ty))]
-fn record_ty(alloc: Global, cursor: &mut Cursor<'_>) -> Result<Boxed<RTy>, Memory>
-    ensures { Gives (λ t. ty_view t) result cursor.new (reader.record_ty cursor.old) }
+/// Reads the names of `crate::m::x`.
+#[tactic(auto, unfolding(crate::specs::Exprs::item_path))]
+pub(crate) fn item_path(alloc: Global, cursor: &mut Cursor<'_>) -> Result<RPath, Memory>
+    ensures { Gives (λ path. (path.home, path.name)) result cursor.new (exprs.item_path cursor.old) }
 {
     cursor.skip(2);
     let home = cursor.name(alloc)?;
     cursor.skip(1);
     let name = cursor.name(alloc)?;
-    record_of(alloc, home, name)
+    Ok(RPath { home, name })
+}
+
+// `crate::m::x`
+#[tactic(auto, unfolding(crate::specs::Types::record_ty, crate::specs::Exprs::item_path))]
+fn record_ty(alloc: Global, cursor: &mut Cursor<'_>) -> Result<Boxed<RTy>, Memory>
+    ensures { Gives (λ t. ty_view t) result cursor.new (reader.record_ty cursor.old) }
+{
+    let path = item_path(alloc, cursor)?;
+    Boxed::new(alloc, RTy::Record(path))
 }
 
 /// Reads `-> T`, which may be missing.
@@ -89,10 +106,9 @@ fn next_ty(
 ) -> Result<Items<RTy>, Memory>
     ensures { Gives (λ l. map ty_view l) result cursor.new (added (part (reader.ty levels)) (map ty_view list) cursor.old) }
 {
-    let mut list = list;
-    list.push(ty(alloc, cursor, levels)?.into_inner())?;
+    let one = ty(alloc, cursor, levels)?;
     cursor.skip_comma();
-    Ok(list)
+    with_last(list, one)
 }
 
 // The types of a list up to its parenthesis.
@@ -130,23 +146,24 @@ pub(crate) fn function_ty(
 
 // `Option<unsafe extern "C" fn(T, T) -> T>`
 #[cycle(ty)]
-#[tactic(auto, unfolding(crate::specs::Types::code))]
+#[tactic(auto, unfolding(crate::specs::Types::code), using(rs_tree::proofs::Opened::code_view))]
 fn code(alloc: Global, cursor: &mut Cursor<'_>, levels: usize) -> Result<Boxed<RTy>, Memory>
     ensures { Gives (λ t. ty_view t) result cursor.new (reader.code (reader.ty levels) cursor.old) }
 {
     cursor.skip(2);
     let Signature { params, result } = function_ty(alloc, cursor, levels)?;
     cursor.skip(1);
-    code_of(alloc, params, result)
+    Boxed::new(alloc, RTy::Code(params, result))
 }
 
-// A type of one word, which isn't `Option`.
+// Whether a word is `Option`.
 fn is_option(word: &[u8]) -> bool
     ensures { result ≡ reader.is_option word.now }
 {
     word == b"Option".as_slice()
 }
 
+// A type of one word, which isn't `Option`.
 #[tactic(auto, unfolding(crate::specs::Types::plain_ty))]
 fn plain_ty(alloc: Global, cursor: &mut Cursor<'_>) -> Result<Boxed<RTy>, Memory>
     ensures { Gives (λ t. ty_view t) result cursor.new (reader.plain_ty cursor.old) }
@@ -157,26 +174,15 @@ fn plain_ty(alloc: Global, cursor: &mut Cursor<'_>) -> Result<Boxed<RTy>, Memory
     }
     if cursor.text() == b"core".as_slice() {
         cursor.skip(5);
-        return void(alloc);
+        return Boxed::new(alloc, RTy::Void);
     }
     let word = integer_of(cursor.text());
     cursor.skip(1);
-    integer(alloc, word)
+    Boxed::new(alloc, RTy::Integer(word))
 }
 
 #[cycle(ty)]
-#[tactic(auto, unfolding(crate::specs::Types::word_ty))]
-fn word_ty(alloc: Global, cursor: &mut Cursor<'_>, levels: usize) -> Result<Boxed<RTy>, Memory>
-    ensures { Gives (λ t. ty_view t) result cursor.new (reader.word_ty (reader.ty levels) cursor.old) }
-{
-    if is_option(cursor.text()) {
-        return code(alloc, cursor, levels);
-    }
-    plain_ty(alloc, cursor)
-}
-
-#[cycle(ty)]
-#[tactic(auto, unfolding(crate::specs::Types::ty_from))]
+#[tactic(auto, unfolding(crate::specs::Types::ty_from, crate::specs::Types::word_ty))]
 fn ty_from(alloc: Global, cursor: &mut Cursor<'_>, levels: usize) -> Result<Boxed<RTy>, Memory>
     ensures { Gives (λ t. ty_view t) result cursor.new (reader.ty_from (reader.ty levels) cursor.old) }
 {
@@ -184,7 +190,12 @@ fn ty_from(alloc: Global, cursor: &mut Cursor<'_>, levels: usize) -> Result<Boxe
         Sign::Star => pointer(alloc, cursor, levels),
         Sign::LeftBracket => array(alloc, cursor, levels),
         Sign::Crate => record_ty(alloc, cursor),
-        _ => word_ty(alloc, cursor, levels),
+        _ => {
+            if is_option(cursor.text()) {
+                return code(alloc, cursor, levels);
+            }
+            plain_ty(alloc, cursor)
+        }
     }
 }
 

@@ -86,8 +86,8 @@ const INTEGER_WORDS: [(&[u8], IntegerTy); 10] = [
     (b"usize", IntegerTy::Usize),
 ];
 
-// What a table has for a text.
-fn entry_of<T: Copy>(table: &[(&[u8], T)], text: &[u8], other: T) -> T
+/// What a table has for a text.
+pub(crate) fn entry_of<T: Copy>(table: &[(&[u8], T)], text: &[u8], other: T) -> T
     ensures { result ≡ entry_of (map (λ entry. (entry.0.now, entry.1)) table.now) text.now other }
 {
     for entry in table {

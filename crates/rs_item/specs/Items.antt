@@ -9,7 +9,7 @@ use Rattle.rs_expr.specs.declared.sign.Sign.TheVariants as of
 use Rattle.rs_item.specs.declared.functions.Head.{Head}
 use Rattle.rs_tree.specs.Views.{ty_view, local_view}
 use Rattle.rs_item.specs.Stmts.{read_stmts}
-use Rattle.rs_text.specs.Tree.{Ty, stmts, FieldTree, RecordTree, StaticTree, OuterTree, LocalTree, FunctionTree, ItemTree, RecordItem, StaticItem, ExternItem, FunctionItem}
+use Rattle.rs_text.specs.Tree.{Ty, Stmt, stmts, FieldTree, RecordTree, StaticTree, OuterTree, LocalTree, FunctionTree, ItemTree, RecordItem, StaticItem, ExternItem, FunctionItem}
 use Rattle.rs_text.specs.declared.attribute.Attribute.{Attribute}
 use Rattle.rs_text.specs.declared.attribute.Attribute.TheVariants.{Mangled, NoMangle, ExportName}
 
@@ -218,6 +218,17 @@ unfoldable pub head : Attribute → Reader HeadTree
 head given tokens =
     read_of (head_tree given (text_at (drop 5 tokens)) (params (drop 7 tokens)).0 (read_result (drop 1 (params (drop 7 tokens)).1)).0)
     (read_result (drop 1 (params (drop 7 tokens)).1)).1
+
+-- a function of its head, its locals and its statements
+abbrev pub with_body : HeadTree → List LocalTree → List Stmt → FunctionTree
+with_body of locals body = record {
+  attribute = of.attribute;
+  name = of.name;
+  params = of.params;
+  result = of.result;
+  locals = locals;
+  body = stmts body;
+}
 
 -- `{ .. }` of a function, whose head is read
 unfoldable pub function_from : HeadTree → Reader FunctionTree

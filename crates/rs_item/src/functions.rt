@@ -1,30 +1,23 @@
 //! Readers of external functions and of functions with a body (the Rust Reference, "External blocks" and "Functions").
 
-ghost use Rattle.std.specs.Prelude.{◌≡◌, map, option_map};
+ghost use Rattle.std.specs.Prelude.{◌≡◌, map, option_map, IfOk};
 ghost use Rattle.rs_expr.specs.Reading.{Gives, many_ahead, added, part, listed};
 ghost use Rattle.rs_item.specs.Items as reader;
-ghost use Rattle.rs_tree.specs.Views.{ty_view, outer_view, local_view, function_view};
+ghost use Rattle.rs_text.specs.Tree as tree;
+ghost use Rattle.rs_tree.specs.Views.{ty_view, outer_view, local_view, stmt_view, item_view};
 
+use crate::lists::{with_boxed, with_last};
 use crate::parts::{
     ends_braces, ends_listed, ends_locals, ends_params, link_name, read_result, read_ty, typed,
 };
 use crate::stmts::read_stmts;
 use cr_base::{Boxed, Items, Memory, Name};
 use rs_expr::{Cursor, Sign};
-use rs_tree::{Attribute, Function, Local, Outer, RTy};
+use rs_tree::{Attribute, Function, Item, Local, Outer, RStmt, RTy};
 use std::alloc::Global;
 
-// The type of a parameter behind its name.
-#[tactic(auto, unfolding(crate::specs::Items::outer_param))]
-fn outer_param(alloc: Global, cursor: &mut Cursor<'_>) -> Result<Boxed<RTy>, Memory>
-    ensures { Gives (λ t. ty_view t) result cursor.new (reader.outer_param cursor.old) }
-{
-    cursor.skip(2);
-    read_ty(alloc, cursor)
-}
-
-// One more of parameters of an external function.
-#[tactic(auto, unfolding(rs_expr::specs::Reading::added, rs_expr::specs::Reading::part))]
+// The type of one more parameter of an external function, behind its name.
+#[tactic(auto, unfolding(rs_expr::specs::Reading::added, rs_expr::specs::Reading::part, crate::specs::Items::outer_param))]
 fn next_outer_params(
     alloc: Global,
     cursor: &mut Cursor<'_>,
@@ -32,10 +25,10 @@ fn next_outer_params(
 ) -> Result<Items<RTy>, Memory>
     ensures { Gives (λ l. map ty_view l) result cursor.new (added (part reader.outer_param) (map ty_view list) cursor.old) }
 {
-    let mut list = list;
-    list.push(outer_param(alloc, cursor)?.into_inner())?;
+    cursor.skip(2);
+    let one = read_ty(alloc, cursor)?;
     cursor.skip_comma();
-    Ok(list)
+    with_boxed(list, one)
 }
 
 // All parameters of an external function.
@@ -65,6 +58,26 @@ fn variadic(cursor: &mut Cursor<'_>) -> bool
     true
 }
 
+fn outer_of(
+    alloc: Global,
+    symbol: Option<Name>,
+    name: Name,
+    params: Items<RTy>,
+    variadic: bool,
+    given: Option<Boxed<RTy>>,
+) -> Result<Boxed<Outer>, Memory>
+    ensures { IfOk result (λ o. outer_view o ≡ reader.outer_tree symbol name (map ty_view params) variadic (option_map ty_view given)) }
+{
+    let outer = Outer {
+        link_name: symbol,
+        name,
+        params,
+        variadic,
+        result: given,
+    };
+    Boxed::new(alloc, outer)
+}
+
 // `...) -> T;`, behind the parameters.
 #[tactic(auto, unfolding(crate::specs::Items::outer_end))]
 fn outer_end(
@@ -73,25 +86,23 @@ fn outer_end(
     symbol: Option<Name>,
     name: Name,
     params: Items<RTy>,
-) -> Result<Outer, Memory>
+) -> Result<Boxed<Outer>, Memory>
     ensures { Gives outer_view result cursor.new (reader.outer_end symbol name (map ty_view params) cursor.old) }
 {
     let variadic = variadic(cursor);
     cursor.skip(1);
     let result = read_result(alloc, cursor)?;
     cursor.skip(1);
-    Ok(Outer {
-        link_name: symbol,
-        name,
-        params,
-        variadic,
-        result,
-    })
+    outer_of(alloc, symbol, name, params, variadic, result)
 }
 
 // `pub fn x(a0: T, ...) -> T;`, behind its attribute.
 #[tactic(auto, unfolding(crate::specs::Items::outer_from))]
-fn outer_from(alloc: Global, cursor: &mut Cursor<'_>, symbol: Option<Name>) -> Result<Outer, Memory>
+fn outer_from(
+    alloc: Global,
+    cursor: &mut Cursor<'_>,
+    symbol: Option<Name>,
+) -> Result<Boxed<Outer>, Memory>
     ensures { Gives outer_view result cursor.new (reader.outer_from symbol cursor.old) }
 {
     cursor.skip(2);
@@ -101,17 +112,8 @@ fn outer_from(alloc: Global, cursor: &mut Cursor<'_>, symbol: Option<Name>) -> R
     outer_end(alloc, cursor, symbol, name, params)
 }
 
-// An external function.
-#[tactic(auto, unfolding(crate::specs::Items::outer))]
-fn outer(alloc: Global, cursor: &mut Cursor<'_>) -> Result<Outer, Memory>
-    ensures { Gives outer_view result cursor.new (reader.outer cursor.old) }
-{
-    let symbol = link_name(alloc, cursor)?;
-    outer_from(alloc, cursor, symbol)
-}
-
-// One more of external functions of a block.
-#[tactic(auto, unfolding(rs_expr::specs::Reading::added))]
+// One more external function of a block.
+#[tactic(auto, unfolding(rs_expr::specs::Reading::added, crate::specs::Items::outer))]
 fn next_outers(
     alloc: Global,
     cursor: &mut Cursor<'_>,
@@ -119,14 +121,14 @@ fn next_outers(
 ) -> Result<Items<Outer>, Memory>
     ensures { Gives (λ l. map outer_view l) result cursor.new (added reader.outer (map outer_view list) cursor.old) }
 {
-    let mut list = list;
-    list.push(outer(alloc, cursor)?)?;
-    Ok(list)
+    let symbol = link_name(alloc, cursor)?;
+    let one = outer_from(alloc, cursor, symbol)?;
+    with_boxed(list, one)
 }
 
-// All external functions of a block.
+/// Reads all external functions of a block. Refused only for want of memory.
 #[tactic(auto, using(rs_expr::proofs::Turns::many_out, rs_expr::proofs::Turns::many_stop, rs_expr::proofs::Turns::many_goes))]
-fn outers(alloc: Global, cursor: &mut Cursor<'_>) -> Result<Items<Outer>, Memory>
+pub(crate) fn outers(alloc: Global, cursor: &mut Cursor<'_>) -> Result<Items<Outer>, Memory>
     ensures { Gives (λ l. map outer_view l) result cursor.new (reader.outers cursor.old) }
 {
     let mut list = Items::new(alloc);
@@ -139,28 +141,8 @@ fn outers(alloc: Global, cursor: &mut Cursor<'_>) -> Result<Items<Outer>, Memory
     Ok(list)
 }
 
-/// Reads `extern "C" { .. }`. Refused only for want of memory.
-#[tactic(auto, unfolding(crate::specs::Items::extern_item))]
-pub(crate) fn extern_item(alloc: Global, cursor: &mut Cursor<'_>) -> Result<Items<Outer>, Memory>
-    ensures { Gives (λ l. map outer_view l) result cursor.new (reader.extern_item cursor.old) }
-{
-    cursor.skip(3);
-    let list = outers(alloc, cursor)?;
-    cursor.skip(1);
-    Ok(list)
-}
-
-// `mut x: T`
-#[tactic(auto, unfolding(crate::specs::Items::param))]
-fn param(alloc: Global, cursor: &mut Cursor<'_>) -> Result<Local, Memory>
-    ensures { Gives local_view result cursor.new (reader.param cursor.old) }
-{
-    cursor.skip(1);
-    typed(alloc, cursor)
-}
-
-// One more of parameters of a function.
-#[tactic(auto, unfolding(rs_expr::specs::Reading::added, rs_expr::specs::Reading::part))]
+// `mut x: T`, one more parameter of a function.
+#[tactic(auto, unfolding(rs_expr::specs::Reading::added, rs_expr::specs::Reading::part, crate::specs::Items::param))]
 fn next_params(
     alloc: Global,
     cursor: &mut Cursor<'_>,
@@ -168,10 +150,10 @@ fn next_params(
 ) -> Result<Items<Local>, Memory>
     ensures { Gives (λ l. map local_view l) result cursor.new (added (part reader.param) (map local_view list) cursor.old) }
 {
-    let mut list = list;
-    list.push(param(alloc, cursor)?)?;
+    cursor.skip(1);
+    let one = typed(alloc, cursor)?;
     cursor.skip_comma();
-    Ok(list)
+    with_last(list, one)
 }
 
 // All parameters of a function.
@@ -189,19 +171,8 @@ fn params(alloc: Global, cursor: &mut Cursor<'_>) -> Result<Items<Local>, Memory
     Ok(list)
 }
 
-// `let mut x: T = core::mem::zeroed();`
-#[tactic(auto, unfolding(crate::specs::Items::local))]
-fn local(alloc: Global, cursor: &mut Cursor<'_>) -> Result<Local, Memory>
-    ensures { Gives local_view result cursor.new (reader.local cursor.old) }
-{
-    cursor.skip(2);
-    let read = typed(alloc, cursor)?;
-    cursor.skip(9);
-    Ok(read)
-}
-
-// One more of locals of a function.
-#[tactic(auto, unfolding(rs_expr::specs::Reading::added))]
+// `let mut x: T = core::mem::zeroed();`, one more local of a function.
+#[tactic(auto, unfolding(rs_expr::specs::Reading::added, crate::specs::Items::local))]
 fn next_locals(
     alloc: Global,
     cursor: &mut Cursor<'_>,
@@ -209,9 +180,10 @@ fn next_locals(
 ) -> Result<Items<Local>, Memory>
     ensures { Gives (λ l. map local_view l) result cursor.new (added reader.local (map local_view list) cursor.old) }
 {
-    let mut list = list;
-    list.push(local(alloc, cursor)?)?;
-    Ok(list)
+    cursor.skip(2);
+    let one = typed(alloc, cursor)?;
+    cursor.skip(9);
+    with_last(list, one)
 }
 
 // All locals of a function.
@@ -238,13 +210,31 @@ pub(crate) struct Head {
     pub result: Option<Boxed<RTy>>,
 }
 
+fn head_of(
+    alloc: Global,
+    attribute: Boxed<Attribute>,
+    name: Name,
+    params: Items<Local>,
+    given: Option<Boxed<RTy>>,
+) -> Result<Boxed<Head>, Memory>
+    ensures { IfOk result (λ head. reader.head_view head ≡ reader.head_tree attribute name (map local_view params) (option_map ty_view given)) }
+{
+    let head = Head {
+        attribute: attribute.into_inner(),
+        name,
+        params,
+        result: given,
+    };
+    Boxed::new(alloc, head)
+}
+
 // `pub unsafe extern "C" fn x(mut f: T) -> T`, behind its attribute.
 #[tactic(auto, unfolding(crate::specs::Items::head))]
 fn function_head(
     alloc: Global,
     cursor: &mut Cursor<'_>,
-    attribute: Attribute,
-) -> Result<Head, Memory>
+    attribute: Boxed<Attribute>,
+) -> Result<Boxed<Head>, Memory>
     ensures { Gives reader.head_view result cursor.new (reader.head attribute cursor.old) }
 {
     cursor.skip(5);
@@ -253,49 +243,49 @@ fn function_head(
     let params = params(alloc, cursor)?;
     cursor.skip(1);
     let result = read_result(alloc, cursor)?;
-    Ok(Head {
-        attribute,
-        name,
-        params,
-        result,
-    })
+    head_of(alloc, attribute, name, params, result)
 }
 
-// `{ .. }` of a function, whose head is read.
-#[tactic(auto, unfolding(crate::specs::Items::function_from))]
-fn function_from(alloc: Global, cursor: &mut Cursor<'_>, head: Head) -> Result<Function, Memory>
-    ensures { Gives function_view result cursor.new (reader.function_from (reader.head_view head) cursor.old) }
+// The item of a function's head, its locals and its statements.
+fn function_made(
+    alloc: Global,
+    head: Boxed<Head>,
+    locals: Items<Local>,
+    body: Items<RStmt>,
+) -> Result<Boxed<Item>, Memory>
+    ensures { IfOk result (λ i. item_view i ≡ tree.FunctionItem (reader.with_body (reader.head_view head) (map local_view locals) (map stmt_view body))) }
 {
-    let levels = cursor.len();
-    cursor.skip(1);
-    let locals = locals(alloc, cursor)?;
-    let body = read_stmts(alloc, cursor, levels)?;
-    cursor.skip(1);
     let Head {
         attribute,
         name,
         params,
         result,
-    } = head;
-    Ok(Function {
+    } = head.into_inner();
+    let function = Function {
         attribute,
         name,
         params,
         result,
         locals,
         body,
-    })
+    };
+    Boxed::new(alloc, Item::Function(function))
 }
 
 /// Reads a function, behind its attribute. Refused only for want of memory.
-#[tactic(auto, unfolding(crate::specs::Items::function_item))]
-pub(crate) fn function_item(
+#[tactic(auto, unfolding(crate::specs::Items::function_of, crate::specs::Items::function_item, crate::specs::Items::function_from))]
+pub(crate) fn function_of(
     alloc: Global,
     cursor: &mut Cursor<'_>,
-    attribute: Attribute,
-) -> Result<Function, Memory>
-    ensures { Gives function_view result cursor.new (reader.function_item attribute cursor.old) }
+    attribute: Boxed<Attribute>,
+) -> Result<Boxed<Item>, Memory>
+    ensures { Gives (λ i. item_view i) result cursor.new (reader.function_of attribute cursor.old) }
 {
     let head = function_head(alloc, cursor, attribute)?;
-    function_from(alloc, cursor, head)
+    let levels = cursor.len();
+    cursor.skip(1);
+    let locals = locals(alloc, cursor)?;
+    let body = read_stmts(alloc, cursor, levels)?;
+    cursor.skip(1);
+    function_made(alloc, head, locals, body)
 }

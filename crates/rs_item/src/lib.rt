@@ -3,6 +3,7 @@
 #![tactic(auto)]
 
 mod functions;
+mod lists;
 mod module_items;
 mod parts;
 mod records;

@@ -119,18 +119,18 @@ pub(crate) fn is_derive(cursor: &Cursor<'_>) -> bool
 
 /// Reads the attribute that gives a symbol, which may be missing. Refused only for want of memory.
 #[tactic(auto, unfolding(crate::specs::Items::attribute, crate::specs::Items::text_attribute))]
-pub(crate) fn attribute(alloc: Global, cursor: &mut Cursor<'_>) -> Result<Attribute, Memory>
+pub(crate) fn attribute(alloc: Global, cursor: &mut Cursor<'_>) -> Result<Boxed<Attribute>, Memory>
     ensures { Gives (λ a. a) result cursor.new (reader.attribute cursor.old) }
 {
     if cursor.peek() != Sign::Hash {
-        return Ok(Attribute::Mangled);
+        return Boxed::new(alloc, Attribute::Mangled);
     }
     if is_no_mangle(cursor) {
         cursor.skip(4);
-        return Ok(Attribute::NoMangle);
+        return Boxed::new(alloc, Attribute::NoMangle);
     }
     let symbol = text_attribute(alloc, cursor)?;
-    Ok(Attribute::ExportName(symbol))
+    Boxed::new(alloc, Attribute::ExportName(symbol))
 }
 
 /// Reads `#[link_name = "s"]`, which may be missing. Refused only for want of memory.

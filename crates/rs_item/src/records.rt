@@ -1,14 +1,16 @@
 //! Readers of records and static objects (the Rust Reference, "Structs", "Unions" and "Static items").
 
-ghost use Rattle.std.specs.Prelude.{◌≡◌, map, not, option_map};
+ghost use Rattle.std.specs.Prelude.{◌≡◌, map, not, option_map, IfOk};
 ghost use Rattle.rs_expr.specs.Reading.{Gives, many_ahead, added, part, listed};
 ghost use Rattle.rs_item.specs.Items as reader;
-ghost use Rattle.rs_tree.specs.Views.{field_view, record_view, static_view, local_view};
+ghost use Rattle.rs_text.specs.Tree as tree;
+ghost use Rattle.rs_tree.specs.Views.{field_view, local_view, item_view};
 
+use crate::lists::with_last;
 use crate::parts::{ends_braces, ends_brackets, typed};
-use cr_base::{Int, Items, Memory};
+use cr_base::{Boxed, Int, Items, Memory, Name};
 use rs_expr::{Cursor, Sign, literal, size_of};
-use rs_tree::{Attribute, Field, Local, Record, Static};
+use rs_tree::{Attribute, Field, Item, Local, Record, Static};
 use std::alloc::Global;
 
 // A number of 32 bits, or 0 where it is over them.
@@ -33,19 +35,8 @@ fn repr(cursor: &mut Cursor<'_>) -> Option<u32>
     Some(align)
 }
 
-// `pub f: T,`
-#[tactic(auto, unfolding(crate::specs::Items::field))]
-fn field(alloc: Global, cursor: &mut Cursor<'_>) -> Result<Field, Memory>
-    ensures { Gives field_view result cursor.new (reader.field cursor.old) }
-{
-    cursor.skip(1);
-    let Local { name, ty } = typed(alloc, cursor)?;
-    cursor.skip(1);
-    Ok(Field { name, ty })
-}
-
-// One more of fields of a record.
-#[tactic(auto, unfolding(rs_expr::specs::Reading::added))]
+// `pub f: T,`, one more field of a record.
+#[tactic(auto, unfolding(rs_expr::specs::Reading::added, crate::specs::Items::field))]
 fn next_fields(
     alloc: Global,
     cursor: &mut Cursor<'_>,
@@ -53,9 +44,10 @@ fn next_fields(
 ) -> Result<Items<Field>, Memory>
     ensures { Gives (λ l. map field_view l) result cursor.new (added reader.field (map field_view list) cursor.old) }
 {
-    let mut list = list;
-    list.push(field(alloc, cursor)?)?;
-    Ok(list)
+    cursor.skip(1);
+    let Local { name, ty } = typed(alloc, cursor)?;
+    cursor.skip(1);
+    with_last(list, Field { name, ty })
 }
 
 // All fields of a record.
@@ -83,57 +75,48 @@ fn names_union(sign: Sign) -> bool
     }
 }
 
-// `pub struct x { .. }`, behind its attributes.
-#[tactic(auto, unfolding(crate::specs::Items::record_from))]
-fn record_from(alloc: Global, cursor: &mut Cursor<'_>, align: Option<u32>) -> Result<Record, Memory>
-    ensures { Gives record_view result cursor.new (reader.record_from align cursor.old) }
+fn record_made(
+    alloc: Global,
+    align: Option<u32>,
+    is_union: bool,
+    name: Name,
+    fields: Items<Field>,
+) -> Result<Boxed<Item>, Memory>
+    ensures { IfOk result (λ i. item_view i ≡ tree.RecordItem (reader.record_tree align is_union name (map field_view fields))) }
 {
+    let record = Record {
+        align,
+        is_union,
+        name,
+        fields,
+    };
+    Boxed::new(alloc, Item::Record(record))
+}
+
+/// Reads a record. Refused only for want of memory.
+#[tactic(auto, unfolding(crate::specs::Items::record_of, crate::specs::Items::record_item, crate::specs::Items::record_from))]
+pub(crate) fn record_of(alloc: Global, cursor: &mut Cursor<'_>) -> Result<Boxed<Item>, Memory>
+    ensures { Gives (λ i. item_view i) result cursor.new (reader.record_of cursor.old) }
+{
+    cursor.skip(9);
+    let align = repr(cursor);
     let is_union = names_union(cursor.peek_behind());
     cursor.skip(2);
     let name = cursor.name(alloc)?;
     cursor.skip(1);
     let fields = fields(alloc, cursor)?;
     cursor.skip(1);
-    Ok(Record {
-        align,
-        is_union,
-        name,
-        fields,
-    })
+    record_made(alloc, align, is_union, name, fields)
 }
 
-/// Reads a record. Refused only for want of memory.
-#[tactic(auto, unfolding(crate::specs::Items::record_item))]
-pub(crate) fn record_item(alloc: Global, cursor: &mut Cursor<'_>) -> Result<Record, Memory>
-    ensures { Gives record_view result cursor.new (reader.record_item cursor.old) }
-{
-    cursor.skip(9);
-    let align = repr(cursor);
-    record_from(alloc, cursor, align)
-}
-
-// The number of a literal.
-#[tactic(auto, unfolding(crate::specs::Items::value))]
-fn value(_alloc: Global, cursor: &mut Cursor<'_>) -> Result<Int, Memory>
-    ensures { Gives (λ v. v) result cursor.new (reader.value cursor.old) }
-{
-    let (value, _ty) = literal(cursor);
-    Ok(value)
-}
-
-// One more of literals of a list.
-#[tactic(auto, unfolding(rs_expr::specs::Reading::added, rs_expr::specs::Reading::part))]
-fn next_read_values(
-    alloc: Global,
-    cursor: &mut Cursor<'_>,
-    list: Items<Int>,
-) -> Result<Items<Int>, Memory>
+// The number of one more literal of a list.
+#[tactic(auto, unfolding(rs_expr::specs::Reading::added, rs_expr::specs::Reading::part, crate::specs::Items::value))]
+fn next_read_values(cursor: &mut Cursor<'_>, list: Items<Int>) -> Result<Items<Int>, Memory>
     ensures { Gives (λ l. l) result cursor.new (added (part reader.value) list cursor.old) }
 {
-    let mut list = list;
-    list.push(value(alloc, cursor)?)?;
+    let (one, _ty) = literal(cursor);
     cursor.skip_comma();
-    Ok(list)
+    with_last(list, one)
 }
 
 // All literals of a list.
@@ -146,7 +129,7 @@ fn read_values(alloc: Global, cursor: &mut Cursor<'_>) -> Result<Items<Int>, Mem
         if ends_brackets(cursor.peek()) {
             return Ok(list);
         }
-        list = next_read_values(alloc, cursor, list)?;
+        list = next_read_values(cursor, list)?;
     }
     Ok(list)
 }
@@ -166,38 +149,37 @@ fn values(alloc: Global, cursor: &mut Cursor<'_>) -> Result<Option<Items<Int>>, 
     Ok(Some(list))
 }
 
-// `= ..;`, where the name and the type are read.
-#[tactic(auto, unfolding(crate::specs::Items::static_end))]
-fn static_end(
+fn static_made(
     alloc: Global,
-    cursor: &mut Cursor<'_>,
-    attribute: Attribute,
+    attribute: Boxed<Attribute>,
     local: Local,
-) -> Result<Static, Memory>
-    ensures { Gives static_view result cursor.new (reader.static_end attribute (local_view local) cursor.old) }
+    values: Option<Items<Int>>,
+) -> Result<Boxed<Item>, Memory>
+    ensures { IfOk result (λ i. item_view i ≡ tree.StaticItem (reader.static_tree attribute (local_view local).name (local_view local).ty values)) }
 {
-    cursor.skip(1);
-    let values = values(alloc, cursor)?;
-    cursor.skip(1);
     let Local { name, ty } = local;
-    Ok(Static {
-        attribute,
+    let object = Static {
+        attribute: attribute.into_inner(),
         name,
         ty,
         values,
-    })
+    };
+    Boxed::new(alloc, Item::Static(object))
 }
 
-/// Reads a static object, behind its attribute. Refused only for want of memory.
-#[tactic(auto, unfolding(crate::specs::Items::static_from))]
-pub(crate) fn static_from(
+/// Reads `pub static mut x: T = ..;`, behind its attribute. Refused only for want of memory.
+#[tactic(auto, unfolding(crate::specs::Items::static_of, crate::specs::Items::static_from, crate::specs::Items::static_end))]
+pub(crate) fn static_of(
     alloc: Global,
     cursor: &mut Cursor<'_>,
-    attribute: Attribute,
-) -> Result<Static, Memory>
-    ensures { Gives static_view result cursor.new (reader.static_from attribute cursor.old) }
+    attribute: Boxed<Attribute>,
+) -> Result<Boxed<Item>, Memory>
+    ensures { Gives (λ i. item_view i) result cursor.new (reader.static_of attribute cursor.old) }
 {
     cursor.skip(3);
     let local = typed(alloc, cursor)?;
-    static_end(alloc, cursor, attribute, local)
+    cursor.skip(1);
+    let values = values(alloc, cursor)?;
+    cursor.skip(1);
+    static_made(alloc, attribute, local, values)
 }

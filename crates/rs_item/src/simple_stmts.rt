@@ -5,7 +5,6 @@ ghost use Rattle.rs_expr.specs.Reading.{Gives};
 ghost use Rattle.rs_item.specs.Stmts as reader;
 ghost use Rattle.rs_tree.specs.Views.{expr_view, stmt_view};
 
-use crate::stmt_nodes::{assign_of, break_of, continue_of, copy_of, eval_of, return_of};
 use cr_base::{Boxed, Memory};
 use rs_expr::{Cursor, Sign, expr, place_of};
 use rs_tree::{RExpr, RStmt};
@@ -46,7 +45,7 @@ pub(crate) fn break_stmt(alloc: Global, cursor: &mut Cursor<'_>) -> Result<Boxed
     cursor.skip(1);
     let label = cursor.name(alloc)?;
     cursor.skip(1);
-    break_of(alloc, label)
+    Boxed::new(alloc, RStmt::Break(label))
 }
 
 /// Reads `continue 'l;`.
@@ -57,7 +56,7 @@ pub(crate) fn continue_stmt(alloc: Global, cursor: &mut Cursor<'_>) -> Result<Bo
     cursor.skip(1);
     let label = cursor.name(alloc)?;
     cursor.skip(1);
-    continue_of(alloc, label)
+    Boxed::new(alloc, RStmt::Continue(label))
 }
 
 // The value of a `return`, behind its word.
@@ -79,7 +78,7 @@ pub(crate) fn return_stmt(alloc: Global, cursor: &mut Cursor<'_>) -> Result<Boxe
     cursor.skip(1);
     let value = returned(alloc, cursor)?;
     cursor.skip(1);
-    return_of(alloc, value)
+    Boxed::new(alloc, RStmt::Return(value))
 }
 
 // An expression and the mark behind it.
@@ -102,7 +101,7 @@ fn copy_stmt(alloc: Global, cursor: &mut Cursor<'_>) -> Result<Boxed<RStmt>, Mem
     let target = copied(alloc, cursor)?;
     let count = copied(alloc, cursor)?;
     cursor.skip(1);
-    copy_of(alloc, source, target, count)
+    Boxed::new(alloc, RStmt::CopyBytes(source, target, count))
 }
 
 // `= e;`
@@ -117,32 +116,20 @@ fn assigned(
     let place = place_of(alloc, left)?;
     cursor.skip(1);
     let value = copied(alloc, cursor)?;
-    assign_of(alloc, place, value)
-}
-
-// `= e;`, or the end of an expression that is a statement.
-#[tactic(auto, unfolding(crate::specs::Stmts::assign_from))]
-fn assign_from(
-    alloc: Global,
-    cursor: &mut Cursor<'_>,
-    left: Boxed<RExpr>,
-) -> Result<Boxed<RStmt>, Memory>
-    ensures { Gives (λ s. stmt_view s) result cursor.new (reader.assign_from (expr_view left) cursor.old) }
-{
-    if cursor.peek() == Sign::Equal {
-        return assigned(alloc, cursor, left);
-    }
-    cursor.skip(1);
-    eval_of(alloc, left)
+    Boxed::new(alloc, RStmt::Assign(place, value))
 }
 
 /// Reads `p = e;` and `e;`.
-#[tactic(auto, unfolding(crate::specs::Stmts::expr_stmt))]
+#[tactic(auto, unfolding(crate::specs::Stmts::expr_stmt, crate::specs::Stmts::assign_from))]
 pub(crate) fn expr_stmt(alloc: Global, cursor: &mut Cursor<'_>) -> Result<Boxed<RStmt>, Memory>
     ensures { Gives (λ s. stmt_view s) result cursor.new (reader.expr_stmt cursor.old) }
 {
     let left = read_expr(alloc, cursor)?;
-    assign_from(alloc, cursor, left)
+    if cursor.peek() == Sign::Equal {
+        return assigned(alloc, cursor, left);
+    }
+    cursor.skip(1);
+    Boxed::new(alloc, RStmt::Eval(left))
 }
 
 // Whether `core::ptr::copy` is ahead.

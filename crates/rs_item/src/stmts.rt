@@ -6,10 +6,11 @@ ghost use Rattle.rs_expr.specs.Reading.{Gives, many_ahead, added};
 ghost use Rattle.rs_item.specs.Stmts as reader;
 ghost use Rattle.rs_tree.specs.Views.{expr_view, stmt_view, arm_view};
 
+use crate::lists::{with_boxed, with_last};
 use crate::simple_stmts::{
     break_stmt, continue_stmt, ends_arms, ends_block, expr_stmt, name_stmt, read_expr, return_stmt,
 };
-use crate::stmt_nodes::{arm_of, block_of, if_of, loop_of, match_of};
+use crate::stmt_nodes::{block_of, if_of, loop_of, match_of};
 use cr_base::{Boxed, Items, Memory, Name};
 use rs_expr::{Cursor, Sign, literal};
 use rs_tree::{Arm, RExpr, RStmt};
@@ -40,31 +41,17 @@ fn else_part(alloc: Global, cursor: &mut Cursor<'_>, levels: usize) -> Result<It
     block(alloc, cursor, levels)
 }
 
-// `{ .. } else { .. }`, where the condition is read.
-#[cycle(stmts)]
-#[tactic(auto, unfolding(crate::specs::Stmts::if_from))]
-fn if_from(
-    alloc: Global,
-    cursor: &mut Cursor<'_>,
-    levels: usize,
-    condition: Boxed<RExpr>,
-) -> Result<Boxed<RStmt>, Memory>
-    ensures { Gives (λ s. stmt_view s) result cursor.new (reader.if_from (expr_view condition) (reader.read_stmts levels) cursor.old) }
-{
-    let if_true = block(alloc, cursor, levels)?;
-    let if_false = else_part(alloc, cursor, levels)?;
-    if_of(alloc, condition, if_true, if_false)
-}
-
 // `if e { .. } else { .. }`
 #[cycle(stmts)]
-#[tactic(auto, unfolding(crate::specs::Stmts::if_stmt))]
+#[tactic(auto, unfolding(crate::specs::Stmts::if_stmt, crate::specs::Stmts::if_from))]
 fn if_stmt(alloc: Global, cursor: &mut Cursor<'_>, levels: usize) -> Result<Boxed<RStmt>, Memory>
     ensures { Gives (λ s. stmt_view s) result cursor.new (reader.if_stmt (reader.read_stmts levels) cursor.old) }
 {
     cursor.skip(1);
     let condition = read_expr(alloc, cursor)?;
-    if_from(alloc, cursor, levels, condition)
+    let if_true = block(alloc, cursor, levels)?;
+    let if_false = else_part(alloc, cursor, levels)?;
+    if_of(alloc, condition, if_true, if_false)
 }
 
 // `loop { .. }`, behind its label.
@@ -83,24 +70,9 @@ fn loop_from(
     loop_of(alloc, label, body)
 }
 
-// `{ .. }`, behind its label.
-#[cycle(stmts)]
-#[tactic(auto, unfolding(crate::specs::Stmts::block_from))]
-fn block_from(
-    alloc: Global,
-    cursor: &mut Cursor<'_>,
-    levels: usize,
-    label: Name,
-) -> Result<Boxed<RStmt>, Memory>
-    ensures { Gives (λ s. stmt_view s) result cursor.new (reader.block_from label (reader.read_stmts levels) cursor.old) }
-{
-    let body = block(alloc, cursor, levels)?;
-    block_of(alloc, label, body)
-}
-
 // `'l: loop { .. }` and `'l: { .. }`
 #[cycle(stmts)]
-#[tactic(auto, unfolding(crate::specs::Stmts::labelled))]
+#[tactic(auto, unfolding(crate::specs::Stmts::labelled, crate::specs::Stmts::block_from))]
 fn labelled(alloc: Global, cursor: &mut Cursor<'_>, levels: usize) -> Result<Boxed<RStmt>, Memory>
     ensures { Gives (λ s. stmt_view s) result cursor.new (reader.labelled (reader.read_stmts levels) cursor.old) }
 {
@@ -109,24 +81,13 @@ fn labelled(alloc: Global, cursor: &mut Cursor<'_>, levels: usize) -> Result<Box
     if cursor.peek() == Sign::Loop {
         return loop_from(alloc, cursor, levels, Some(label));
     }
-    block_from(alloc, cursor, levels, label)
-}
-
-// `1i32 => { .. }`
-#[cycle(stmts)]
-#[tactic(auto, unfolding(crate::specs::Stmts::arm))]
-fn arm(alloc: Global, cursor: &mut Cursor<'_>, levels: usize) -> Result<Arm, Memory>
-    ensures { Gives (λ a. arm_view a) result cursor.new (reader.arm (reader.read_stmts levels) cursor.old) }
-{
-    let (value, ty) = literal(cursor);
-    cursor.skip(1);
     let body = block(alloc, cursor, levels)?;
-    Ok(arm_of(value, ty, body))
+    block_of(alloc, label, body)
 }
 
-// One more arm.
+// `1i32 => { .. }`, one more arm.
 #[cycle(stmts)]
-#[tactic(auto, unfolding(rs_expr::specs::Reading::added))]
+#[tactic(auto, unfolding(rs_expr::specs::Reading::added, crate::specs::Stmts::arm))]
 fn next_arm(
     alloc: Global,
     cursor: &mut Cursor<'_>,
@@ -135,9 +96,10 @@ fn next_arm(
 ) -> Result<Items<Arm>, Memory>
     ensures { Gives (λ l. map arm_view l) result cursor.new (added (reader.arm (reader.read_stmts levels)) (map arm_view list) cursor.old) }
 {
-    let mut list = list;
-    list.push(arm(alloc, cursor, levels)?)?;
-    Ok(list)
+    let (value, ty) = literal(cursor);
+    cursor.skip(1);
+    let body = block(alloc, cursor, levels)?;
+    with_last(list, Arm { value, ty, body })
 }
 
 // The arms of literals of a match.
@@ -174,31 +136,17 @@ fn match_end(
     match_of(alloc, value, cases, other)
 }
 
-// `{ .. }` of a match, whose value is read.
-#[cycle(stmts)]
-#[tactic(auto, unfolding(crate::specs::Stmts::match_from))]
-fn match_from(
-    alloc: Global,
-    cursor: &mut Cursor<'_>,
-    levels: usize,
-    value: Boxed<RExpr>,
-) -> Result<Boxed<RStmt>, Memory>
-    ensures { Gives (λ s. stmt_view s) result cursor.new (reader.match_from (expr_view value) (reader.read_stmts levels) cursor.old) }
-{
-    cursor.skip(1);
-    let cases = arms(alloc, cursor, levels)?;
-    match_end(alloc, cursor, levels, value, cases)
-}
-
 // `match e { .. }`
 #[cycle(stmts)]
-#[tactic(auto, unfolding(crate::specs::Stmts::match_stmt))]
+#[tactic(auto, unfolding(crate::specs::Stmts::match_stmt, crate::specs::Stmts::match_from))]
 fn match_stmt(alloc: Global, cursor: &mut Cursor<'_>, levels: usize) -> Result<Boxed<RStmt>, Memory>
     ensures { Gives (λ s. stmt_view s) result cursor.new (reader.match_stmt (reader.read_stmts levels) cursor.old) }
 {
     cursor.skip(1);
     let value = read_expr(alloc, cursor)?;
-    match_from(alloc, cursor, levels, value)
+    cursor.skip(1);
+    let cases = arms(alloc, cursor, levels)?;
+    match_end(alloc, cursor, levels, value, cases)
 }
 
 // A statement.
@@ -231,9 +179,8 @@ fn next_stmt(
 ) -> Result<Items<RStmt>, Memory>
     ensures { Gives (λ l. map stmt_view l) result cursor.new (added (reader.stmt_from (reader.read_stmts levels)) (map stmt_view list) cursor.old) }
 {
-    let mut list = list;
-    list.push(stmt_from(alloc, cursor, levels)?.into_inner())?;
-    Ok(list)
+    let one = stmt_from(alloc, cursor, levels)?;
+    with_boxed(list, one)
 }
 
 // The statements up to a brace.

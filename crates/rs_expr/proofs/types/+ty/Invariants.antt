@@ -31,9 +31,6 @@ decreases-ty_from l = 8 * l.levels + 6
 abbrev pub decreases-types : goal.decreases-types
 decreases-types l = 8 * l.levels + 2
 
-abbrev pub decreases-word_ty : goal.decreases-word_ty
-decreases-word_ty l = 8 * l.levels + 5
-
 abbrev pub invariant-types-loop-turn : goal.invariant-types-loop-turn
 invariant-types-loop-turn l =
     many ends_list (part (ty l.levels)) (length l.initial.cursor - l._turn) (map ty_view l.list) l.cursor ≡ listed (ty l.levels) l.initial.cursor

@@ -4,26 +4,17 @@ use Rattle.rs_item.specs.Stmts.{read_stmts, stmt_from, stmts_from, arm, read_arm
 use Rattle.rs_tree.specs.Views.{stmt_view, arm_view}
 use Rattle.rs_item.proofs.stmts.+stmts.Given as goal
 
-abbrev pub decreases-arm : goal.decreases-arm
-decreases-arm l = 16 * l.levels + 2
-
 abbrev pub decreases-arms : goal.decreases-arms
-decreases-arms l = 16 * l.levels + 4
+decreases-arms l = 16 * l.levels + 3
 
 abbrev pub decreases-block : goal.decreases-block
 decreases-block l = 16 * l.levels + 1
 
-abbrev pub decreases-block_from : goal.decreases-block_from
-decreases-block_from l = 16 * l.levels + 2
-
 abbrev pub decreases-else_part : goal.decreases-else_part
 decreases-else_part l = 16 * l.levels + 2
 
-abbrev pub decreases-if_from : goal.decreases-if_from
-decreases-if_from l = 16 * l.levels + 3
-
 abbrev pub decreases-if_stmt : goal.decreases-if_stmt
-decreases-if_stmt l = 16 * l.levels + 4
+decreases-if_stmt l = 16 * l.levels + 3
 
 abbrev pub decreases-labelled : goal.decreases-labelled
 decreases-labelled l = 16 * l.levels + 3
@@ -34,26 +25,23 @@ decreases-loop_from l = 16 * l.levels + 2
 abbrev pub decreases-match_end : goal.decreases-match_end
 decreases-match_end l = 16 * l.levels + 2
 
-abbrev pub decreases-match_from : goal.decreases-match_from
-decreases-match_from l = 16 * l.levels + 5
-
 abbrev pub decreases-match_stmt : goal.decreases-match_stmt
-decreases-match_stmt l = 16 * l.levels + 6
+decreases-match_stmt l = 16 * l.levels + 4
 
 abbrev pub decreases-next_arm : goal.decreases-next_arm
-decreases-next_arm l = 16 * l.levels + 3
+decreases-next_arm l = 16 * l.levels + 2
 
 abbrev pub decreases-next_stmt : goal.decreases-next_stmt
-decreases-next_stmt l = 16 * l.levels + 8
+decreases-next_stmt l = 16 * l.levels + 6
 
 abbrev pub decreases-read_stmts : goal.decreases-read_stmts
 decreases-read_stmts l = 16 * l.levels + 0
 
 abbrev pub decreases-stmt_from : goal.decreases-stmt_from
-decreases-stmt_from l = 16 * l.levels + 7
+decreases-stmt_from l = 16 * l.levels + 5
 
 abbrev pub decreases-stmts_from : goal.decreases-stmts_from
-decreases-stmts_from l = 16 * l.levels + 9
+decreases-stmts_from l = 16 * l.levels + 7
 
 abbrev pub invariant-arms-loop-turn : goal.invariant-arms-loop-turn
 invariant-arms-loop-turn l =
