@@ -1,5 +1,1 @@
-pub mod Heads
-pub mod Loops
-pub mod Opened
-pub mod Rests
 pub mod Told

@@ -1,6 +1,1 @@
-pub mod Functions
-pub mod Kept
-pub mod Loops
 pub mod Tells
-pub mod Views
-pub mod Walks

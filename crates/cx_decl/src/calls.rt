@@ -7,7 +7,6 @@ ghost use Rattle.cx_rules.specs.Scope.{new_scope};
 ghost use Rattle.cx_rules.specs.Units.{check_unit as unit_checked, seen_unit};
 ghost use Rattle.cx_tree.specs.Views.{unit_view};
 
-use crate::functions::externals;
 use cr_base::Stop;
 use cx_context::{Context, none_is_laid};
 use cx_core::CoreUnit;
@@ -16,6 +15,7 @@ use cx_rules::units_stop;
 use cx_scope::Scope;
 use cx_tree::Unit;
 use cx_unit_ends::unit_ended;
+use cx_unit_walk::externals;
 use std::alloc::Global;
 
 /// The typed unit that a tree means under a number (ISO C99, 6.5 to 6.9): every name resolved, every conversion a node. Refused by the

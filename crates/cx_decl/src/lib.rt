@@ -2,8 +2,5 @@
 #![tactic(auto)]
 
 mod calls;
-mod clauses;
-mod functions;
-mod statements;
 
 pub use calls::check_unit;

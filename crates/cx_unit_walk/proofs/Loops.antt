@@ -1,6 +1,6 @@
 -- What a loop over items has done.
 use Rattle.std.proofs.Common.{◌≡◌, refl, ap, sym, ◌∙◌, List, [], ◌++◌, append_assoc}
-use Rattle.cx_decl.specs.Loops.{meant_done}
+use Rattle.cx_unit_walk.specs.Loops.{meant_done}
 use Rattle.cx_rules.specs.Readings.{CChecked, stops, fine, check_behind}
 use Rattle.cx_rules.specs.UnitWalk.{CMeant, meant_behind, nothing_meant}
 

@@ -1,8 +1,8 @@
 use Rattle.std.proofs.Common.{◌≡◌, map, drop}
 use Rattle.cx_context.specs.Views.{scope_of}
-use Rattle.cx_decl.specs.Walks as walks
+use Rattle.cx_unit_walk.specs.Walks as walks
 use Rattle.cx_tree.specs.Views.{external_view}
-use Rattle.cx_decl.proofs.functions.externals.Given as goal
+use Rattle.cx_unit_walk.proofs.functions.externals.Given as goal
 
 -- the declarations that are left give the rest
 abbrev pub invariant-loop-one : goal.invariant-loop-one

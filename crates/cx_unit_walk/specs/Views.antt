@@ -1,8 +1,8 @@
 -- What statements behind their clauses stand for.
 use Rattle.std.specs.Prelude.{map, option_map}
 use Rattle.cx_core.specs.Views.{view_expr, view_stmt, view_type}
-use Rattle.cx_decl.specs.declared.clauses.Within.{Within}
-use Rattle.cx_decl.specs.Kept.{CTestedKept, CForKept, CWithinKept}
+use Rattle.cx_unit_walk.specs.declared.clauses.Within.{Within}
+use Rattle.cx_unit_walk.specs.Kept.{CTestedKept, CForKept, CWithinKept}
 use Rattle.cx_operands.specs.Views.{view_operand}
 use Rattle.cx_stmt_steps.specs.declared.ends.ForBegun.{ForBegun}
 use Rattle.cx_stmt_steps.specs.declared.ends.Tested.{Tested}

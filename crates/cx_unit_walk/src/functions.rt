@@ -6,8 +6,8 @@ ghost use Rattle.cx_context.specs.Checks.{Checks};
 ghost use Rattle.cx_context.specs.Views.{scope_of};
 ghost use Rattle.cx_core.specs.Trees.{block, stmt};
 ghost use Rattle.cx_core.specs.Views.{view_function_type, view_stmt, view_type};
-ghost use Rattle.cx_decl.specs.Functions.{given_by, in_function, result_in};
-ghost use Rattle.cx_decl.specs.Walks as walks;
+ghost use Rattle.cx_unit_walk.specs.Functions.{given_by, in_function, result_in};
+ghost use Rattle.cx_unit_walk.specs.Walks as walks;
 ghost use Rattle.cx_decl_steps.specs.Views.{view_head, view_meant};
 ghost use Rattle.cx_rules.specs.UnitWalk.{stmts_of};
 ghost use Rattle.cx_stmt_steps.specs.Views.{view_site};
@@ -25,7 +25,7 @@ use cx_tree::{BlockItem, Definition, External, Stmt};
 use std::alloc::Global;
 
 /// The external declarations of a unit, in text order (ISO C99, 6.9).
-pub(crate) fn externals(context: &mut Context, list: &[External]) -> Result<(), Stop>
+pub fn externals(context: &mut Context, list: &[External]) -> Result<(), Stop>
     ensures { Checks (λ (_ : Unit {0}). tt) result (scope_of context.new) (walks.externals_walk (map external_view list.now) (scope_of context.old)) }
 {
     for one in list {

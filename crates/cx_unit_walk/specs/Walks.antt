@@ -1,8 +1,8 @@
 -- The walk over statements and units up to the first broken node.
 use Rattle.std.specs.Prelude.{ℕ, Bool, List, [], length, false, Option, None, ◌++◌}
 use Rattle.cx_core.specs.Trees.{CExpr, CStmt, COtherwise, block, do_while, for_loop, if_then, stmt, while}
-use Rattle.cx_decl.specs.Functions.{in_function, result_in}
-use Rattle.cx_decl.specs.Kept.{CTestedKept, CForKept, CWithinKept}
+use Rattle.cx_unit_walk.specs.Functions.{in_function, result_in}
+use Rattle.cx_unit_walk.specs.Kept.{CTestedKept, CForKept, CWithinKept}
 use Rattle.cx_decl_steps.specs.Kept.{CHeadKept}
 use Rattle.cx_decl_steps.specs.Steps as decl_steps
 use Rattle.cx_rules.specs.Lines.{own_line}

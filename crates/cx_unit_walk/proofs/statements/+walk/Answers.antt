@@ -2,10 +2,10 @@ use Rattle.std.proofs.Common.{◌≡◌, length, ap, sym, ◌∙◌, subst, map,
 use Rattle.cx_context.specs.Checks.{Checks}
 use Rattle.cx_context.specs.Views.{scope_of}
 use Rattle.cx_core.specs.Views.{view_stmt}
-use Rattle.cx_decl.proofs.Opened.{for_view, if_view}
-use Rattle.cx_decl.proofs.Rests.{do_fine, for_whole, if_whole, switch_fine, while_fine}
-use Rattle.cx_decl.specs.Views.{view_tested}
-use Rattle.cx_decl.specs.Walks as walks
+use Rattle.cx_unit_walk.proofs.Opened.{for_view, if_view}
+use Rattle.cx_unit_walk.proofs.Rests.{do_fine, for_whole, if_whole, switch_fine, while_fine}
+use Rattle.cx_unit_walk.specs.Views.{view_tested}
+use Rattle.cx_unit_walk.specs.Walks as walks
 use Rattle.cx_rules.specs.Lines.{own_line}
 use Rattle.cx_rules.specs.Readings.{fine}
 use Rattle.cx_rules.specs.Scope.{entered}
@@ -13,7 +13,7 @@ use Rattle.cx_rules.specs.UnitWalk.{in_loop}
 use Rattle.cx_stmt_steps.specs.Views.{view_site, view_stated}
 use Rattle.cx_tree.specs.Trees.{For, If}
 use Rattle.cx_tree.specs.Views.{expr_view, first_view, option_expr, option_stmt, stmt_view}
-use Rattle.cx_decl.proofs.statements.+walk.Goals as goal
+use Rattle.cx_unit_walk.proofs.statements.+walk.Goals as goal
 
 pub while_form-returns : goal.while_form-returns
 while_form-returns n c =

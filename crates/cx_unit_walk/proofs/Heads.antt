@@ -4,8 +4,8 @@ use Rattle.cx_core.specs.declared.ty.FunctionTy.{FunctionTy}
 use Rattle.cx_core.specs.declared.ty.Params.TheFolds.{fold_out-FunctionTy}
 use Rattle.cx_core.specs.Trees.{CTy, ty, void, basic, enum_type, pointer, array, record_type, function, CStmt}
 use Rattle.cx_core.specs.Views.{view_function_type, view_type}
-use Rattle.cx_decl.specs.Functions.{given_by, in_function, result_in}
-use Rattle.cx_decl.specs.Walks as walks
+use Rattle.cx_unit_walk.specs.Functions.{given_by, in_function, result_in}
+use Rattle.cx_unit_walk.specs.Walks as walks
 use Rattle.cx_decl_steps.proofs.Kept.{body_is}
 use Rattle.cx_decl_steps.specs.Kept.{CHeadKept, kept_of}
 use Rattle.cx_decl_steps.specs.Steps as decl_steps

@@ -1,13 +1,13 @@
 use Rattle.std.proofs.Common.{◌≡◌, ap, sym, ◌∙◌, subst, map}
 use Rattle.cx_context.specs.Checks.{Checks}
 use Rattle.cx_context.specs.Views.{scope_of}
-use Rattle.cx_decl.proofs.Heads.{definition_fine}
-use Rattle.cx_decl.specs.Walks as walks
+use Rattle.cx_unit_walk.proofs.Heads.{definition_fine}
+use Rattle.cx_unit_walk.specs.Walks as walks
 use Rattle.cx_decl_steps.specs.Views.{view_head}
 use Rattle.cx_declarations.specs.Walks as declared
 use Rattle.cx_rules.specs.Readings.{fine}
 use Rattle.cx_tree.specs.Views.{declarator_view, definition_view, spec_view, specs as spec_trees, stmt_view}
-use Rattle.cx_decl.proofs.functions.definition.Goals as goal
+use Rattle.cx_unit_walk.proofs.functions.definition.Goals as goal
 
 pub returns : goal.returns
 returns c =

@@ -1,8 +1,8 @@
 -- Statements whose clauses and whose parts stand in functions of their own.
 use Rattle.std.proofs.Common.{◌≡◌, refl, sym, ap, ◌∙◌, ℕ, List, length, Option, None, Some}
 use Rattle.cx_core.specs.Trees.{CExpr, CStmt, if_then, returns, while}
-use Rattle.cx_decl.specs.Kept.{CTestedKept, kept_tested, kept_for}
-use Rattle.cx_decl.specs.Walks as walks
+use Rattle.cx_unit_walk.specs.Kept.{CTestedKept, kept_tested, kept_for}
+use Rattle.cx_unit_walk.specs.Walks as walks
 use Rattle.cx_rules.specs.Lines.{own_line}
 use Rattle.cx_rules.specs.Nodes.{return_node}
 use Rattle.cx_rules.specs.Operands.{COperand, fitted, value_of}

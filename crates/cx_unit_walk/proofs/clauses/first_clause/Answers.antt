@@ -1,11 +1,11 @@
 use Rattle.std.proofs.Common.{ap, sym, ◌∙◌, subst, Some}
 use Rattle.cx_context.specs.Checks.{Checks}
 use Rattle.cx_context.specs.Views.{scope_of}
-use Rattle.cx_decl.specs.Walks as walks
+use Rattle.cx_unit_walk.specs.Walks as walks
 use Rattle.cx_decl_steps.specs.Views.{view_meant}
 use Rattle.cx_tree.specs.declared.stmt.ForFirst.TheVariants as first
 use Rattle.cx_tree.specs.Views.{expr_view, first_view}
-use Rattle.cx_decl.proofs.clauses.first_clause.Goals as goal
+use Rattle.cx_unit_walk.proofs.clauses.first_clause.Goals as goal
 
 pub returns-in-Some : goal.returns-in-Some
 returns-in-Some c =

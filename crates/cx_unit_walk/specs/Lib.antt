@@ -1,0 +1,5 @@
+pub mod Functions
+pub mod Kept
+pub mod Loops
+pub mod Views
+pub mod Walks
