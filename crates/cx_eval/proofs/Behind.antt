@@ -1,11 +1,12 @@
 -- A walk over operands goes on behind the first of them.
 use Rattle.std.proofs.Common.{◌≡◌, sym, ◌∙◌, ap, subst, ℕ, ◌+◌, ◌-◌, ◌<◌, ◌≤◌, List, [], ◌∷◌, ◌++◌, length, take, drop, drop_at, length-take-le, Result, Ok, Err, arith}
 use Rattle.std.proofs.lemmas.List.{append_assoc}
-use Rattle.cx_eval.specs.declared.halt.Halt.{Halt}
-use Rattle.cx_eval.specs.declared.halt.Halt.TheVariants as halt
-use Rattle.cx_eval.specs.declared.halt.Walked.{Walked}
-use Rattle.cx_eval.specs.declared.halt.Walked.TheVariants as walked
-use Rattle.cx_eval.specs.Steps.{Steps, Walks, WalksFrom, MovesFrom}
+use Rattle.cx_ready.specs.declared.halt.Halt.{Halt}
+use Rattle.cx_ready.specs.declared.halt.Halt.TheVariants as halt
+use Rattle.cx_ready.specs.declared.halt.Progress.{Progress}
+use Rattle.cx_ready.specs.declared.halt.Progress.TheVariants as progress
+use Rattle.cx_eval.specs.Walks.{CountsFrom, Walks, WalksFrom, MovesFrom}
+use Rattle.cx_ready.specs.Steps.{Steps}
 use Rattle.cx_eval.proofs.Moving.{among_first, among_rest}
 use Rattle.cx_mean.specs.Operands.{Frame}
 use Rattle.cx_mean.specs.Settings.{CSetting}
@@ -13,12 +14,6 @@ use Rattle.cx_mean.specs.Steps.{CStepped, did, asks_call, inside, step_at, step_
 use Rattle.cx_mean.specs.Work.{CWork, CWorks, more_works, ready, ready_among}
 use Rattle.cx_work.specs.Views.{view_called, works_of}
 use Rattle.mem_bytes.specs.Memory.{Blocks}
-
-abbrev pub IsMove : Result Walked Halt → Type 0
-IsMove (Ok (walked.Passed count)) = ⊥
-IsMove (Ok walked.Stepped) = Unit {0}
-IsMove (Ok (walked.Calls called)) = Unit {0}
-IsMove (Err why) = Unit {0}
 
 module _ (setting : CSetting) (frame : Frame) (before later : Blocks) (pick index : ℕ) (works : List CWork) (first : CWork) (others : List CWork)
     (within : index ≤ length works) (at : drop index works ≡ first ∷ others) where
@@ -34,17 +29,16 @@ module _ (setting : CSetting) (frame : Frame) (before later : Blocks) (pick inde
       ap (λ (list : List CWork). step_among setting frame before pick (works_of list) none around) at
       ∙ among_first setting frame before pick first (works_of others) none around less
 
-  pub first_moves : (result : Result Walked Halt) (new : CWork) → IsMove result → Walks result setting frame before later pick first new →
+  pub first_moves : (result : Result Progress Halt) (new : CWork) → Walks result setting frame before later pick first new →
       WalksFrom result setting frame before later pick index works (take index works ++ new ∷ others)
-  first_moves (Ok (walked.Passed count)) new moves goes = elim moves [ ]
-  first_moves (Ok walked.Stepped) new moves goes = (
+  first_moves (Ok progress.Stepped) new goes = (
     more_than goes.0,
     ap (λ (rest : List CWork). take index works ++ rest) (sym (front new)),
     λ none around.
         first_step none around goes.0 ∙ ap (inside (λ (work : CWork). around (more_works work (works_of others)))) goes.1
         ∙ ap (λ (list : List CWork). Ok (did (around (works_of list)) later)) (sym (front new)),
   )
-  first_moves (Ok (walked.Calls called)) new moves goes = (
+  first_moves (Ok (progress.Calls called)) new goes = (
     more_than goes.0,
     ap (λ (rest : List CWork). take index works ++ rest) (sym (front new)),
     λ none around. (
@@ -53,12 +47,12 @@ module _ (setting : CSetting) (frame : Frame) (before later : Blocks) (pick inde
       goes.1.1,
     ),
   )
-  first_moves (Err (halt.Undefined rule place)) new moves goes = (
+  first_moves (Err (halt.Undefined rule place)) new goes = (
     more_than goes.0,
     λ none around.
         first_step none around goes.0 ∙ ap (inside (λ (work : CWork). around (more_works work (works_of others)))) goes.1,
   )
-  first_moves (Err halt.Memory) new moves goes = tt
+  first_moves (Err halt.Memory) new goes = tt
 
   module _ (count : ℕ) (counted : count ≡ ready first) (passed : count ≤ pick) (behind : drop (index + 1) works ≡ others)
       (taken : take (index + 1) works ≡ take index works ++ first ∷ []) where
@@ -81,7 +75,7 @@ module _ (setting : CSetting) (frame : Frame) (before later : Blocks) (pick inde
     front_of : (left : List CWork) → left ≡ take (index + 1) works ++ drop (index + 1) left → drop index left ≡ first ∷ drop (index + 1) left
     front_of left is = ap (drop index) (back left is) ∙ drop_at (take index works) (first ∷ drop (index + 1) left) index (length-take-le index works within)
 
-    moves_back : (result : Result Walked Halt) (left : List CWork) → MovesFrom result setting frame before later (pick - count) (index + 1) works left →
+    moves_back : (result : Result Progress Halt) (left : List CWork) → MovesFrom result setting frame before later (pick - count) (index + 1) works left →
         MovesFrom result setting frame before later pick index works left
     moves_back result left goes = (
       more_behind goes.0,
@@ -94,17 +88,15 @@ module _ (setting : CSetting) (frame : Frame) (before later : Blocks) (pick inde
     )
 
     pub rest_passes : (sum : ℕ) (left : List CWork) → count ≤ sum →
-        WalksFrom (Ok (walked.Passed (sum - count))) setting frame before later (pick - count) (index + 1) works left →
-        WalksFrom (Ok (walked.Passed sum)) setting frame before later pick index works left
+        CountsFrom (sum - count) before later (pick - count) (index + 1) works left → CountsFrom sum before later pick index works left
     rest_passes sum left least goes =
         let sum_is : sum - count ≡ ready_among (works_of others) = goes.0 ∙ ap (λ (list : List CWork). ready_among (works_of list)) behind in
         (subst (λ (list : List CWork). sum ≡ ready_among (works_of list)) (sym at) (omega (arith, sum_is, counted, least)), omega (arith, goes.1, passed, least), goes.2, goes.3)
 
-    pub rest_moves : (result : Result Walked Halt) (left : List CWork) → IsMove result →
+    pub rest_moves : (result : Result Progress Halt) (left : List CWork) →
         WalksFrom result setting frame before later (pick - count) (index + 1) works left → WalksFrom result setting frame before later pick index works left
-    rest_moves (Ok (walked.Passed sum)) left moves goes = elim moves [ ]
-    rest_moves (Ok walked.Stepped) left moves goes = moves_back (Ok walked.Stepped) left goes
-    rest_moves (Ok (walked.Calls called)) left moves goes = moves_back (Ok (walked.Calls called)) left goes
-    rest_moves (Err (halt.Undefined rule place)) left moves goes =
+    rest_moves (Ok progress.Stepped) left goes = moves_back (Ok progress.Stepped) left goes
+    rest_moves (Ok (progress.Calls called)) left goes = moves_back (Ok (progress.Calls called)) left goes
+    rest_moves (Err (halt.Undefined rule place)) left goes =
         (more_behind goes.0, λ none around. rest_step none around ∙ goes.1 none (λ (list : CWorks). around (more_works first list)))
-    rest_moves (Err halt.Memory) left moves goes = tt
+    rest_moves (Err halt.Memory) left goes = tt

@@ -1,9 +1,5 @@
 pub mod Added
-pub mod Fills
-pub mod Halts
 pub mod Next
-pub mod Nodes
-pub mod Parts
-pub mod Ready
-pub mod Steps
-pub mod Taken
+pub mod Passing
+pub mod Several
+pub mod Walks

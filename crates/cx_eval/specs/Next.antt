@@ -5,10 +5,10 @@ use Rattle.cx_access.specs.Views.{compatible_pairs}
 use Rattle.cx_core.specs.declared.program.Parts.{Parts}
 use Rattle.cx_core.specs.Layouts.{CLayouts}
 use Rattle.cx_core.specs.Views.{view_program, view_types}
-use Rattle.cx_eval.specs.declared.halt.Halt.{Halt}
-use Rattle.cx_eval.specs.declared.halt.Halt.TheVariants as halt
-use Rattle.cx_eval.specs.declared.halt.Walked.{Walked}
-use Rattle.cx_eval.specs.declared.halt.Walked.TheVariants as walked
+use Rattle.cx_ready.specs.declared.halt.Halt.{Halt}
+use Rattle.cx_ready.specs.declared.halt.Halt.TheVariants as halt
+use Rattle.cx_ready.specs.declared.halt.Progress.{Progress}
+use Rattle.cx_ready.specs.declared.halt.Progress.TheVariants as progress
 use Rattle.cx_eval.specs.declared.step.Next.{Next}
 use Rattle.cx_eval.specs.declared.step.Next.TheVariants as next
 use Rattle.cx_mean.specs.Operands.{breaks, Frame}
@@ -38,10 +38,9 @@ abbrev pub IsLacking : Result Next Memory → Type 0
 IsLacking (Ok one) = ⊥
 IsLacking (Err memory) = Unit {0}
 
--- what a walk leaves that reached the node
-abbrev pub IsNext : Result Walked Halt → Result Next Memory → Type 0
-IsNext (Ok walked.Stepped) result = result ≡ Ok next.Stepped
-IsNext (Ok (walked.Calls called)) result = result ≡ Ok (next.Calls called)
-IsNext (Ok (walked.Passed count)) result = Unit {0}
+-- what the step leaves of which this came
+abbrev pub IsNext : Result Progress Halt → Result Next Memory → Type 0
+IsNext (Ok progress.Stepped) result = result ≡ Ok next.Stepped
+IsNext (Ok (progress.Calls called)) result = result ≡ Ok (next.Calls called)
 IsNext (Err (halt.Undefined rule place)) result = result ≡ Ok (next.Undefined rule place)
 IsNext (Err halt.Memory) result = IsLacking result

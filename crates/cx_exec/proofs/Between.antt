@@ -1,6 +1,6 @@
 -- What came between two states, and between two others behind them.
 use Rattle.std.proofs.Common.{◌≡◌, ◌∙◌, refl, sym, ap, subst, arith, ◌≤◌, ℤ, Bool, List, [], ◌∷◌, ◌++◌, drop, Option, Some, None, option_map, append_assoc, append-nil}
-use Rattle.cx_outside.specs.States.{Around, AreGiven, AreTaken, Between}
+use Rattle.cx_outside.specs.States.{Around, AreGiven, AreTaken, Between, Quiet}
 use Rattle.ext_calls.specs.declared.call.Call.{Call}
 use Rattle.ext_calls.specs.declared.call.Made.{Made}
 
@@ -62,4 +62,18 @@ none_between at = record {
   limit = refl;
   takes = refl;
   later = omega arith;
+}
+
+-- nothing came behind it
+abbrev pub quiet_between : (first second third : Around) → Between first second → Quiet second third → Between first third
+quiet_between first second third one quiet = record {
+  answers = one.answers;
+  calls = one.calls;
+  trail = quiet.trail ∙ one.trail;
+  told = quiet.made ∙ one.told;
+  given = subst (λ (left : Option (List ℤ)). AreGiven one.calls first.host.left left) (sym quiet.left) one.given;
+  taken_by = one.taken_by;
+  limit = quiet.limit ∙ one.limit;
+  takes = quiet.takes ∙ one.takes;
+  later = omega (arith, one.later, quiet.later);
 }

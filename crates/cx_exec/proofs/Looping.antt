@@ -1,26 +1,20 @@
 -- A run that is held, step by step.
-use Rattle.std.proofs.Common.{◌≡◌, ◌∙◌, refl, sym, ap, subst, arith, ℕ, suc, ◌<◌, ◌≤◌, ℤ, List, [], Option, Some, None, Result, Ok, Err, IfOk}
+use Rattle.std.proofs.Common.{◌≡◌, ◌∙◌, refl, sym, ap, subst, arith, ℕ, suc, ◌+◌, ◌≤◌, ℤ, List, [], Option, Some, None, Result, Ok, Err, IfOk}
 use Rattle.cr_world.specs.World.{World}
 use Rattle.cx_access.specs.Views.{compatible_pairs}
 use Rattle.cx_core.specs.declared.program.Parts.{Parts}
 use Rattle.cx_core.specs.Layouts.{CLayouts, layouts_of}
 use Rattle.cx_core.specs.Trees.{CProgram, CTypes}
 use Rattle.cx_core.specs.Views.{view_program, view_types}
-use Rattle.cx_machine.specs.declared.machine.Control.{Control}
-use Rattle.cx_machine.specs.declared.machine.Control.TheVariants as control
 use Rattle.cx_machine.specs.declared.machine.Machine.{Machine}
 use Rattle.cx_machine.specs.declared.stop.Stop.{Stop}
-use Rattle.cx_machine.specs.Machines.{control_in, values_in, view_machine}
-use Rattle.cx_machine.specs.Steps.{Advances, taken_of}
-use Rattle.cx_mean.specs.Moves.{CPurpose}
-use Rattle.cx_mean.specs.Run.{going, progress_at}
+use Rattle.cx_machine.specs.Machines.{view_machine}
+use Rattle.cx_machine.specs.Steps.{taken_of}
 use Rattle.cx_mean.specs.Settings.{CPair, CSetting, compatible_records, setting_of}
-use Rattle.cx_mean.specs.State.{CState, c_step, evaluating}
-use Rattle.cx_mean.specs.Work.{CWork, finished, needs, chooses, tests, carries, updates, fills, waits}
-use Rattle.cx_outside.specs.Comes.{Comes}
+use Rattle.cx_mean.specs.State.{CState}
 use Rattle.cx_outside.specs.States.{Around, KeptState, around}
-use Rattle.cx_work.specs.declared.work.Work.{Work}
-use Rattle.cx_work.specs.Views.{view_work}
+use Rattle.cx_steps.specs.Several.{AdvancesBy}
+use Rattle.cx_steps.proofs.Several.{goes_on}
 use Rattle.ext_calls.specs.Host.{HostState}
 use Rattle.mem_bytes.specs.Counted.{Limit}
 use Rattle.mem_bytes.specs.Memory.{Blocks}
@@ -32,32 +26,7 @@ use Rattle.cx_exec.specs.Exec.{Ran, IsRun}
 use Rattle.cx_exec.specs.Far.{IsSetting, IsStart, IsFar, IsEnd, IsEnding}
 use Rattle.cx_exec.specs.Steps.{IsOutcome, Reached, start_around}
 use Rattle.cx_exec.proofs.Outcomes.{stopped_is, used_up}
-use Rattle.cx_exec.proofs.Runs.{at_start, one_further}
-
--- ---- a run that is held goes on
-
-going_work : (work : CWork) (purpose : CPurpose) → progress_at (evaluating work purpose) ≡ going
-going_work (finished operand) purpose = refl
-going_work (needs node operands) purpose = refl
-going_work (chooses node first) purpose = refl
-going_work (tests node marks second) purpose = refl
-going_work (carries node marks part) purpose = refl
-going_work (updates node update stage marks) purpose = refl
-going_work (fills node marks one others value) purpose = refl
-going_work (waits node marks) purpose = refl
-
-going_values : (work : Option Work) (purpose : CPurpose) → progress_at (values_in work purpose) ≡ going
-going_values None purpose = refl
-going_values (Some work) purpose = going_work (view_work work) purpose
-
-going_in : (machine : Machine) (one : Control) → progress_at (control_in machine one) ≡ going
-going_in machine (control.Begins one others) = refl
-going_in machine (control.Moves move) = refl
-going_in machine (control.Values purpose) = going_values machine.work _
-going_in machine (control.Takes callee params) = refl
-
-pub goes_on : (machine : Machine) (world : World) → progress_at (view_machine machine world).control ≡ going
-goes_on machine world = going_in machine machine.control
+use Rattle.cx_exec.proofs.Runs.{at_start, further_by, one_further}
 
 -- ---- its steps
 
@@ -68,18 +37,24 @@ begun program machine kept blocks limit host start kept_is empty =
     (subst (λ (memory : Blocks). Reached program machine.order.now 0 (view_machine machine) (start_around limit host) (around (record { trail = []; heap = [] }) memory limit host)) (sym empty)
     (at_start program machine.order.now (view_machine machine) (start_around limit host) start (goes_on machine) (λ world. refl)))
 
-pub further : (setting : CSetting) (order : List ℕ) (steps : ℕ) (old new : Machine) (first at later : Around) → IsSetting setting → Reached setting.program order steps (view_machine old) first at →
-    Comes (λ world. c_step setting (view_machine old world)) (view_machine new) at later → Reached setting.program order (suc steps) (view_machine new) first later
-further setting order steps old new first at later is reached comes =
-    one_further setting.program order steps (view_machine old) (view_machine new) first at later reached
-    (subst (λ (one : CSetting). Comes (λ (world : World). c_step one (view_machine old world)) (view_machine new) at later) is comes) (goes_on new) (λ world. refl)
+-- some steps, and one more
+pub further : (setting : CSetting) (order : List ℕ) (steps most count : ℕ) (old new : Machine) (first at later : Around) → IsSetting setting → Reached setting.program order steps (view_machine old) first at →
+    AdvancesBy setting most count (view_machine old) (Ok tt) (view_machine new) at later → Reached setting.program order (suc (count + steps)) (view_machine new) first later
+further setting order steps most count old new first at later is reached comes =
+    let by : AdvancesBy (setting_of setting.program) most count (view_machine old) (Ok tt) (view_machine new) at later =
+    subst (λ (one : CSetting). AdvancesBy one most count (view_machine old) (Ok tt) (view_machine new) at later) is comes in
+    one_further setting.program order (count + steps) by.1 (view_machine new) first by.2 later
+    (further_by setting.program order steps count (view_machine old) by.1 first at by.2 reached by.3) by.4 (goes_on new) (λ world. refl)
 
-pub stopped : (setting : CSetting) (order : List ℕ) (limit : Option Limit) (host : HostState) (steps given : ℕ) (old : Machine) (at later : Around) (next : World → CState) (why : Stop) → IsSetting setting →
-    Reached setting.program order steps (view_machine old) (start_around limit host) at → steps < given → Advances (λ world. c_step setting (view_machine old world)) (Err why) next at later →
-    (outcome : COutcome) → IsOutcome why outcome → IsRun (record { program = setting.program; order = order; limit = limit; trail = later.trail }) given host later.host outcome (taken_of why steps)
-stopped setting order limit host steps given old at later next why is reached less advances outcome outcome_is =
-    stopped_is setting.program order limit host steps (view_machine old) at reached given less later next why outcome outcome_is
-    (subst (λ (one : CSetting). Advances (λ (world : World). c_step one (view_machine old world)) (Err why) next at later) is advances)
+pub stopped : (setting : CSetting) (order : List ℕ) (limit : Option Limit) (host : HostState) (steps most count given : ℕ) (old : Machine) (at later : Around) (next : World → CState) (why : Stop) → IsSetting setting →
+    Reached setting.program order steps (view_machine old) (start_around limit host) at → most + steps ≤ given → AdvancesBy setting most count (view_machine old) (Err why) next at later →
+    (outcome : COutcome) → IsOutcome why outcome →
+    IsRun (record { program = setting.program; order = order; limit = limit; trail = later.trail }) given host later.host outcome (taken_of why (count + steps))
+stopped setting order limit host steps most count given old at later next why is reached less advances outcome outcome_is =
+    let by : AdvancesBy (setting_of setting.program) most count (view_machine old) (Err why) next at later =
+    subst (λ (one : CSetting). AdvancesBy one most count (view_machine old) (Err why) next at later) is advances in
+    stopped_is setting.program order limit host (count + steps) by.1 by.2
+    (further_by setting.program order steps count (view_machine old) by.1 (start_around limit host) at by.2 reached by.3) given (omega (arith, less, by.0)) later next why outcome outcome_is by.4
 
 -- ---- its end
 

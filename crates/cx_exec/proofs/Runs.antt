@@ -1,5 +1,6 @@
--- One step behind others.
-use Rattle.std.proofs.Common.{◌≡◌, ◌∙◌, refl, ap, arith, ℕ, zero, suc, ◌+◌, ◌<◌, ◌⊎◌, inl, inr, ℤ, List, [], ◌++◌, append_assoc}
+-- Steps behind others.
+use Rattle.std.proofs.Common.{◌≡◌, ◌∙◌, refl, ap, arith, ℕ, zero, suc, ◌+◌, ◌-◌, ◌<◌, ◌⊎◌, inl, inr, ℤ, List, [], ◌++◌, append_assoc}
+use Rattle.std.proofs.lemmas.Bool.{cases_lt}
 use Rattle.cr_world.specs.World.{World}
 use Rattle.cx_core.specs.Trees.{CProgram}
 use Rattle.cx_mean.specs.Run.{going, progress_at, c_after}
@@ -9,7 +10,8 @@ use Rattle.cx_mean.specs.Operands.{CStop}
 use Rattle.cx_outside.specs.Comes.{Comes}
 use Rattle.cx_outside.specs.States.{Around, world_at}
 use Rattle.cx_exec.specs.Steps.{Reached, start_in}
-use Rattle.cx_exec.proofs.Between.{both_between, none_between}
+use Rattle.cx_steps.specs.Several.{GoesBy}
+use Rattle.cx_exec.proofs.Between.{both_between, none_between, quiet_between}
 
 -- a number is below another, or so much more
 pub last_or_before : (n k : ℕ) → n < suc k → (n < k) ⊎ (n ≡ k)
@@ -61,6 +63,42 @@ module _ (program : CProgram) (order : List ℕ) (steps : ℕ) (now next : World
     went_on = went_further;
     goes_on = goes_on;
     stands_in = stands_in;
+  }
+
+-- ---- steps behind others that the outside takes no part in
+
+after_both : (setting : CSetting) (more steps : ℕ) (state : CState) → c_after setting (more + steps) state ≡ c_after setting more (c_after setting steps state)
+after_both setting zero steps state = let none : zero + steps ≡ steps = omega arith in ap (λ (n : ℕ). c_after setting n state) none
+after_both setting (suc more) steps state =
+    let one_more : suc more + steps ≡ suc (more + steps) = omega arith in
+    ap (λ (n : ℕ). c_after setting n state) one_more ∙ ap (λ (one : CState). c_step setting one) (after_both setting more steps state)
+
+module _ (program : CProgram) (order : List ℕ) (steps count : ℕ) (now next : World → CState) (first at later : Around)
+    (reached : Reached program order steps now first at) (goes : GoesBy (setting_of program) count now next at later) where
+  abbrev start : List ℤ → CState
+  start ahead = start_in program order (world_at first [] (reached.between.answers ++ ahead))
+
+  both_are : (ahead : List ℤ) (more : ℕ) → c_after (setting_of program) (more + steps) (start ahead) ≡ c_after (setting_of program) more (now (world_at at reached.between.calls ahead))
+  both_are ahead more = after_both (setting_of program) more steps (start ahead) ∙ ap (λ (state : CState). c_after (setting_of program) more state) (reached.goes ahead)
+
+  went_by : (ahead : List ℤ) (fewer : ℕ) → fewer < count + steps → progress_at (c_after (setting_of program) fewer (start ahead)).control ≡ going
+  went_by ahead fewer less = elim (cases_lt fewer steps) [
+    | inl before ↦ reached.went_on ahead fewer before
+    | inr behind ↦
+        let same : fewer ≡ (fewer - steps) + steps = omega (arith, behind) in
+        ap (λ (n : ℕ). progress_at (c_after (setting_of program) n (start ahead)).control) same
+        ∙ ap (λ (state : CState). progress_at state.control) (both_are ahead (fewer - steps))
+        ∙ goes.went_on reached.between.calls ahead (fewer - steps) (omega (arith, less, behind))
+  ]
+
+  -- so many more
+  pub further_by : Reached program order (count + steps) next first later
+  further_by = record {
+    between = quiet_between first at later reached.between goes.quiet;
+    goes = λ ahead. both_are ahead count ∙ goes.goes reached.between.calls ahead;
+    went_on = went_by;
+    goes_on = goes.goes_on;
+    stands_in = goes.stands_in;
   }
 
 -- before the first step

@@ -18,7 +18,7 @@ use cx_layout::{LayoutFault, Layouts, types_are_grounded};
 use cx_machine::{Control, Machine, Stop, goes_to_statics};
 use cx_moves::{Move, Site};
 use cx_outside::Kept;
-use cx_steps::take;
+use cx_steps::take_some;
 use ext_calls::Host;
 use mem_bytes::Store;
 use std::alloc::Global;
@@ -99,13 +99,22 @@ fn steps_on<'a, S: Store, H: Host>(
 {
     let mut taken = 0;
     while taken < steps {
-        if let Err(stop) = take(kept, machine, store, host, setting) {
+        let mut before = 0;
+        if let Err(stop) = take_some(
+            kept,
+            machine,
+            store,
+            host,
+            setting,
+            steps - taken,
+            &mut before,
+        ) {
             return Far {
-                taken,
+                taken: taken + before,
                 stop: Some(stop),
             };
         }
-        taken += 1;
+        taken += before + 1;
     }
     Far { taken, stop: None }
 }

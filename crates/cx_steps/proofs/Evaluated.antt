@@ -1,5 +1,5 @@
 -- A full expression that takes a step, as a step of a run.
-use Rattle.std.proofs.Common.{◌≡◌, ◌∙◌, refl, sym, ap, subst, arith, ℕ, ℤ, Bor, true, List, [], ◌++◌, map, Option, Some, None, option_map, Result, Ok, Err, append-nil}
+use Rattle.std.proofs.Common.{◌≡◌, ◌∙◌, refl, sym, ap, subst, arith, ℕ, zero, suc, ℤ, Bor, true, List, [], ◌++◌, map, Option, Some, None, option_map, Result, Ok, Err, append-nil}
 use Rattle.cr_base.specs.declared.refusal.Place.{Place}
 use Rattle.cr_base.specs.declared.rule.URule.{URule}
 use Rattle.cr_world.specs.World.{World, with_memory, blocks_of, trail_of, full, asks}
@@ -7,8 +7,9 @@ use Rattle.cx_core.specs.declared.program.Fun.{Fun}
 use Rattle.cx_core.specs.declared.program.Outer.{Outer}
 use Rattle.cx_core.specs.Trees.{CPut, put, CPuts}
 use Rattle.cx_core.specs.Views.{puts_of, view_put}
-use Rattle.cr_base.specs.declared.memory.Memory.{Memory}
 use Rattle.cx_eval.specs.declared.step.Next.{Next}
+use Rattle.cx_eval.specs.declared.step.Next.TheVariants as next
+use Rattle.cx_eval.specs.Next.{Takes}
 use Rattle.cx_machine.specs.Answers.{held_work, answered_with}
 use Rattle.cx_machine.specs.declared.machine.Caller.{Caller}
 use Rattle.cx_machine.specs.declared.machine.Machine.{Machine}
@@ -21,7 +22,8 @@ use Rattle.cx_mean.specs.Moves.{CPurpose, slots_in}
 use Rattle.cx_mean.specs.Operands.{breaks, stops, Frame}
 use Rattle.cx_mean.specs.Settings.{CSetting}
 use Rattle.cx_mean.specs.State.{CControl, CCaller, CState, has_ended, has_stopped, after_step, calling, called_own, expression_step, frame_for, going_on}
-use Rattle.cx_mean.specs.Steps.{CStepped, did, asks_call, step_at}
+use Rattle.cx_mean.specs.Steps.{CPick, CStepped, did, asks_call, picked, step_at}
+use Rattle.cx_mean.specs.Work.{CWork, ready}
 use Rattle.cx_moves.specs.declared.moves.Behind.{Behind}
 use Rattle.cx_moves.specs.declared.moves.Behind.TheVariants as behind
 use Rattle.cx_moves.specs.declared.moves.Purpose.{Purpose}
@@ -32,8 +34,7 @@ use Rattle.cx_outside.specs.Comes.{Comes}
 use Rattle.cx_outside.specs.States.{Around, KeptState, Quiet, around, world_at}
 use Rattle.cx_outside.specs.declared.outside.Lack.TheVariants as lack
 use Rattle.cx_steps.specs.Choices.{is_in_body, scope_frame, stands_in_body}
-use Rattle.cx_steps.specs.Picks.{HasStepped, IsStepped, pick_in}
-use Rattle.cx_steps.proofs.Advancing.{quiet_at}
+use Rattle.cx_steps.specs.Picks.{Follows}
 use Rattle.cx_steps.proofs.Alike.{going_anywhere, step_alike, stands_at}
 use Rattle.cx_work.specs.declared.operand.Called.{Called}
 use Rattle.cx_work.specs.declared.operand.Callee.{Callee}
@@ -47,6 +48,10 @@ use Rattle.mem_bytes.specs.Memory.{Blocks}
 
 -- ---- a step that goes on where another does, from a later memory
 
+quiet_from : (kept : KeptState) (before mid : Blocks) (limit mid_limit : Option Limit) (host : HostState) (after : Around) → mid_limit ≡ limit → Quiet (around kept mid mid_limit host) after → Quiet (around kept before limit host) after
+quiet_from kept before mid limit mid_limit host after limit_is one =
+    record { trail = one.trail; made = one.made; left = one.left; limit = one.limit ∙ limit_is; takes = one.takes; later = one.later }
+
 module _ (piece other : World → CState) (kept : KeptState) (before mid : Blocks) (limit mid_limit : Option Limit) (host : HostState) (limit_is : mid_limit ≡ limit)
     (same : (made : List Made) (ahead : List ℤ) → piece (world_at (around kept before limit host) made ahead) ≡ other (world_at (around kept mid mid_limit host) made ahead)) where
   abbrev first : Around
@@ -56,7 +61,7 @@ module _ (piece other : World → CState) (kept : KeptState) (before mid : Block
   second = around kept mid mid_limit host
 
   quiet_first : (after : Around) → Quiet second after → Quiet first after
-  quiet_first after one = record { trail = one.trail; made = one.made; left = one.left; limit = one.limit ∙ limit_is; takes = one.takes; later = one.later }
+  quiet_first after one = quiet_from kept before mid limit mid_limit host after limit_is one
 
   stopped_first : (control : CControl) (made : List Made) (ahead : List ℤ) → IsStopped control made ahead (other (world_at second made ahead)) → IsStopped control made ahead (piece (world_at first made ahead))
   stopped_first control made ahead is = subst (λ (state : CState). IsStopped control made ahead state) (sym (same made ahead)) is
@@ -119,27 +124,41 @@ frame_is machine (purpose.Chooses place) state is = in_body_is machine state is
 abbrev state_with : CControl → Frame → List CCaller → World → List ℕ → CState
 state_with control statics callers world order = record { control = control; statics = statics; callers = callers; world = world; order = order }
 
-module _ (setting : CSetting) (old mid : Machine) (one : Purpose) (order_is : mid.order.now ≡ (pick_in old).order) (site_is : mid.site ≡ old.site) (statics_are : mid.statics ≡ old.statics)
-    (callers_are : mid.callers ≡ old.callers) where
+-- which ready node goes next where no number of the order is left
+none_picked : (count : ℕ) → picked [] count ≡ record { pick = 0; order = [] }
+none_picked zero = refl
+none_picked (suc zero) = refl
+none_picked (suc (suc count)) = refl
+
+pub first_picked : (order : List ℕ) (count : ℕ) → order ≡ [] → picked order count ≡ record { pick = 0; order = order }
+first_picked order count is = subst (λ (list : List ℕ). picked list count ≡ record { pick = 0; order = list }) (sym is) (none_picked count)
+
+-- of a tree in a state of the machine, wherever it stands, at a node that is picked
+module _ (setting : CSetting) (old mid : Machine) (one : Purpose) (control : CControl) (work : CWork) (pick : CPick) (picks : picked old.order.now (ready work) ≡ pick)
+    (order_is : mid.order.now ≡ pick.order) (site_is : mid.site ≡ old.site) (statics_are : mid.statics ≡ old.statics) (callers_are : mid.callers ≡ old.callers) where
   abbrev purpose_in : CPurpose
   purpose_in = view_purpose (view_site old.site) one
 
+  abbrev standing : World → CState
+  standing world = stands_at control (view_machine old world)
+
   abbrev piece : World → CState
-  piece world = expression_step setting (view_machine old world) (held_work old.work) purpose_in
+  piece world = expression_step setting (standing world) work purpose_in
 
   abbrev ordered : World → CState
-  ordered world = record (view_machine old world) { order = (pick_in old).order }
+  ordered world = record (standing world) { order = pick.order }
 
   mid_is : (world : World) → stands_at (view_control mid) (ordered world) ≡ view_machine mid world
   mid_is world =
-      ap (λ (frame : Frame). state_with (view_control mid) frame (callers_of old.callers) world (pick_in old).order) (sym statics_are)
-      ∙ ap (λ (callers : List Caller). state_with (view_control mid) mid.statics (callers_of callers) world (pick_in old).order) (sym callers_are)
+      ap (λ (frame : Frame). state_with (view_control mid) frame (callers_of old.callers) world pick.order) (sym statics_are)
+      ∙ ap (λ (callers : List Caller). state_with (view_control mid) mid.statics (callers_of callers) world pick.order) (sym callers_are)
       ∙ ap (λ (order : List ℕ). state_with (view_control mid) mid.statics (callers_of mid.callers) world order) (sym order_is)
 
-  evaluated : (world : World) (found : CStepped) → step_at setting (scope_frame old (stands_in_body one)) (blocks_of world) (pick_in old).pick (held_work old.work) ≡ found →
+  evaluated : (world : World) (found : CStepped) → step_at setting (scope_frame old (stands_in_body one)) (blocks_of world) pick.pick work ≡ found →
       piece world ≡ after_step setting (view_machine mid world) purpose_in found
   evaluated world found is =
-      ap (λ (frame : Frame). after_step setting (ordered world) purpose_in (step_at setting frame (blocks_of world) (pick_in old).pick (held_work old.work))) (frame_is old one (ordered world) refl)
+      ap (λ (choice : CPick). after_step setting (record (standing world) { order = choice.order }) purpose_in (step_at setting (frame_for (standing world) purpose_in) (blocks_of world) choice.pick work)) picks
+      ∙ ap (λ (frame : Frame). after_step setting (ordered world) purpose_in (step_at setting frame (blocks_of world) pick.pick work)) (frame_is old one (standing world) refl)
       ∙ ap (λ (result : CStepped). after_step setting (ordered world) purpose_in result) is
       ∙ sym (step_alike (ordered world) (view_control mid) setting purpose_in found)
       ∙ ap (λ (state : CState). after_step setting state purpose_in found) (mid_is world)
@@ -148,7 +167,7 @@ module _ (setting : CSetting) (old mid : Machine) (one : Purpose) (order_is : mi
   inner_is = ap (λ (site : Site). view_purpose (view_site site) one) site_is
 
   module _ (result : Result (Unit {0}) Stop) (next_state : World → CState) (kept : KeptState) (before later : Blocks) (limit mid_limit : Option Limit) (host : HostState) (limit_is : mid_limit ≡ limit) (after : Around) where
-    pub was_stepped : step_at setting (scope_frame old (stands_in_body one)) before (pick_in old).pick (held_work old.work) ≡ Ok (did (held_work mid.work) later) →
+    was_stepped : step_at setting (scope_frame old (stands_in_body one)) before pick.pick work ≡ Ok (did (held_work mid.work) later) →
         Advances (λ world. going_on (view_machine mid world) world (held_work mid.work) (view_purpose (view_site mid.site) one)) result next_state (around kept later mid_limit host) after →
         Advances piece result next_state (around kept before limit host) after
     was_stepped is goes =
@@ -162,7 +181,7 @@ module _ (setting : CSetting) (old mid : Machine) (one : Purpose) (order_is : mi
         ∙ ap (λ (inner : CPurpose). going_on (view_machine mid there) there (held_work mid.work) inner) (sym inner_is))
         result next_state after goes
 
-    pub was_called : (called : Called) → step_at setting (scope_frame old (stands_in_body one)) before (pick_in old).pick (held_work old.work) ≡ Ok (asks_call (view_called called) (held_work mid.work)) → later ≡ before →
+    was_called : (called : Called) → step_at setting (scope_frame old (stands_in_body one)) before pick.pick work ≡ Ok (asks_call (view_called called) (held_work mid.work)) → later ≡ before →
         Advances (λ world. calling setting (view_machine mid world) (held_work mid.work) (view_purpose (view_site mid.site) one) (view_called called) (view_called called).callee) result next_state
         (around kept later mid_limit host) after → Advances piece result next_state (around kept before limit host) after
     was_called called is memory goes =
@@ -175,23 +194,23 @@ module _ (setting : CSetting) (old mid : Machine) (one : Purpose) (order_is : mi
         ∙ ap (λ (inner : CPurpose). calling setting (view_machine mid (world_at (around kept later mid_limit host) made ahead)) (held_work mid.work) inner (view_called called) (view_called called).callee) (sym inner_is))
         result next_state after goes
 
-  pub was_undefined : (rule : URule) (place : Place) (next_state : World → CState) (kept : KeptState) (before later : Blocks) (limit later_limit : Option Limit) (host : HostState) → later_limit ≡ limit →
-      step_at setting (scope_frame old (stands_in_body one)) before (pick_in old).pick (held_work old.work) ≡ Err (record { why = breaks rule; place = place }) →
-      Advances piece (Err (stop.Undefined rule place)) next_state (around kept before limit host) (around kept later later_limit host)
-  was_undefined rule place next_state kept before later limit later_limit host limit_is is = record {
-    quiet = quiet_at kept before later limit later_limit host limit_is;
-    stops = λ made ahead.
-        subst (λ (state : CState). IsStopped (has_stopped (stops (breaks rule) place)) made ahead state)
-        (sym (evaluated (world_at (around kept before limit host) made ahead) (Err (record { why = breaks rule; place = place })) is))
-        (record { control_is = refl; made_is = refl; answers_are = refl });
-  }
+    was_undefined : (rule : URule) (place : Place) → step_at setting (scope_frame old (stands_in_body one)) before pick.pick work ≡ Err (record { why = breaks rule; place = place }) →
+        Quiet (around kept later mid_limit host) after → Advances piece (Err (stop.Undefined rule place)) next_state (around kept before limit host) after
+    was_undefined rule place is quiet = record {
+      quiet = quiet_from kept before later limit mid_limit host after limit_is quiet;
+      stops = λ made ahead.
+          subst (λ (state : CState). IsStopped (has_stopped (stops (breaks rule) place)) made ahead state)
+          (sym (evaluated (world_at (around kept before limit host) made ahead) (Err (record { why = breaks rule; place = place })) is))
+          (record { control_is = refl; made_is = refl; answers_are = refl });
+    }
 
--- a step by what is known of it
-pub known_step : (result : Result Next Memory) (setting : CSetting) (old mid : Machine) (one : Purpose) (before later : Blocks) (which : Next) (field : Next) → result ≡ Ok field → field ≡ which →
-    IsStepped result setting old mid one before later → HasStepped (Ok which) setting old mid one before later
-known_step result setting old mid one before later which field is field_is stepped =
-    subst (λ (next_is : Next). HasStepped (Ok next_is) setting old mid one before later) field_is
-    (subst (λ (found : Result Next Memory). IsStepped found setting old mid one before later) is stepped)
+    -- a step, and what follows behind it
+    pub followed : (which : Next) → Takes (Ok which) setting (scope_frame old (stands_in_body one)) before later pick.pick work (held_work mid.work) →
+        Follows which result setting mid one next_state (around kept later mid_limit host) after → Advances piece result next_state (around kept before limit host) after
+    followed next.Stepped takes goes = was_stepped takes.1 goes
+    followed (next.Calls called) takes goes = was_called called takes.1 takes.2 goes
+    followed (next.Undefined rule place) takes goes =
+        subst (λ (found : Result (Unit {0}) Stop). Advances piece found next_state (around kept before limit host) after) (sym goes.0) (was_undefined rule place takes.1 goes.1)
 
 -- ---- calls
 

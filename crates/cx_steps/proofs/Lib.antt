@@ -3,3 +3,4 @@ mod Alike
 mod Begun
 mod Evaluated
 mod Going
+pub mod Several

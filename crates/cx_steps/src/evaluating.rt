@@ -1,6 +1,6 @@
-//! Full expressions that take a step (ISO C99, 5.1.2.3 and 6.5).
+//! Full expressions that take steps (ISO C99, 5.1.2.3 and 6.5).
 
-ghost use Rattle.std.specs.Prelude.{◌≡◌, IfSome};
+ghost use Rattle.std.specs.Prelude.{◌≡◌, ◌<◌, [], IfSome};
 ghost use Rattle.cx_access.specs.Views.{view_setting};
 ghost use Rattle.cx_machine.specs.Answers.{held_work};
 ghost use Rattle.cx_machine.specs.Machines.{view_machine};
@@ -11,13 +11,14 @@ ghost use Rattle.cx_mean.specs.Work.{ready};
 ghost use Rattle.cx_moves.specs.Sites.{view_purpose, view_site};
 ghost use Rattle.cx_outside.specs.States.{around};
 ghost use Rattle.cx_steps.specs.Choices.{stands_in_body};
-ghost use Rattle.cx_steps.specs.Picks.{IsHeld, IsStepped};
+ghost use Rattle.cx_steps.specs.Picks.{Follows, IsGone, IsHeld, IsStepped, evaluating_in};
+ghost use Rattle.cx_steps.specs.Several.{AdvancesBy};
 ghost use Rattle.cx_work.specs.Views.{view_called, view_work};
 
 use crate::uses::{is_in_body, scope_of};
 use cr_base::Memory;
 use cx_access::Setting;
-use cx_eval::{Next, take_step_in};
+use cx_eval::{Last, Next, take_step_in, take_steps_in};
 use cx_machine::{Machine, Stop, calls_defined, calls_external, goes_on};
 use cx_moves::Purpose;
 use cx_outside::{Kept, Lack};
@@ -89,6 +90,27 @@ fn steps<'a, S: Store>(
     next
 }
 
+// The full expression that is held takes steps at its leftmost ready nodes, `most` at most.
+fn steps_on<'a, S: Store>(
+    alloc: Global,
+    machine: &mut Machine<'a>,
+    store: &mut S,
+    setting: &Setting<'a>,
+    purpose: Purpose<'a>,
+    most: u64,
+) -> Result<Last<'a>, Memory>
+    ensures steps { IsGone result (view_setting setting.now) machine.old machine.new purpose.entry (S.memory store.old) (S.memory store.new) most }
+    ensures limit { S.limit store.new ≡ S.limit store.old }
+{
+    let Some(mut work) = machine.work.take() else {
+        return Err(Memory);
+    };
+    let objects = scope_of(machine, stands_in_body(purpose));
+    let last = take_steps_in(alloc, work.get_mut(), most, &objects, setting, store);
+    machine.work = Some(work);
+    last
+}
+
 // A function is called from the full expression that is held.
 fn calls<'a, S: Store, H: Host>(
     kept: &mut Kept,
@@ -134,6 +156,35 @@ fn goes_further<'a, S: Store>(
     }
 }
 
+// What comes of the last step of the full expression that is held is next.
+fn follows<'a, S: Store, H: Host>(
+    kept: &mut Kept,
+    machine: &mut Machine<'a>,
+    store: &mut S,
+    host: &mut H,
+    setting: &Setting<'a>,
+    purpose: Purpose<'a>,
+    next: Next<'a>,
+) -> Result<(), Stop<'a>>
+    requires { IsHeld machine.old.work }
+    ensures { Follows next.entry result (view_setting setting.now) machine.old purpose.entry (view_machine machine.new)
+        (around kept.old (S.memory store.old) (S.limit store.old) (H.state host.old)) (around kept.new (S.memory store.new) (S.limit store.new) (H.state host.new)) }
+{
+    match next {
+        Next::Stepped => goes_further(kept.alloc(), machine, store, purpose),
+        Next::Calls(called) => calls(
+            kept,
+            machine,
+            store,
+            host,
+            setting,
+            purpose,
+            called.into_inner(),
+        ),
+        Next::Undefined(rule, place) => Err(Stop::Undefined(rule, place)),
+    }
+}
+
 /// The full expression that is held takes a step, and what comes of it is next.
 ///
 /// # Errors
@@ -152,17 +203,40 @@ pub(crate) fn evaluates<'a, S: Store, H: Host>(
         (around kept.old (S.memory store.old) (S.limit store.old) (H.state host.old)) (around kept.new (S.memory store.new) (S.limit store.new) (H.state host.new)) }
 {
     match steps(kept.alloc(), machine, store, setting, purpose) {
-        Ok(Next::Stepped) => goes_further(kept.alloc(), machine, store, purpose),
-        Ok(Next::Calls(called)) => calls(
-            kept,
-            machine,
-            store,
-            host,
-            setting,
-            purpose,
-            called.into_inner(),
-        ),
-        Ok(Next::Undefined(rule, place)) => Err(Stop::Undefined(rule, place)),
+        Ok(next) => follows(kept, machine, store, host, setting, purpose, next),
         Err(_) => Err(Stop::Lacks(Lack::Memory)),
+    }
+}
+
+/// The full expression that is held takes steps without an order, `most` at most, and what comes of the last one is next. How many were taken before
+/// that one is set down; where memory is wanting, that is 0, whatever was taken.
+///
+/// # Errors
+///
+/// As `evaluates`, behind the steps before the last one.
+pub(crate) fn evaluates_on<'a, S: Store, H: Host>(
+    kept: &mut Kept,
+    machine: &mut Machine<'a>,
+    store: &mut S,
+    host: &mut H,
+    setting: &Setting<'a>,
+    purpose: Purpose<'a>,
+    most: u64,
+    before: &mut u64,
+) -> Result<(), Stop<'a>>
+    requires most { 0 < most }
+    requires order { machine.old.order.now ≡ [] }
+    ensures { AdvancesBy (view_setting setting.now) most before.new (λ world. evaluating_in (view_machine machine.old world) (held_work machine.old.work) (view_purpose (view_site machine.old.site) purpose.entry)) result (view_machine machine.new)
+        (around kept.old (S.memory store.old) (S.limit store.old) (H.state host.old)) (around kept.new (S.memory store.new) (S.limit store.new) (H.state host.new)) }
+{
+    match steps_on(kept.alloc(), machine, store, setting, purpose, most) {
+        Ok(last) => {
+            *before = last.before;
+            follows(kept, machine, store, host, setting, purpose, last.next)
+        }
+        Err(_) => {
+            *before = 0;
+            Err(Stop::Lacks(Lack::Memory))
+        }
     }
 }

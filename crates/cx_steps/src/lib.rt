@@ -8,4 +8,4 @@ mod params;
 mod step;
 mod uses;
 
-pub use step::take;
+pub use step::take_some;

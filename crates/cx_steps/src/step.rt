@@ -1,19 +1,20 @@
-//! One step of a run (ISO C99, 5.1.2.3).
+//! The next step of a run, and several at once without an order (ISO C99, 5.1.2.3).
 
-ghost use Rattle.std.specs.Prelude.{◌≡◌, None, IfOk, IfSome};
+ghost use Rattle.std.specs.Prelude.{◌≡◌, ◌<◌, None, IfOk, IfSome};
 ghost use Rattle.cx_access.specs.Views.{view_setting};
 ghost use Rattle.cx_machine.specs.Machines.{is_over, values_in, view_machine};
 ghost use Rattle.cx_machine.specs.Steps.{Advances, StoreAdvances};
 ghost use Rattle.cx_mean.specs.State.{c_step, move_step, step_of};
 ghost use Rattle.cx_moves.specs.Sites.{view_left, view_move, view_purpose, view_site};
 ghost use Rattle.cx_steps.specs.Moved.{MovesOn};
-ghost use Rattle.cx_steps.specs.Picks.{GivesValue, IsValueOf};
+ghost use Rattle.cx_steps.specs.Picks.{GivesValue, IsUnordered, IsValueOf};
+ghost use Rattle.cx_steps.specs.Several.{AdvancesBy};
 ghost use Rattle.cx_outside.specs.States.{around};
 ghost use Rattle.cx_work.specs.Views.{view_finished, view_work};
 
 use crate::bodies::{begins, reaches};
 use crate::entry::calls_main;
-use crate::evaluating::evaluates;
+use crate::evaluating::{evaluates, evaluates_on};
 use crate::params::takes;
 use crate::uses::uses;
 use cr_base::{Int, Memory};
@@ -174,7 +175,7 @@ fn values<'a, S: Store, H: Host>(
 /// # Errors
 ///
 /// Why it goes no further.
-pub fn take<'a, S: Store, H: Host>(
+fn take<'a, S: Store, H: Host>(
     kept: &mut Kept,
     machine: &mut Machine<'a>,
     store: &mut S,
@@ -191,5 +192,50 @@ pub fn take<'a, S: Store, H: Host>(
         Control::Moves(one) => moves(kept.alloc(), machine, store, setting, one),
         Control::Values(purpose) => values(kept, machine, store, host, setting, purpose),
         Control::Takes(fun, params) => { takes(kept.alloc(), machine, store, setting, fun, params) }
+    }
+}
+
+// What the full expression is for that takes the next step, where no number of the order is left.
+fn unordered<'a>(machine: &Machine<'a>) -> Option<Purpose<'a>>
+    ensures { IfSome result (λ purpose. IsUnordered machine.now purpose) }
+{
+    if !machine.order.is_empty() {
+        return None;
+    }
+    let Control::Values(purpose) = machine.control else {
+        return None;
+    };
+    match is_over(&machine.work) {
+        Some(true) => None,
+        Some(false) => Some(purpose),
+        None => None,
+    }
+}
+
+/// The run takes its next step, and without an order perhaps some before it, which are steps of one full expression; all of them together
+/// are `most` at most. How many were taken before the last one is set down; where memory is wanting, that is 0, whatever was taken.
+///
+/// # Errors
+///
+/// Why it goes no further behind those before the last one.
+pub fn take_some<'a, S: Store, H: Host>(
+    kept: &mut Kept,
+    machine: &mut Machine<'a>,
+    store: &mut S,
+    host: &mut H,
+    setting: &Setting<'a>,
+    most: u64,
+    before: &mut u64,
+) -> Result<(), Stop<'a>>
+    requires { 0 < most }
+    ensures { AdvancesBy (view_setting setting.now) most before.new (view_machine machine.old) result (view_machine machine.new)
+        (around kept.old (S.memory store.old) (S.limit store.old) (H.state host.old)) (around kept.new (S.memory store.new) (S.limit store.new) (H.state host.new)) }
+{
+    match unordered(machine) {
+        Some(purpose) => evaluates_on(kept, machine, store, host, setting, purpose, most, before),
+        None => {
+            *before = 0;
+            take(kept, machine, store, host, setting)
+        }
     }
 }

@@ -1,7 +1,7 @@
 use Rattle.std.proofs.Common.{ℕ, ◌≡◌, ◌<◌, ◌+◌, subst, drop, set}
 use Rattle.cx_access.specs.Views.{view_setting}
 use Rattle.cx_work.specs.Weights.{weight, weights}
-use Rattle.cx_eval.proofs.Bridged.{first_reached, rest_reached, weight_behind, weight_below}
+use Rattle.cx_eval.proofs.Bridged.{first_walked, rest_reached, weight_behind, weight_below}
 use Rattle.cx_eval.proofs.walk.+walk.Goals as goal
 
 below : {index count other : ℕ} → index < count → count ≡ other → index < other
@@ -9,7 +9,7 @@ below {index = index} within is = subst (λ (most : ℕ). index < most) is withi
 
 pub walk_from-returns-in-None-clause-reaches : goal.walk_from-returns-in-None-clause-reaches
 walk_from-returns-in-None-clause-reaches g t c =
-    first_reached (view_setting c.args.setting.now) (g.O.Objects.frame c.args.objects.now) (g.S.Store.memory c.args.store.now) (g.S.Store.memory c.walk.new.store) c.args.pick c.args.index
+    first_walked (view_setting c.args.setting.now) (g.O.Objects.frame c.args.objects.now) (g.S.Store.memory c.args.store.now) (g.S.Store.memory c.walk.new.store) c.args.pick c.args.index
     c.args.operands.now c.at_mut.result.now c.walk.new.work (below c.if-index-len.false c.len.ensures) c.at_mut.ensures.value c.walk.new.taken c.in-None.ensures.reaches
 
 pub walk_from-returns-in-Some-clause-reaches : goal.walk_from-returns-in-Some-clause-reaches

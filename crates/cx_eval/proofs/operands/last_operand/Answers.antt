@@ -1,5 +1,0 @@
-use Rattle.cx_eval.proofs.Lasts.{operand_found}
-use Rattle.cx_eval.proofs.operands.last_operand.Goals as goal
-
-pub returns-in-Some : goal.returns-in-Some
-returns-in-Some c = operand_found _ _ _ _ c.in-Some.ensures.items c.operand_of.ensures

@@ -1,0 +1,7 @@
+mod Filled
+mod Lasts
+mod Meant
+pub mod Opened
+mod Outcomes
+mod Pointed
+mod Staged
