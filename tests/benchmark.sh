@@ -19,10 +19,11 @@
 #    a byte; the time of a row without statements is taken off.
 # 7. How many units a second a run of a crate takes, by the rows: of a loop of 5,000,000 turns with one comparison and one addition
 #    each, over a list store; the time of a row of one turn is taken off.
-# 8. How long `run-c` takes and how much memory, with its start: of a loop of 10,000,000 steps, and of a list of 500,000 nodes that is made, added up and
-#    freed.
-# 9. `transpile` against `gcc -fsyntax-only` on large units, each with its start: 70,000 objects, 20,000 members, 400 levels of blocks, and 64 units of
-#    1 MiB; and the same of a quarter of each.
+# 8. How long `run-c` takes and how much memory, with its start: of a loop of 10,000,000 steps, of a loop with a sum of 65 locals for as many, and of a
+#    list of 500,000 nodes that is made, added up and freed.
+# 9. `transpile` against `gcc -fsyntax-only` on large units, each with its start: 70,000 objects, 20,000 members, 400 levels of blocks, an array of 40,000
+#    values whose last one goes back to the first element, and 64 units of 1 MiB; and the same of a quarter of each. The units of 1 MiB are timed once
+#    more with jemalloc in place of the C library's allocator, where it is there.
 set -u
 top=$(cd "$(dirname "$0")/.." && pwd)
 work=$(mktemp -d) || exit 1
@@ -328,6 +329,14 @@ int main(void)
 }
 C
   timed 'run-c of a loop, 10 million steps' run-c --steps 10000000 loop.c
+  awk 'BEGIN {
+    print "int main(void)\n{\n    int sum = 0, i;"
+    for (n = 0; n < 65; n++) printf "    int a%d = %d;\n", n, n % 7
+    printf "    for (i = 0; i < 100000; i++)\n        sum = a0"
+    for (n = 1; n < 65; n++) printf " + a%d", n
+    print ";\n    return sum == 0;\n}"
+  }' >"$work/sums.c"
+  timed 'run-c of sums of 65 locals, 10 million steps' run-c --steps 10000000 sums.c
   timed 'run-c of a list of 500,000 nodes' run-c --steps 1000000000 nodes.c
 
   # A unit of COUNT objects, of a structure of COUNT members, of COUNT levels of blocks, and of SIZE bytes of functions.
@@ -345,11 +354,13 @@ C
     }'
   }
 
+  back() { awk -v n="$1" 'BEGIN { print "int a[] = {"; for (i = 0; i < n; i++) printf "%d,\n", i; print "[0] = 1 }; int main(void) { return a[1]; }" }'; }
+
   # large NAME FILE..: the time of the program and its ratio to that of gcc.
   large() {
     local name=$1 ours theirs
     shift
-    ours=$(cd "$work" && /usr/bin/time -f '%e %M' "$program" transpile -o large "$@" 2>&1 >/dev/null | tail -1)
+    ours=$(cd "$work" && LD_PRELOAD=${allocator:-} /usr/bin/time -f '%e %M' "$program" transpile -o large "$@" 2>&1 >/dev/null | tail -1)
     theirs=$(cd "$work" && /usr/bin/time -f '%e' gcc -std=c99 -fsyntax-only "$@" 2>&1 >/dev/null | tail -1)
     awk -v name="$name" -v ours="$ours" -v theirs="$theirs" 'BEGIN {
       split(ours, part, " ")
@@ -359,6 +370,8 @@ C
   for count in 17500 70000; do objects $count >"$work/large.c"; large "$count objects" large.c; done
   for count in 5000 20000; do members $count >"$work/large.c"; large "$count members" large.c; done
   for count in 100 400; do levels $count >"$work/large.c"; large "$count levels of blocks" large.c; done
+  for count in 10000 40000; do back $count >"$work/large.c"; large "$count values and one back" large.c; done
+  jemalloc=$(ldconfig -p 2>/dev/null | awk '/libjemalloc/ { print $NF; exit }')
   for count in 16 64; do
     names=()
     for unit in $(seq 0 $((count - 1))); do
@@ -366,6 +379,7 @@ C
       names+=("large$unit.c")
     done
     large "$count units of 1 MiB" "${names[@]}"
+    [ -z "$jemalloc" ] || allocator=$jemalloc large "$count units of 1 MiB, with jemalloc" "${names[@]}"
   done
 else
   echo "skipped: runs of C and large units (/usr/bin/time isn't there)"

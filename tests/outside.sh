@@ -267,12 +267,12 @@ straight_mutants() {
   fi
 }
 
-# A script of tests/ that compares what a program of rows answers: its title, its name, the program and the tools that it needs.
+# A script of tests/ that compares what a program answers: its title, its name, the option for the program, the program, and the tools that it needs.
 compared() {
-  local said title=$1 script=$2 answers=$3
-  shift 3
+  local said title=$1 script=$2 option=$3 answers=$4
+  shift 4
   tools_for "$title" python3 "$@" || return
-  if ! said=$(python3 "$top/tests/$script" --rows "$answers" 2>&1); then
+  if ! said=$(python3 "$top/tests/$script" "$option" "$answers" 2>&1); then
     bad "$title: $said"
   else
     ok "$title: $said"
@@ -281,27 +281,27 @@ compared() {
 
 # Units near C99: those have a syntax tree in which gcc finds no syntax error, but for kinds of difference that are known.
 syntax_mutants() {
-  compared 'units near C99' syntax_mutants.py "$text_rows" gcc
+  compared 'units near C99' syntax_mutants.py --rows "$text_rows" gcc
 }
 
 # Random expressions: those break a constraint in which gcc finds an error, the profile's own rules apart.
 random_expressions() {
-  compared 'random expressions' expressions.py "$check_rows" gcc
+  compared 'random expressions' expressions.py --rows "$check_rows" gcc
 }
 
 # Random compound literals: those break a constraint in which gcc finds an error, and the others are as long.
 random_initialisers() {
-  compared 'random compound literals' initialisers.py "$check_rows" gcc
+  compared 'random compound literals' initialisers.py --rows "$check_rows" gcc
 }
 
 # Units near those of the profile: those break a rule in which gcc finds an error, but for kinds of difference that are known.
 unit_mutants() {
-  compared 'mutants of units' unit_mutants.py "$check_rows" gcc
+  compared 'mutants of units' unit_mutants.py --rows "$check_rows" gcc
 }
 
 # Random control flow graphs: their shapes fit them, with a dispatch exactly where one is irreducible.
 relooper_graphs() {
-  compared 'shapes of random graphs' relooper_graphs.py "$text_rows"
+  compared 'shapes of random graphs' relooper_graphs.py --rows "$text_rows"
 }
 
 # Random records of C: a model of the ABI and gcc lay them out alike. The model's answers are rows of the gate.
@@ -348,6 +348,16 @@ c_runs() {
   fi
 }
 
+# Random C programs: they end and write as gcc's do, in any order of evaluation, and what gcc's checks find is told at its line.
+random_runs() {
+  compared 'runs of random programs' random_runs.py --c2rs "$program" gcc stdbuf
+}
+
+# Random crates: they end and write as rustc's programs do, and where these panic the run is wrong by that cause.
+random_crates() {
+  compared 'runs of random crates' random_crates.py --c2rs "$program" rustc stdbuf
+}
+
 one answer
 one letter
 refused_in_turn
@@ -355,6 +365,7 @@ cp "$top/tests/constructs.c" "$work/"
 every_request "a unit with every construct" transpile -o constructs constructs.c
 every_request "a run of every construct" run-c constructs.c
 c_runs
+random_runs
 straight_units
 straight_mutants
 syntax_mutants
@@ -364,6 +375,7 @@ unit_mutants
 relooper_graphs
 random_records
 crate_runs
+random_crates
 region_turns
 every_form
 nested_blocks
