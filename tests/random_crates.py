@@ -12,14 +12,13 @@ import sys
 
 sys.dont_write_bytecode = True
 
-import argparse
 import re
 import subprocess
 import tempfile
-from collections import Counter
 from dataclasses import dataclass
 from pathlib import Path
-from random import Random
+
+from random_texts import Choices, options, tell
 
 SECONDS = 60
 STEPS = "3000000"
@@ -78,25 +77,14 @@ class Function:
     result: str
 
 
-class Writer:
+class Writer(Choices):
     """The text of a module, as it grows."""
 
     def __init__(self, seed):
-        self.random = Random(seed)
-        self.count = 0
+        super().__init__(seed)
         self.records, self.arrays, self.functions = {}, [], []
         # what a function may read and write, and the lines of its body
         self.places, self.counters, self.lines, self.writes = [], [], [], False
-
-    def new(self, letter):
-        self.count += 1
-        return f"{letter}{self.count}"
-
-    def likely(self, share):
-        return self.random.random() < share
-
-    def one_of(self, *weighed):
-        return self.random.choices([one for _, one in weighed], [weight for weight, _ in weighed])[0]
 
     # ---- types and places
 
@@ -366,26 +354,12 @@ def outcome(c2rs, seed, folder):
 
 
 def main():
-    parser = argparse.ArgumentParser()
-    parser.add_argument("--c2rs", required=True, type=Path)
-    parser.add_argument("--count", type=int, default=40)
-    parser.add_argument("--seed", type=int, default=1)
-    given = parser.parse_args()
-    c2rs, counts, differences = given.c2rs.resolve(), Counter(), []
+    c2rs, seeds = options(40)
     with tempfile.TemporaryDirectory() as name:
         folder = Path(name)
         (folder / "a.c").write_text(CARGO_UNIT)
         subprocess.run([c2rs, "transpile", "-o", "out", "a.c"], cwd=folder, check=True)
-        for seed in range(given.seed, given.seed + given.count):
-            kind, differs = outcome(c2rs, seed, folder)
-            counts[kind] += 1
-            if differs:
-                differences.append(f"seed {seed}: {differs}")
-    for one in differences[:10]:
-        print(one)
-    shown = ", ".join(f"{count} {kind}" for kind, count in counts.most_common())
-    print(f"{given.count} random crates: {shown}; {len(differences)} differ")
-    return 1 if differences or not counts["ended"] else 0
+        return tell("random crates", seeds, lambda seed: outcome(c2rs, seed, folder))
 
 
 if __name__ == "__main__":

@@ -14,7 +14,8 @@ import sys
 sys.dont_write_bytecode = True
 
 from dataclasses import dataclass
-from random import Random
+
+from random_texts import Choices
 
 INTEGERS = (
     "_Bool", "char", "signed char", "unsigned char", "short", "unsigned short", "int", "unsigned", "long", "unsigned long", "long long",
@@ -140,14 +141,13 @@ def parts(place):
                 yield from parts(Place(f"{place.text}.{name}", type))
 
 
-class Writer:
+class Writer(Choices):
     """The text of a program, as it grows."""
 
     def __init__(self, seed):
-        self.random = Random(seed)
+        super().__init__(seed)
         self.lines = []
         self.indent = 0
-        self.count = 0
         self.records = [VIEWS]
         self.functions = []
         self.output = "out"
@@ -164,17 +164,6 @@ class Writer:
     def closed(self, text=""):
         self.indent -= 1
         self.line("}" + text)
-
-    def new(self, letter):
-        self.count += 1
-        return f"{letter}{self.count}"
-
-    def likely(self, share):
-        return self.random.random() < share
-
-    def one_of(self, *weighed):
-        """One of these, each with its weight in front."""
-        return self.random.choices([one for _, one in weighed], [weight for weight, _ in weighed])[0]
 
     # ---- types
 

@@ -13,15 +13,14 @@ import sys
 
 sys.dont_write_bytecode = True
 
-import argparse
 import re
 import subprocess
 import tempfile
-from collections import Counter
 from pathlib import Path
 from random import Random
 
 from random_programs import program
+from random_texts import options, tell
 
 SECONDS = 60
 STEPS = "3000000"
@@ -82,23 +81,13 @@ def outcome(c2rs, seed, folder):
 
 
 def main():
-    parser = argparse.ArgumentParser()
-    parser.add_argument("--c2rs", required=True, type=Path)
-    parser.add_argument("--count", type=int, default=120)
-    parser.add_argument("--seed", type=int, default=1)
-    given = parser.parse_args()
-    counts, differences = Counter(), []
-    for seed in range(given.seed, given.seed + given.count):
+    c2rs, seeds = options(120)
+
+    def outcome_of(seed):
         with tempfile.TemporaryDirectory() as folder:
-            kind, differs = outcome(given.c2rs.resolve(), seed, Path(folder))
-        counts[kind] += 1
-        if differs:
-            differences.append(f"seed {seed}: {differs}")
-    for one in differences[:10]:
-        print(one)
-    shown = ", ".join(f"{count} {kind}" for kind, count in counts.most_common())
-    print(f"{given.count} random programs: {shown}; {len(differences)} differ")
-    return 1 if differences or not counts["ended"] else 0
+            return outcome(c2rs, seed, Path(folder))
+
+    return tell("random programs", seeds, outcome_of)
 
 
 if __name__ == "__main__":
