@@ -465,6 +465,35 @@ breaks('U11', pairs('struct s x1;', '&(&x1 + 1)->y;'))
 ends(0, pairs('struct s x1;', '&(&x1 + 1)->x;'))
 breaks('U10', pairs('struct s x1[2], x2;', f'x2 = {at(2)};'))
 breaks('U6', pairs('struct s x1[2], x2;', f'{at(12)} = x2;'))
+comment('A member of a structure or union at a place where it may not stand (6.3.2.3p7), whatever the member.')
+MEMBERS = ('struct r { int x; long y; }; struct c { char a, b; }; union u { char a; int i; }; struct o { char a; union u in; }; '
+           'struct f { int x; unsigned a : 3; }; ')
+
+
+def members(objects, list_):
+    return f'{LIBRARY}{MEMBERS}{objects} int main(void) {{ {list_} return 0; }}'
+
+
+def placed(tag, byte, list_):
+    return members('long v[4]; char b[32];', f'{tag} *p = ({tag} *)((char *)v + {byte}); {list_}')
+
+
+for tag, byte, list_ in [('struct r', 4, 'p->x = 3;'), ('struct r', 4, 'return p->x;'), ('struct r', 4, '&p->y;'), ('struct r', 12, '(*p).x++;'),
+                         ('struct o', 2, 'return p->a;'), ('struct f', 2, 'p->a = 1;'), ('struct o', 2, 'return p->in.i;'), ('struct o', 1, '&p->in.a;'),
+                         ('union u', 6, 'return p->i;'), ('union u', 5, 'return p->a;')]:
+    breaks('U10', placed(tag, byte, list_))
+for tag, byte, list_ in [('struct r', 8, 'p->x = 0; p->x++;'), ('struct r', 16, '&p->y;'), ('struct o', 4, 'p->a = 0;'), ('struct f', 4, 'p->a = 1;'),
+                         ('struct c', 3, 'p->b = 1; p->a = 2;'), ('struct o', 4, 'p->in.i = 1; p->in.a = 2;'), ('union u', 12, 'p->a = 1;')]:
+    ends(0, placed(tag, byte, list_))
+breaks('U10', members('char b[32];', 'struct r *p = (struct r *)b; return p->x;'))
+ends(0, members('char b[32];', 'struct c *p = (struct c *)(b + 5); p->b = 1;'))
+CALLOC = 'struct r *p = (struct r *)((char *)calloc(2, 16) + %d); p->x++;'
+row(calls('ended 0', [], [1]), members('', CALLOC % 16))
+row(calls('U10 on line 1 of unit 0', [], [1]), members('', CALLOC % 12))
+breaks('U6', members('', 'struct r *p = 0; &p->x;'))
+breaks('U11', placed('struct r', 28, '&p->y;'))
+breaks('U5', members('struct r *p;', '{ char c[16]; p = (struct r *)c; } &p->x;'))
+ends(0, members('struct r s;', 'return (1 ? s : s).x;'))
 breaks('U1', pairs('struct s x1, x2;', 'return (x2 = x1).x + (x2.y = 1);'))
 breaks('U1', pairs('struct s x1, x2;', 'return (x1 = x2).x + (x2.x = 1);'))
 ends(3, pairs('struct s x2;', 'return (x2.x = 1) + (x2.y = 2);'))

@@ -14,14 +14,14 @@ use Rattle.mem_bytes.proofs.Slots.{live-set_same, live-set_other, live_within}
 use Rattle.mem_bytes.proofs.Written.{copy_writes, fill_writes}
 use Rattle.cr_world.specs.Held.{Held, overlapping, not_allocated, fresh_block, heap_align, is_listed, without_entry, without_allocated}
 use Rattle.cr_world.specs.Known.{Known, allocates, frees, copies, fills, exits, aborts, Effect, gives, gives_nothing, ends_program, wants_block, fails, effect, allocated, allocation, null_beside, accessed_as, unless_overlapping, bytes_overlap, copied, copying, filling, freeing}
-use Rattle.cr_world.specs.Laws.{AreAllocated, IsHeld}
+use Rattle.cr_world.specs.Laws.{AreAllocated, HeapLives}
 
 abbrev IsLive : Blocks → ℕ → Type 0
 IsLive blocks number = (block : Block) × (live_block blocks number ≡ Some block)
 
 -- ---- another memory in which what lived lives
 
-all_live : (blocks after : Blocks) (heap : List ℕ) → ((number : ℕ) → IsLive blocks number → IsLive after number) → AreAllocated blocks heap → AreAllocated after heap
+pub all_live : (blocks after : Blocks) (heap : List ℕ) → ((number : ℕ) → IsLive blocks number → IsLive after number) → AreAllocated blocks heap → AreAllocated after heap
 all_live blocks after [] stays are = tt
 all_live blocks after (first ∷ others) stays are = (stays first are.0, are.1, all_live blocks after others stays are.2)
 
@@ -52,7 +52,7 @@ fresh_number blocks (first ∷ others) are =
     let below : first < length blocks = live_within blocks first are.0.0 are.0.1 in
     not_listed (length blocks) first others (λ same. omega arith) (fresh_number blocks others are.2)
 
-pub allocated_keeps : (is_given is_zero : Bool) (size : ℕ) (held : Held) → IsHeld held → IsHeld (allocated is_given is_zero size held).held
+pub allocated_keeps : (is_given is_zero : Bool) (size : ℕ) (held : Held) → HeapLives held → HeapLives (allocated is_given is_zero size held).held
 allocated_keeps false is_zero size held are = are
 allocated_keeps true is_zero size held are =
     let new = fresh_block is_zero size heap_align in (
@@ -70,7 +70,7 @@ other_listed number first others e = from_test (first == number) refl e
     from_test true p e = cc
     from_test false p e = (eqb-false first number p, e)
 
-all_but : (blocks : Blocks) (number : ℕ) (heap : List ℕ) → is_listed number heap ≡ false → AreAllocated blocks heap → AreAllocated (slice_set blocks number None) heap
+pub all_but : (blocks : Blocks) (number : ℕ) (heap : List ℕ) → is_listed number heap ≡ false → AreAllocated blocks heap → AreAllocated (slice_set blocks number None) heap
 all_but blocks number [] out are = tt
 all_but blocks number (first ∷ others) out are =
     let apart = other_listed number first others out in
@@ -93,7 +93,7 @@ first_keeps blocks number first others false p are rest =
     let away = eqb-false first number p in
     ((are.0.0, live-set_other blocks number first None (λ same. away (sym same)) ∙ are.0.1), still_not_listed first number others are.1, rest)
 
-without_keeps : (blocks : Blocks) (number : ℕ) (heap : List ℕ) → AreAllocated blocks heap → AreAllocated (slice_set blocks number None) (without_entry number heap)
+pub without_keeps : (blocks : Blocks) (number : ℕ) (heap : List ℕ) → AreAllocated blocks heap → AreAllocated (slice_set blocks number None) (without_entry number heap)
 without_keeps blocks number [] are = tt
 without_keeps blocks number (first ∷ others) are = first_keeps blocks number first others (first == number) refl are (without_keeps blocks number others are.2)
 
@@ -101,14 +101,14 @@ without_keeps blocks number (first ∷ others) are = first_keeps blocks number f
 
 -- what is held after an effect, if it leaves anything
 abbrev Keeps : Effect → Type 0
-Keeps (gives value after) = IsHeld after
-Keeps (gives_nothing after) = IsHeld after
+Keeps (gives value after) = HeapLives after
+Keeps (gives_nothing after) = HeapLives after
 Keeps (ends_program status) = Unit {0}
 Keeps (wants_block is_zero size) = Unit {0}
 Keeps (fails fault) = Unit {0}
 
 accessed_keeps : (value : Value) (before : Held) (outcome : Result Blocks Fault) → ((blocks : Blocks) → outcome ≡ Ok blocks → (number : ℕ) → IsLive before.blocks number → IsLive blocks number) →
-    IsHeld before → Keeps (accessed_as value before outcome)
+    HeapLives before → Keeps (accessed_as value before outcome)
 accessed_keeps value before (Ok blocks) stays are = all_live before.blocks blocks before.heap (stays blocks refl) are
 accessed_keeps value before (Err fault) stays are = tt
 
@@ -125,7 +125,7 @@ beside_keeps : (slot : Option Block) → Keeps (null_beside slot)
 beside_keeps None = tt
 beside_keeps (Some block) = tt
 
-copied_keeps : (may_overlap : Bool) (to from : Value) (n : ℕ) (held : Held) → IsHeld held → Keeps (copied may_overlap to from (suc n) held)
+copied_keeps : (may_overlap : Bool) (to from : Value) (n : ℕ) (held : Held) → HeapLives held → Keeps (copied may_overlap to from (suc n) held)
 copied_keeps may_overlap (Object to) (Object from) n held are =
     overlap_keeps may_overlap to from (suc n) _
     (accessed_keeps (Object to) held (after_copy held.blocks from to (suc n)) (λ blocks ended. live_written held.blocks blocks to (suc n) (copy_writes held.blocks blocks from to (suc n) (omega arith) ended)) are)
@@ -134,18 +134,18 @@ copied_keeps may_overlap Null (Object from) n held are = beside_keeps (live_bloc
 copied_keeps may_overlap Null Null n held are = tt
 copied_keeps may_overlap to from n held are = tt
 
-copying_keeps : (may_overlap : Bool) (to from : Value) (count : ℕ) (held : Held) → IsHeld held → Keeps (copying may_overlap to from count held)
+copying_keeps : (may_overlap : Bool) (to from : Value) (count : ℕ) (held : Held) → HeapLives held → Keeps (copying may_overlap to from count held)
 copying_keeps may_overlap to from zero held are = are
 copying_keeps may_overlap to from (suc n) held are = copied_keeps may_overlap to from n held are
 
-filling_keeps : (to : Value) (byte : ℤ) (count : ℕ) (held : Held) → IsHeld held → Keeps (filling to byte count held)
+filling_keeps : (to : Value) (byte : ℤ) (count : ℕ) (held : Held) → HeapLives held → Keeps (filling to byte count held)
 filling_keeps (Object at) byte count held are =
     accessed_keeps (Object at) held (after_fill held.blocks at (residue byte 256) count) (λ blocks ended. live_written held.blocks blocks at count (fill_writes held.blocks blocks at (residue byte 256) count ended)) are
 filling_keeps Null byte count held are = tt
 filling_keeps (Whole number) byte count held are = tt
 filling_keeps (Code number) byte count held are = tt
 
-freeing_keeps : (value : Value) (held : Held) → IsHeld held → Keeps (freeing value held)
+freeing_keeps : (value : Value) (held : Held) → HeapLives held → Keeps (freeing value held)
 freeing_keeps (Object at) held are = from_test (at.offset == 0 && is_listed at.block held.heap)
   where
     from_test : (is : Bool) → Keeps (if is then gives_nothing (without_allocated at.block held) else fails not_allocated)
@@ -155,14 +155,14 @@ freeing_keeps Null held are = are
 freeing_keeps (Whole number) held are = tt
 freeing_keeps (Code number) held are = tt
 
-allocation_keeps : (is_zero : Bool) (size : ℕ) (held : Held) → IsHeld held → Keeps (allocation is_zero size held)
+allocation_keeps : (is_zero : Bool) (size : ℕ) (held : Held) → HeapLives held → Keeps (allocation is_zero size held)
 allocation_keeps is_zero size held are = from_test (nat_le size most_bytes)
   where
     from_test : (fits : Bool) → Keeps (if fits then wants_block is_zero size else gives Null held)
     from_test true = tt
     from_test false = are
 
-effect_keeps : (does : Known) (args : List Value) (held : Held) → IsHeld held → Keeps (effect does args held)
+effect_keeps : (does : Known) (args : List Value) (held : Held) → HeapLives held → Keeps (effect does args held)
 effect_keeps (allocates is_zero) (Whole (pos size) ∷ []) held are = allocation_keeps is_zero size held are
 effect_keeps (allocates is_zero) (Whole (pos count) ∷ Whole (pos size) ∷ []) held are = allocation_keeps is_zero (count * size) held are
 effect_keeps frees (value ∷ []) held are = freeing_keeps value held are
@@ -172,8 +172,8 @@ effect_keeps exits (Whole status ∷ []) held are = tt
 effect_keeps aborts [] held are = tt
 effect_keeps does args held are = tt
 
-pub gives_keeps : (does : Known) (args : List Value) (value : Value) (before after : Held) → IsHeld before → effect does args before ≡ gives value after → IsHeld after
+pub gives_keeps : (does : Known) (args : List Value) (value : Value) (before after : Held) → HeapLives before → effect does args before ≡ gives value after → HeapLives after
 gives_keeps does args value before after are e = subst Keeps e (effect_keeps does args before are)
 
-pub gives_nothing_keeps : (does : Known) (args : List Value) (before after : Held) → IsHeld before → effect does args before ≡ gives_nothing after → IsHeld after
+pub gives_nothing_keeps : (does : Known) (args : List Value) (before after : Held) → HeapLives before → effect does args before ≡ gives_nothing after → HeapLives after
 gives_nothing_keeps does args before after are e = subst Keeps e (effect_keeps does args before are)

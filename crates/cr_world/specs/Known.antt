@@ -74,7 +74,7 @@ abbrev pub allocation : Bool → ℕ → Held → Effect
 allocation is_zero size held = if nat_le size most_bytes then wants_block is_zero size else gives Null held
 
 -- the start of an allocated block that lives (7.20.3.2p2)
-abbrev is_allocated : Ptr → Held → Bool
+abbrev pub is_allocated : Ptr → Held → Bool
 is_allocated at held = at.offset == 0 && is_listed at.block held.heap
 
 abbrev pub freed : Ptr → Held → Effect

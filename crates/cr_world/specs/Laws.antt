@@ -49,13 +49,13 @@ AreAllocated blocks (number ∷ others) =
     ((block : Block) × (live_block blocks number ≡ Some block)) × (is_listed number others ≡ false) × AreAllocated blocks others
 
 -- what a program holds lists allocated blocks that live
-abbrev pub IsHeld : Held → Type 0
-IsHeld held = AreAllocated held.blocks held.heap
+abbrev pub HeapLives : Held → Type 0
+HeapLives held = AreAllocated held.blocks held.heap
 
 -- the known functions keep it
 pub record KeepsAllocated : Type 0 where
-  pub allocated : (is_given is_zero : Bool) (size : ℕ) (held : Held) → IsHeld held → IsHeld (allocated is_given is_zero size held).held
-  pub gives : (does : Known) (args : List Value) (value : Value) (before after : Held) → IsHeld before →
-      effect does args before ≡ gives value after → IsHeld after
-  pub gives_nothing : (does : Known) (args : List Value) (before after : Held) → IsHeld before →
-      effect does args before ≡ gives_nothing after → IsHeld after
+  pub allocated : (is_given is_zero : Bool) (size : ℕ) (held : Held) → HeapLives held → HeapLives (allocated is_given is_zero size held).held
+  pub gives : (does : Known) (args : List Value) (value : Value) (before after : Held) → HeapLives before →
+      effect does args before ≡ gives value after → HeapLives after
+  pub gives_nothing : (does : Known) (args : List Value) (before after : Held) → HeapLives before →
+      effect does args before ≡ gives_nothing after → HeapLives after

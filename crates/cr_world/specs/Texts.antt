@@ -27,7 +27,7 @@ text_in (PtrByte of index ∷ cells) = Err MixedPointer
 abbrev pub text_at : Blocks → Ptr → Result (List ℕ) Fault
 text_at blocks at = live_read (live_block blocks at.block) (λ block. text_in (drop at.offset block.cells))
 
-abbrev found : Result (List ℕ) Fault → Result (List ℕ) HeldFault
+abbrev pub found : Result (List ℕ) Fault → Result (List ℕ) HeldFault
 found (Ok text) = Ok text
 found (Err fault) = Err (access fault)
 

@@ -10,7 +10,7 @@ ghost use Rattle.cx_core.specs.Views.{view_function_type, view_params, view_type
 ghost use Rattle.cx_kinds.specs.Known.{IsKnown, types_in};
 ghost use Rattle.cx_operands.specs.Views.{view_operand};
 ghost use Rattle.cx_rules.specs.Nodes.{call_node};
-ghost use Rattle.cx_rules.specs.Rules.{rule_at, count_is_wrong, is_empty, result_incomplete, some_unassignable};
+ghost use Rattle.cx_rules.specs.Rules.{rule_at, count_is_wrong, is_empty, is_plain_void, result_incomplete, some_unassignable};
 ghost use Rattle.cx_rules.specs.Scope.{CScope};
 
 use crate::asked::{called_as, is_fixed, lacks_value, may_be_given};
@@ -116,12 +116,19 @@ fn number_is_wrong(wanted: usize, is_variadic: bool, count: usize) -> bool
     }
 }
 
+// Whether a type is the unqualified `void` (ISO C99, 6.9.1p3).
+fn is_plain_void(t: &Ty) -> bool
+    ensures { result ≡ is_plain_void (view_type t.now) }
+{
+    is_void(t) && !t.is_const
+}
+
 // Whether what a function gives back is incomplete, and not `void`.
 fn result_incomplete(known: Known, result_ty: &Ty) -> bool
     requires { IsKnown known }
     ensures { result ≡ result_incomplete (types_in known.entry) (view_type result_ty.now) }
 {
-    !is_void(result_ty) && is_incomplete(known, result_ty)
+    !is_plain_void(result_ty) && is_incomplete(known, result_ty)
 }
 
 fn some_lack(known: Known, args: &[Operand]) -> bool

@@ -56,6 +56,7 @@ fn complete(scope: &mut Scope, layouts: &mut Layouts, one: RecordTy) -> Result<(
     if !is_open(scope.types(), one.number) {
         return Err(Memory);
     }
+    scope.note_completed(one.number)?;
     add_row(layouts, &one)?;
     adding_is_completing();
     scope.complete_record(one);

@@ -1,4 +1,5 @@
 pub mod Agree
+mod BitFieldExamples
 mod CompatibleExamples
 pub mod Conversion
 mod ConversionExamples
@@ -8,3 +9,4 @@ pub mod Gathers
 pub mod GoodSets
 mod LayoutExamples
 pub mod Relation
+mod TextExamples

@@ -5,7 +5,7 @@ use Rattle.cr_base.specs.declared.refusal.Place.{Place}
 use Rattle.cx_core.specs.declared.expr.Op2.TheVariants.{Add, Less}
 use Rattle.cx_core.specs.declared.program.Linkage.TheVariants.{External, Internal, Nothing}
 use Rattle.cx_core.specs.declared.ty.Basic.TheVariants.{Int}
-use Rattle.cx_core.specs.Trees.{CTy, ty, void, basic, pointer, array, record_type, function, listed, no_types, more_types, CExpr, expr, whole, object, load, deref, member, address, convert, binary, assign, assign_by, call, no_exprs, more_exprs, put, CPuts, no_puts, more_puts, CStmt, stmt, block, expression, while, returns, begin, CStmts, no_stmts, more_stmts, CMember, CRecord, CTypes, CObject, CFun, COuter, CProgram}
+use Rattle.cx_core.specs.Trees.{CTy, ty, void, basic, pointer, array, record_type, function, listed, no_types, more_types, CExpr, expr, whole, object, load, deref, member, address, convert, binary, assign, assign_by, call, no_exprs, more_exprs, put, CPuts, no_puts, more_puts, CStmt, stmt, block, expression, while, returns, begin, CStmts, no_stmts, more_stmts, CMember, CRecord, CTypes, CObject, CFun, COuter, a_function, an_object, CDeclaredOrder, CProgram}
 
 -- the program of one unit:
 --
@@ -183,10 +183,14 @@ putchar_type = ty (function int_type (listed (more_types int_type no_types)) fal
 abbrev pub putchar_outer : COuter
 putchar_outer = record { function = 0; name = codes "putchar"; linkage = External; type = putchar_type }
 
+abbrev pub example_order : CDeclaredOrder
+example_order = record { things = a_function 0 ∷ an_object 0 ∷ a_function 1 ∷ a_function 2 ∷ []; completed = 0 ∷ [] }
+
 abbrev pub example : CProgram
 example = record {
   types = s_types;
   objects = x_object ∷ p_object ∷ i_object ∷ [];
   functions = sum_function ∷ main_function ∷ [];
   externals = putchar_outer ∷ [];
+  orders = example_order ∷ [];
 }

@@ -1,3 +1,4 @@
+pub mod BitFields
 pub mod Compatible
 pub mod Conversions
 pub mod Examples
@@ -7,6 +8,7 @@ pub mod Linked
 pub mod Needed
 pub mod Statements
 pub mod Tables
+pub mod Texts
 pub mod Trees
 pub mod Typing
 pub mod ValidTypes

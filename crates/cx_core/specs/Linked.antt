@@ -6,6 +6,7 @@ use Rattle.cx_core.specs.declared.program.Linkage.TheVariants.{External, Interna
 use Rattle.cx_core.specs.declared.ty.Basic.TheVariants.{Char, Int}
 use Rattle.cx_core.specs.Externals.{IsExternalType}
 use Rattle.cx_core.specs.Statements.{objects_in, IsDefinitionOf}
+use Rattle.cx_core.specs.Texts.{HoldText}
 use Rattle.cx_core.specs.Trees.{CTy, CTyForm, basic, array, function, CParams, unlisted, listed, no_types, form_of_type, CPuts, CTypes, CObject, CFun, COuter, CProgram, CDoes, declares, defines, calls, uses, CMention, CUnit}
 use Rattle.cx_core.specs.Typing.{CHome, IsMentionedIn, AreTypedPuts, AreConstantPuts}
 use Rattle.cx_core.specs.ValidTypes.{IsTypeIn, IsObjectForm, IsComplete, AreTypes}
@@ -26,12 +27,13 @@ abbrev IsTextForm : CTyForm → Type 0
 IsTextForm (array element (Some length)) = form_of_type element ≡ basic Char
 IsTextForm _ = ⊥
 
--- the object of a string literal is a static array of `char` without name (6.4.5p5)
+-- the object of a string literal is a static array of `char` without name, which holds a text (6.4.5p5)
 pub record IsText (one : CObject) : Type 0 where
   pub unnamed : one.name ≡ None
   pub no_linkage : one.linkage ≡ Nothing
   pub static : IsSome one.puts
   pub array : IsTextForm (form_of_type one.type)
+  pub holds : IfSome one.puts (HoldText one.type)
 
 abbrev pub has_linkage : Linkage → Bool
 has_linkage External = true
@@ -139,7 +141,7 @@ pub record IsLinked (program : CProgram) : Type 0 where
 
 -- the things of a unit
 abbrev pub program_of : CUnit → CProgram
-program_of one = record { types = one.types; objects = one.objects; functions = one.functions; externals = one.externals }
+program_of one = record { types = one.types; objects = one.objects; functions = one.functions; externals = one.externals; orders = one.order ∷ [] }
 
 -- a function type of a unit that it declares and doesn't define
 abbrev IsFunctionForm : CTyForm → Type 0

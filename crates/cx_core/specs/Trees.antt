@@ -232,12 +232,33 @@ pub record COuter : Type 0 where
   pub linkage : Linkage
   pub type : CTy
 
+-- ---- the order of declarations
+
+-- what a later stage gives a name of its own: a function, an object or a record by its number, and the function `calloc`. Units declare
+-- functions and objects; the others are keys of names alone
+pub data CKey : Type 0 where
+  a_function : (function : ℕ) → CKey
+  an_object : (object : ℕ) → CKey
+  a_record : (number : ℕ) → CKey
+  a_calloc : CKey
+
+-- the order of a unit's declarations
+pub record CDeclaredOrder : Type 0 where
+  -- what has linkage, in the order of first declarations: what the unit only declares, and what it declares in blocks alone, too (6.2.2)
+  pub things : List CKey
+  -- the numbers of records, in the order in which they were completed (6.7.2.3p4)
+  pub completed : List ℕ
+
+-- ---- whole programs
+
 -- a program
 pub record CProgram : Type 0 where
   pub types : CTypes
   pub objects : List CObject
   pub functions : List CFun
   pub externals : List COuter
+  -- of each unit, with the numbers of the program
+  pub orders : List CDeclaredOrder
 
 -- ---- units
 
@@ -264,3 +285,4 @@ pub record CUnit : Type 0 where
   pub functions : List CFun
   pub externals : List COuter
   pub mentions : List CMention
+  pub order : CDeclaredOrder

@@ -581,6 +581,8 @@ abbrev mutual
   IsConstantForm program (or left right) = IsConstant program left × IsConstant program right
   IsConstantForm program (cond test first second) =
       IsConstant program test × IsConstant program first × IsConstant program second
+  -- where it isn't evaluated (6.6p3)
+  IsConstantForm program (comma first second) = IsConstant program first × IsConstant program second
   IsConstantForm program _ = ⊥
 
   -- an lvalue with a constant address: a static object, a part of one, or what a constant points to

@@ -4,6 +4,9 @@ use Rattle.cx_core.specs.declared.expr.CoreExpr.{CoreExpr}
 use Rattle.cx_core.specs.declared.expr.Form.TheFolds.{fold-CoreExpr, fold-Put}
 use Rattle.cx_core.specs.declared.expr.Form.TheOpen as e
 use Rattle.cx_core.specs.declared.expr.Put.{Put}
+use Rattle.cx_core.specs.declared.order.DeclaredOrder.{DeclaredOrder}
+use Rattle.cx_core.specs.declared.order.Key.{Key}
+use Rattle.cx_core.specs.declared.order.Key.TheVariants as key
 use Rattle.cx_core.specs.declared.program.CoreObject.{CoreObject}
 use Rattle.cx_core.specs.declared.program.Fun.{Fun}
 use Rattle.cx_core.specs.declared.program.Outer.{Outer}
@@ -24,7 +27,7 @@ use Rattle.cx_core.specs.declared.unit.CoreUnit.{CoreUnit}
 use Rattle.cx_core.specs.declared.unit.Does.{Does}
 use Rattle.cx_core.specs.declared.unit.Does.TheVariants.{Declares, Defines, Calls, Uses}
 use Rattle.cx_core.specs.declared.unit.Mention.{Mention}
-use Rattle.cx_core.specs.Trees.{CTy, ty, CTyForm, void, basic, enum_type, pointer, array, record_type, function, CParams, unlisted, listed, CTys, no_types, more_types, CExpr, expr, CForm, whole, null, object, code, load, deref, member, address, convert, unary, binary, and, or, cond, assign, assign_by, step, call, call_by, comma, literal, CExprs, no_exprs, more_exprs, CPut, put, CPuts, no_puts, more_puts, CStmt, stmt, CStmtForm, label, case, default, block, expression, if_then, switch, while, do_while, for_loop, goto, continue, break, returns, begin, COtherwise, no_else, else_do, CStmts, no_stmts, more_stmts, CMember, CRecord, CRecordTag, CTypes, CObject, CFun, COuter, CProgram, CDoes, declares, defines, calls, uses, CMention, CUnit}
+use Rattle.cx_core.specs.Trees.{CTy, ty, CTyForm, void, basic, enum_type, pointer, array, record_type, function, CParams, unlisted, listed, CTys, no_types, more_types, CExpr, expr, CForm, whole, null, object, code, load, deref, member, address, convert, unary, binary, and, or, cond, assign, assign_by, step, call, call_by, comma, literal, CExprs, no_exprs, more_exprs, CPut, put, CPuts, no_puts, more_puts, CStmt, stmt, CStmtForm, label, case, default, block, expression, if_then, switch, while, do_while, for_loop, goto, continue, break, returns, begin, COtherwise, no_else, else_do, CStmts, no_stmts, more_stmts, CMember, CRecord, CRecordTag, CTypes, CObject, CFun, COuter, CKey, a_function, an_object, a_record, a_calloc, CDeclaredOrder, CProgram, CDoes, declares, defines, calls, uses, CMention, CUnit}
 
 -- ---- types
 
@@ -188,12 +191,22 @@ view_outer one = record {
   type = view_type one.ty;
 }
 
+abbrev pub view_key : Key → CKey
+view_key (key.Function number) = a_function number
+view_key (key.Object number) = an_object number
+view_key (key.Record number) = a_record number
+view_key key.Calloc = a_calloc
+
+abbrev pub view_order : DeclaredOrder → CDeclaredOrder
+view_order one = record { things = map view_key one.things; completed = one.completed }
+
 abbrev pub view_program : Parts → CProgram
 view_program one = record {
   types = view_types one.types;
   objects = map view_object one.objects;
   functions = map view_function one.functions;
   externals = map view_outer one.externals;
+  orders = map view_order one.orders;
 }
 
 -- ---- units
@@ -220,4 +233,5 @@ view_unit one = record {
   functions = map view_function one.functions;
   externals = map view_outer one.externals;
   mentions = map view_mention one.mentions;
+  order = view_order one.order;
 }

@@ -3,6 +3,7 @@ ghost use Rattle.cx_core.specs.Linked.{IsLinked};
 ghost use Rattle.cx_core.specs.Views.{view_program};
 
 use crate::expr::Put;
+use crate::order::DeclaredOrder;
 use crate::stmt::CoreStmt;
 use crate::ty::{Ty, Types};
 use cr_base::{Items, Name};
@@ -74,6 +75,8 @@ pub struct Parts {
     pub functions: Items<Fun>,
     /// The functions that are declared and that no unit defines, in text order, unit by unit.
     pub externals: Items<Outer>,
+    /// The order of declarations of each unit.
+    pub orders: Items<DeclaredOrder>,
 }
 
 /// A typed and linked program: every name stands for one thing, every operand has the type that its
@@ -107,18 +110,21 @@ impl Program {
         objects: Items<CoreObject>,
         functions: Items<Fun>,
         externals: Items<Outer>,
+        orders: Items<DeclaredOrder>,
     ) -> Program
         requires { IsLinked (view_program (record {
           types = types;
           objects = objects;
           functions = functions;
           externals = externals;
+          orders = orders;
         })) }
         ensures { result ≡ record {
           types = types;
           objects = objects;
           functions = functions;
           externals = externals;
+          orders = orders;
         } }
     {
         Program {
@@ -127,6 +133,7 @@ impl Program {
                 objects,
                 functions,
                 externals,
+                orders,
             },
         }
     }

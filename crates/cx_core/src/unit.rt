@@ -1,3 +1,4 @@
+use crate::order::DeclaredOrder;
 use crate::program::{CoreObject, Fun, Linkage, Outer};
 use crate::ty::{Ty, Types};
 use cr_base::{Items, Name, Place};
@@ -39,4 +40,6 @@ pub struct CoreUnit {
     pub externals: Items<Outer>,
     /// Where it names external things and static functions, in text order.
     pub mentions: Items<Mention>,
+    /// The order of its declarations.
+    pub order: DeclaredOrder,
 }

@@ -19,6 +19,7 @@ use Rattle.cx_rules.specs.Shapes.{CSpecs, CShape, base_type, no_specs_yet}
 use Rattle.cx_rules.specs.UnitWalk as unit
 use Rattle.cx_rules.specs.UnitWalk.{CHead, CMeant, literals_since, name_or_none, nothing_meant}
 use Rattle.cx_rules.specs.Walk as walk
+use Rattle.cx_rules.specs.Types.{defined_type}
 use Rattle.cx_tree.specs.Trees.{SpecTrees, DeclaratorTree, InitialiserTree}
 
 -- ---- literals
@@ -87,11 +88,11 @@ head_is : (specs : CSpecs) (missing : ℕ) (declarator : DeclaratorTree) (scope 
 head_is specs missing declarator scope =
     grouped (walks.declarator_walk declarator)
     (λ shape. check_chain _ _ (walks.derives_seen (declarator_line missing declarator) (base_type specs) shape) (λ type.
-    unit.head_seen Check check_gives check_chain check_here check_becomes check_look specs (declarator_line missing declarator) shape type))
+    unit.head_seen Check check_gives check_chain check_here check_becomes check_look specs (declarator_line missing declarator) shape (defined_type type)))
     (λ head. check_gives _ (kept_of head)) scope
     ∙ (λ i. check_chain _ _ (walks.declarator_walk declarator) (λ shape after.
     grouped (walks.derives_seen (declarator_line missing declarator) (base_type specs) shape)
-    (λ type. unit.head_seen Check check_gives check_chain check_here check_becomes check_look specs (declarator_line missing declarator) shape type)
+    (λ type. unit.head_seen Check check_gives check_chain check_here check_becomes check_look specs (declarator_line missing declarator) shape (defined_type type))
     (λ head. check_gives _ (kept_of head)) after i) scope)
 
 -- what is kept of the head of a definition is what its definition says

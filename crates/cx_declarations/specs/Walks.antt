@@ -13,6 +13,7 @@ use Rattle.cx_rules.specs.Readings.{Check, check_gives, check_chain, check_here,
 use Rattle.cx_rules.specs.Shapes.{CSpecs, CShape, base_type, no_specs_yet}
 use Rattle.cx_rules.specs.UnitWalk as unit
 use Rattle.cx_rules.specs.UnitWalk.{CHead, CMeant}
+use Rattle.cx_rules.specs.Types.{defined_type}
 use Rattle.cx_tree.specs.Trees.{SpecTree, SpecTrees, Record, no_members, no_specs, more_specs, DeclaratorTree, InitialiserTree, InitDeclaratorTree, DeclTree}
 
 abbrev pub init_walk : CTarget → Option InitialiserTree → Check (List CStored)
@@ -82,7 +83,7 @@ stands_alone (more_specs first others) = is_last others && is_record_use first
 abbrev pub head_kept : CSpecs → ℕ → DeclaratorTree → Check CHeadKept
 head_kept specs missing declarator = check_chain _ _ (declarator_walk declarator) (λ shape.
     check_chain _ _ (derives_seen (declarator_line missing declarator) (base_type specs) shape) (λ type.
-    steps.head_kept specs (declarator_line missing declarator) shape type))
+    steps.head_kept specs (declarator_line missing declarator) shape (defined_type type)))
 
 abbrev pub definition_begins : SpecTrees → DeclaratorTree → Check CHeadKept
 definition_begins specs declarator = check_chain _ _ (specs_walk false no_specs_yet specs) (λ all.

@@ -4,16 +4,16 @@ use Rattle.cx_outside.specs.States.{Around, AreGiven, AreTaken, Between, Quiet}
 use Rattle.ext_calls.specs.declared.call.Call.{Call}
 use Rattle.ext_calls.specs.declared.call.Made.{Made}
 
-both_taken : (one other : List Made) (takes later : Call → Bool) → later ≡ takes → AreTaken takes one → AreTaken later other → AreTaken takes (one ++ other)
+pub both_taken : (one other : List Made) (takes later : Call → Bool) → later ≡ takes → AreTaken takes one → AreTaken later other → AreTaken takes (one ++ other)
 both_taken [] other takes later same a b = subst (λ (test : Call → Bool). AreTaken test other) same b
 both_taken (call ∷ one) other takes later same a b = (a.0, both_taken one other takes later same a.1 b)
 
-both_told : (one other : List Made) (told : Option (List Made)) →
+pub both_told : (one other : List Made) (told : Option (List Made)) →
     option_map (λ made. made ++ other) (option_map (λ made. made ++ one) told) ≡ option_map (λ made. made ++ (one ++ other)) told
 both_told one other None = refl
 both_told one other (Some made) = ap Some (append_assoc made one other)
 
-both_given : (one other : List Made) (first second third : Option (List ℤ)) → AreGiven one first second → AreGiven other second third → AreGiven (one ++ other) first third
+pub both_given : (one other : List Made) (first second third : Option (List ℤ)) → AreGiven one first second → AreGiven other second third → AreGiven (one ++ other) first third
 both_given [] other first second third a b = subst (λ left. AreGiven other left third) a b
 both_given (call ∷ one) other first second third a b = (a.0, both_given one other (option_map (drop 1) first) second third a.1 b)
 

@@ -1,5 +1,5 @@
 -- A run that is held, step by step.
-use Rattle.std.proofs.Common.{◌≡◌, ◌∙◌, refl, sym, ap, subst, arith, ℕ, suc, ◌+◌, ◌≤◌, ℤ, List, [], Option, Some, None, Result, Ok, Err, IfOk}
+use Rattle.std.proofs.Common.{◌≡◌, ◌∙◌, refl, sym, ap, subst, arith, ℕ, suc, ◌+◌, ◌≤◌, ℤ, List, [], Option, Some, None, Result, Ok, Err, IfOk, OnErr}
 use Rattle.cr_world.specs.World.{World}
 use Rattle.cx_access.specs.Views.{compatible_pairs}
 use Rattle.cx_core.specs.declared.program.Parts.{Parts}
@@ -8,6 +8,8 @@ use Rattle.cx_core.specs.Trees.{CProgram, CTypes}
 use Rattle.cx_core.specs.Views.{view_program, view_types}
 use Rattle.cx_machine.specs.declared.machine.Machine.{Machine}
 use Rattle.cx_machine.specs.declared.stop.Stop.{Stop}
+use Rattle.cx_machine.specs.declared.stop.Stop.TheVariants as stop
+use Rattle.cx_outside.specs.declared.outside.Lack.TheVariants as lack
 use Rattle.cx_machine.specs.Machines.{view_machine}
 use Rattle.cx_machine.specs.Steps.{taken_of}
 use Rattle.cx_mean.specs.Settings.{CPair, CSetting, compatible_records, setting_of}
@@ -19,13 +21,14 @@ use Rattle.ext_calls.specs.Host.{HostState}
 use Rattle.mem_bytes.specs.Counted.{Limit}
 use Rattle.mem_bytes.specs.Memory.{Blocks}
 use Rattle.cx_exec.specs.declared.outcome.COutcome.{COutcome}
-use Rattle.cx_exec.specs.declared.outcome.COutcome.TheVariants.{StepsUsed}
+use Rattle.cx_exec.specs.declared.outcome.COutcome.TheVariants.{Ended, Undefined, StepsUsed, StoreFull, HostRefused, HostFault}
 use Rattle.cx_exec.specs.declared.outcome.CRun.{CRun}
 use Rattle.cx_exec.specs.declared.run.Far.{Far}
-use Rattle.cx_exec.specs.Exec.{Ran, IsRun}
-use Rattle.cx_exec.specs.Far.{IsSetting, IsStart, IsFar, IsEnd, IsEnding}
+use Rattle.cx_exec.specs.Exec.{Ran, IsRun, IsShort}
+use Rattle.cx_exec.specs.Far.{IsSetting, IsStart, IsFar, IsEnd, IsEnding, IsWanting}
 use Rattle.cx_exec.specs.Steps.{IsOutcome, Reached, start_around}
-use Rattle.cx_exec.proofs.Outcomes.{stopped_is, used_up}
+use Rattle.cx_exec.proofs.Between.{none_told}
+use Rattle.cx_exec.proofs.Outcomes.{stopped_is, used_up, wanting}
 use Rattle.cx_exec.proofs.Runs.{at_start, further_by, one_further}
 
 -- ---- its steps
@@ -55,6 +58,57 @@ stopped setting order limit host steps most count given old at later next why is
     subst (λ (one : CSetting). AdvancesBy one most count (view_machine old) (Err why) next at later) is advances in
     stopped_is setting.program order limit host (count + steps) by.1 by.2
     (further_by setting.program order steps count (view_machine old) by.1 (start_around limit host) at by.2 reached by.3) given (omega (arith, less, by.0)) later next why outcome outcome_is by.4
+
+pub wants_short : (setting : CSetting) (order : List ℕ) (limit : Option Limit) (host : HostState) (steps most count given : ℕ) (old : Machine) (at later : Around) (next : World → CState) (why : Stop) → IsSetting setting →
+    Reached setting.program order steps (view_machine old) (start_around limit host) at → most + steps ≤ given → AdvancesBy setting most count (view_machine old) (Err why) next at later →
+    IsWanting why → IsShort setting.program order limit given host later.host
+wants_short setting order limit host steps most count given old at later next (stop.Ended status) is reached less advances wanting_is = absurd wanting_is
+wants_short setting order limit host steps most count given old at later next (stop.Undefined rule place) is reached less advances wanting_is = absurd wanting_is
+wants_short setting order limit host steps most count given old at later next (stop.Lacks (lack.Full need left)) is reached less advances wanting_is = absurd wanting_is
+wants_short setting order limit host steps most count given old at later next (stop.Lacks (lack.Refused name)) is reached less advances wanting_is = absurd wanting_is
+wants_short setting order limit host steps most count given old at later next (stop.Lacks lack.Failed) is reached less advances wanting_is = absurd wanting_is
+wants_short setting order limit host steps most count given old at later next (stop.Lacks lack.Memory) is reached less advances wanting_is =
+    let by : AdvancesBy (setting_of setting.program) most count (view_machine old) (Err (stop.Lacks lack.Memory)) next at later =
+    subst (λ (one : CSetting). AdvancesBy one most count (view_machine old) (Err (stop.Lacks lack.Memory)) next at later) is advances in
+    wanting setting.program order limit host (count + steps) by.1 by.2
+    (further_by setting.program order steps count (view_machine old) by.1 (start_around limit host) at by.2 reached by.3) given (omega (arith, less, by.0)) later by.4
+
+-- nothing was asked for before the first step
+pub none_short : (program : CProgram) (order : List ℕ) (limit : Option Limit) (given : ℕ) (host later : HostState) → later ≡ host → IsShort program order limit given host later
+none_short program order limit given host later same = subst (IsShort program order limit given host) (sym same) (record {
+  trail = [];
+  steps = 0;
+  within = omega arith;
+  answers = refl;
+  told = none_told host.made;
+  given_by = refl;
+  takes = tt;
+})
+
+short_run : (ran : Ran) (given : ℕ) (host later : HostState) (outcome : COutcome) (taken : ℕ) → IsRun ran given host later outcome taken → IsShort ran.program ran.order ran.limit given host later
+short_run ran given host later outcome taken is = record {
+  trail = ran.trail;
+  steps = given;
+  within = omega arith;
+  answers = is.answers;
+  told = is.told;
+  given_by = is.given_by;
+  takes = is.takes;
+}
+
+-- a run that is told of was asked for no more than it shows, and neither was one that isn't, since memory was wanting
+pub far_short : (ran : Ran) (given : ℕ) (host later : HostState) (taken : ℕ) (stop : Option Stop) → IsFar ran given host later taken stop → IsShort ran.program ran.order ran.limit given host later
+far_short ran given host later taken None is = short_run ran given host later StepsUsed taken is.1
+far_short ran given host later taken (Some (stop.Ended status)) is = short_run ran given host later (Ended status) _ (is.1 (Ended status) refl)
+far_short ran given host later taken (Some (stop.Undefined rule place)) is = short_run ran given host later (Undefined rule place.unit place.line) _ (is.1 (Undefined rule place.unit place.line) refl)
+far_short ran given host later taken (Some (stop.Lacks (lack.Full need left))) is = short_run ran given host later (StoreFull need left) _ (is.1 (StoreFull need left) refl)
+far_short ran given host later taken (Some (stop.Lacks (lack.Refused name))) is = short_run ran given host later (HostRefused name.now) _ (is.1 (HostRefused name.now) refl)
+far_short ran given host later taken (Some (stop.Lacks lack.Failed)) is = short_run ran given host later HostFault _ (is.1 HostFault refl)
+far_short ran given host later taken (Some (stop.Lacks lack.Memory)) is = is.2 tt
+
+pub short_of : (parts whole : Parts) (order : List ℕ) (limit : Option Limit) (given : ℕ) (host later : HostState) → parts ≡ whole → IsShort (view_program parts) order limit given host later →
+    IsShort (view_program whole) order limit given host later
+short_of parts whole order limit given host later same is = subst (λ (one : Parts). IsShort (view_program one) order limit given host later) same is
 
 -- ---- its end
 
@@ -111,3 +165,7 @@ all_used program order limit host steps given machine at reached same = (
 pub far_within : (ran : Ran) (given : ℕ) (host later : HostState) (taken : ℕ) (stop : Option Stop) → IsFar ran given host later taken stop → taken ≤ given
 far_within ran given host later taken None is = omega (arith, is.0)
 far_within ran given host later taken (Some why) is = is.0
+
+pub on_err : {A E P : Type 0} (result : Result A E) → P → OnErr result P
+on_err (Ok value) holds = tt
+on_err (Err why) holds = holds

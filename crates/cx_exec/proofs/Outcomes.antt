@@ -1,5 +1,5 @@
 -- What a run came to, in the words of its contract.
-use Rattle.std.proofs.Common.{◌≡◌, ◌∙◌, refl, sym, ap, subst, arith, ℕ, suc, ◌+◌, ◌-◌, ◌<◌, ◌≤◌, ℤ, Bool, List, [], ◌++◌, Option, option_map, append-nil, Err, inl, inr}
+use Rattle.std.proofs.Common.{◌≡◌, ◌∙◌, refl, sym, ap, subst, arith, ℕ, suc, ◌+◌, ◌-◌, ◌<◌, ◌≤◌, ℤ, Bool, List, [], ◌++◌, Option, Some, option_map, append-nil, Err, inl, inr}
 use Rattle.cr_base.specs.Count.{Rose}
 use Rattle.cr_base.specs.declared.rule.URule.{URule}
 use Rattle.cr_base.specs.declared.refusal.Place.{Place}
@@ -10,6 +10,7 @@ use Rattle.cx_mean.specs.Run.{CProgress, going, progress_at, asks_for, c_after}
 use Rattle.cx_mean.specs.Settings.{setting_of}
 use Rattle.cx_mean.specs.State.{CControl, has_ended, has_stopped, CState, c_step}
 use Rattle.cx_outside.specs.States.{Around, AreGiven, AreTaken, Quiet, world_at}
+use Rattle.cx_outside.specs.Wanting.{HostKept, HostCalled, Wants}
 use Rattle.cx_outside.specs.declared.outside.Lack.{Lack}
 use Rattle.cx_outside.specs.declared.outside.Lack.TheVariants as lack
 use Rattle.ext_calls.specs.declared.call.Call.{Call}
@@ -20,9 +21,10 @@ use Rattle.cx_exec.specs.declared.outcome.COutcome.{COutcome}
 use Rattle.cx_exec.specs.declared.outcome.COutcome.TheVariants.{Ended, Undefined, StepsUsed, StoreFull, HostRefused, HostFault}
 use Rattle.cx_machine.specs.declared.stop.Stop.{Stop}
 use Rattle.cx_machine.specs.declared.stop.Stop.TheVariants as stop
-use Rattle.cx_exec.specs.Exec.{Ran, progress_within, state_within, world_within, IsProgress, IsLeast, TookSteps, AsksHost, HasFailed, IsRun}
+use Rattle.cx_exec.specs.Exec.{Ran, progress_within, state_within, world_within, IsProgress, IsLeast, TookSteps, AsksHost, HasFailed, IsRun, IsShort}
 use Rattle.cx_machine.specs.Steps.{IsStopped, Stops, Asks, Advances, taken_of}
 use Rattle.cx_exec.specs.Steps.{IsOutcome, Reached, start_in, start_around}
+use Rattle.cx_exec.proofs.Between.{both_given, both_taken, both_told}
 use Rattle.cx_exec.proofs.Runs.{last_or_before, stays_ended, stays_stopped, stays}
 
 rose_more : (one two three : ℕ) → one ≤ two → Rose two three → Rose one three
@@ -73,6 +75,58 @@ module _ (program : CProgram) (order : List ℕ) (limit : Option Limit) (host : 
     asks = tt;
     failed = tt;
   }
+
+  -- ---- memory was wanting in the next step
+
+  module _ (given : ℕ) (less : steps < given) (later : Around) where
+    abbrev step_world : World → Option World
+    step_world world = Some (c_step (setting_of program) (now world)).world
+
+    kept_short : HostKept at.host later.host → IsShort program order limit given host later.host
+    kept_short kept = record {
+      trail = at.trail;
+      steps = steps;
+      within = omega (arith, less);
+      answers = ap (λ (world : World). world.answers) world_is;
+      told = kept.made ∙ reached.between.told ∙ ap (λ (calls : List Made). option_map (λ made. made ++ calls) host.made) (sym calls_are);
+      given_by =
+          subst (λ (calls : List Made). AreGiven calls host.left later.host.left) (sym calls_are)
+          (subst (λ (left : Option (List ℤ)). AreGiven reached.between.calls host.left left) (sym kept.left) reached.between.given);
+      takes = subst (λ (calls : List Made). AreTaken host.takes calls) (sym calls_are) reached.between.taken_by;
+    }
+
+    module _ (called : HostCalled step_world at later) where
+      abbrev longer : Ran
+      longer = record { program = program; order = order; limit = limit; trail = reached.between.answers ++ called.answers }
+
+      longer_is : state_within longer (suc steps) ≡ c_step (setting_of program) (now (world_at at reached.between.calls called.answers))
+      longer_is = ap (λ (state : CState). c_step (setting_of program) state) (reached.goes called.answers)
+
+      longer_made : (world_within longer (suc steps)).made ≡ reached.between.calls ++ called.calls
+      longer_made = ap (λ (state : CState). state.world.made) longer_is ∙ (called.shows reached.between.calls).0
+
+      called_short : IsShort program order limit given host later.host
+      called_short = record {
+        trail = reached.between.answers ++ called.answers;
+        steps = suc steps;
+        within = omega (arith, less);
+        answers = ap (λ (state : CState). state.world.answers) longer_is ∙ (called.shows reached.between.calls).1;
+        told =
+            called.told
+            ∙ ap (λ (told : Option (List Made)). option_map (λ made. made ++ called.calls) told) reached.between.told
+            ∙ both_told reached.between.calls called.calls host.made
+            ∙ ap (λ (calls : List Made). option_map (λ made. made ++ calls) host.made) (sym longer_made);
+        given_by =
+            subst (λ (calls : List Made). AreGiven calls host.left later.host.left) (sym longer_made)
+            (both_given reached.between.calls called.calls host.left at.host.left later.host.left reached.between.given called.given);
+        takes =
+            subst (λ (calls : List Made). AreTaken host.takes calls) (sym longer_made)
+            (both_taken reached.between.calls called.calls host.takes at.host.takes reached.between.takes reached.between.taken_by called.taken_by);
+      }
+
+    pub wanting : Wants step_world at later → IsShort program order limit given host later.host
+    wanting (inl kept) = kept_short kept
+    wanting (inr called) = called_short called
 
   -- ---- the next step led to a state from which the run goes no further
 

@@ -85,3 +85,14 @@ pub record IsRun (ran : Ran) (given : ℕ) (host later : HostState) (outcome : C
   pub takes : AreTaken host.takes (world_within ran given).made
   pub asks : AsksHost host outcome (progress_within ran given)
   pub failed : HasFailed host later outcome
+
+-- memory was wanting: within some steps, at most those that were given, the run under some trail makes the calls that the host was asked for, with
+-- the answers that it gave, and takes all answers of the trail
+pub record IsShort (program : CProgram) (order : List ℕ) (limit : Option Limit) (given : ℕ) (host later : HostState) : Type 0 where
+  pub trail : List ℤ
+  pub steps : ℕ
+  pub within : steps ≤ given
+  pub answers : (world_within (record { program = program; order = order; limit = limit; trail = trail }) steps).answers ≡ []
+  pub told : later.made ≡ option_map (λ made. made ++ (world_within (record { program = program; order = order; limit = limit; trail = trail }) steps).made) host.made
+  pub given_by : AreGiven (world_within (record { program = program; order = order; limit = limit; trail = trail }) steps).made host.left later.left
+  pub takes : AreTaken host.takes (world_within (record { program = program; order = order; limit = limit; trail = trail }) steps).made

@@ -6,10 +6,12 @@ use Rattle.cx_exec.specs.declared.outcome.COutcome.{COutcome}
 use Rattle.cx_exec.specs.declared.outcome.COutcome.TheVariants.{StepsUsed}
 use Rattle.cx_exec.specs.declared.outcome.CRun.{CRun}
 use Rattle.cx_exec.specs.declared.run.Far.{Far}
-use Rattle.cx_exec.specs.Exec.{Ran, IsRun}
+use Rattle.cx_exec.specs.Exec.{Ran, IsRun, IsShort}
 use Rattle.cx_exec.specs.Steps.{IsOutcome, start_in}
 use Rattle.cx_machine.specs.declared.machine.Machine.{Machine}
 use Rattle.cx_machine.specs.declared.stop.Stop.{Stop}
+use Rattle.cx_machine.specs.declared.stop.Stop.TheVariants as stop
+use Rattle.cx_outside.specs.declared.outside.Lack.TheVariants as lack
 use Rattle.cx_machine.specs.Machines.{view_machine}
 use Rattle.cx_machine.specs.Steps.{taken_of}
 use Rattle.cx_mean.specs.Settings.{CSetting, setting_of}
@@ -23,11 +25,17 @@ IsStart program machine = (world : World) → start_in program machine.order.now
 abbrev pub IsSetting : CSetting → Type 0
 IsSetting setting = setting ≡ setting_of setting.program
 
+-- memory was wanting
+abbrev pub IsWanting : Stop → Type 0
+IsWanting (stop.Lacks lack.Memory) = Unit {0}
+IsWanting why = ⊥
+
 -- all steps were used, or the run stopped
 abbrev pub IsFar : Ran → (given : ℕ) → (host later : HostState) → (taken : ℕ) → Option Stop → Type 0
 IsFar ran given host later taken None = (taken ≡ given) × IsRun ran given host later StepsUsed taken
 IsFar ran given host later taken (Some why) =
     (taken ≤ given) × ((outcome : COutcome) → IsOutcome why outcome → IsRun ran given host later outcome (taken_of why taken))
+    × (IsWanting why → IsShort ran.program ran.order ran.limit given host later)
 
 -- what a run came to, by how far it came
 abbrev pub IsEnding : Option Stop → ℕ → COutcome → (steps : ℕ) → Type 0

@@ -1,10 +1,10 @@
 //! Runs of C programs (ISO C99, 5.1.2.3).
 
-ghost use Rattle.std.specs.Prelude.{◌≡◌, ◌+◌, ◌<◌, ◌≤◌, ◌^◌, ◌++◌, [], IfOk, option_map};
+ghost use Rattle.std.specs.Prelude.{◌≡◌, ◌+◌, ◌<◌, ◌≤◌, ◌^◌, ◌++◌, [], IfOk, OnErr, option_map};
 ghost use Rattle.cx_access.specs.Views.{view_setting};
 ghost use Rattle.cx_core.specs.Layouts.{layouts_of};
 ghost use Rattle.cx_core.specs.Views.{view_program, view_types};
-ghost use Rattle.cx_exec.specs.Exec.{AsksHost, HasFailed, IsProgress, IsRun, TookSteps, progress_within, world_within};
+ghost use Rattle.cx_exec.specs.Exec.{AsksHost, HasFailed, IsProgress, IsRun, IsShort, TookSteps, progress_within, world_within};
 ghost use Rattle.cx_exec.specs.Far.{IsEnd, IsFar, IsSetting, IsStart};
 ghost use Rattle.cx_machine.specs.Steps.{taken_of};
 ghost use Rattle.cx_outside.specs.States.{AreGiven, AreTaken};
@@ -164,8 +164,9 @@ fn run_in<S: Store, H: Host>(
     requires setting { IsSetting (view_setting setting.now) }
     requires steps { steps ≤ 1000000000 }
     requires empty { S.memory store.old ≡ [] }
-    ensures { IfOk result (λ run. IsRun (record { program = (view_setting setting.now).program; order = order.now; limit = S.limit store.old; trail = run.trail }) steps
+    ensures run { IfOk result (λ run. IsRun (record { program = (view_setting setting.now).program; order = order.now; limit = S.limit store.old; trail = run.trail }) steps
         (H.state host.old) (H.state host.new) run.outcome run.steps) }
+    ensures short { OnErr result (IsShort (view_setting setting.now).program order.now (S.limit store.old) steps (H.state host.old) (H.state host.new)) }
 {
     let mut machine = started(alloc, setting, order)?;
     let mut kept = Kept::new(alloc);
@@ -219,6 +220,9 @@ pub fn run_c<S: Store, H: Host>(
     ensures asks { IfOk result (λ run. AsksHost (H.state host.old) run.outcome
         (progress_within (record { program = view_program program.now; order = order.now; limit = S.limit store.old; trail = run.trail }) steps)) }
     ensures failed { IfOk result (λ run. HasFailed (H.state host.old) (H.state host.new) run.outcome) }
+
+    // Where memory is wanting, the host was asked for what the run asks within some of the steps.
+    ensures short { OnErr result (IsShort (view_program program.now) order.now (S.limit store.old) steps (H.state host.old) (H.state host.new)) }
 {
     let layouts = layouts_of(alloc, program)?;
     let setting = Setting {

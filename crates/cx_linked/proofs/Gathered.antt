@@ -5,12 +5,12 @@ use Rattle.std.proofs.lemmas.List.Folds.{find-append, find_at}
 use Rattle.std.specs.List.{find, flat_map, position_or_len}
 use Rattle.std.specs.Option.{option_or}
 use Rattle.std.specs.Prelude.{is_some}
-use Rattle.cx_core.specs.Trees.{CTypes, CObject, CFun, COuter, CProgram, CUnit}
+use Rattle.cx_core.specs.Trees.{CTypes, CObject, CFun, COuter, CDeclaredOrder, CProgram, CUnit}
 use Rattle.cx_links.specs.Program.{CFound, counts_before, declared_object, defined_object, first_unit, found_or, from_each, is_object_named, linked, numbers_of, object_of_name, objects_from, or_other, outers_from, types_of_all}
 use Rattle.cx_renumber.specs.Numbers.{CCounts, CNumbers, function_there}
 use Rattle.cx_link.proofs.Chains.{split_at}
 use Rattle.cx_linked.specs.Found.{all_found, found_at, found_in}
-use Rattle.cx_linked.specs.Named.{AreAt, IsAt, all_before, all_numbers, function_renumbered, objects_for, outers_for}
+use Rattle.cx_linked.specs.Named.{AreAt, IsAt, all_before, all_numbers, all_orders, function_renumbered, objects_for, outers_for}
 
 -- ---- from each unit
 
@@ -247,20 +247,36 @@ pub program_is : (units : List CUnit) (program : CProgram) → program.types ≡
     → program.objects ≡ flat_map (objects_for units) (all_found (λ home. home.objects) units)
     → program.functions ≡ map (function_renumbered units) (all_found (λ home. home.functions) units)
     → program.externals ≡ flat_map (outers_for units) (all_found (λ home. home.externals) units)
+    → program.orders ≡ all_orders units
     → program ≡ linked units
 unfolding linked
-program_is units program types objects functions externals =
-    ap (λ (t : CTypes). record { types = t; objects = program.objects; functions = program.functions; externals = program.externals }) types
-    ∙ ap (λ (os : List CObject). record { types = types_of_all units; objects = os; functions = program.functions; externals = program.externals }) (objects ∙ sym (objects_are units))
+program_is units program types objects functions externals orders =
+    ap (λ (t : CTypes). record { types = t; objects = program.objects; functions = program.functions; externals = program.externals; orders = program.orders }) types
+    ∙ ap (λ (os : List CObject). record {
+      types = types_of_all units;
+      objects = os;
+      functions = program.functions;
+      externals = program.externals;
+      orders = program.orders;
+    }) (objects ∙ sym (objects_are units))
     ∙ ap (λ (fs : List CFun). record {
       types = types_of_all units;
       objects = from_each (λ one unit. objects_from units one unit one.objects) 0 units;
       functions = fs;
       externals = program.externals;
+      orders = program.orders;
     }) (functions ∙ sym (functions_are units))
     ∙ ap (λ (es : List COuter). record {
       types = types_of_all units;
       objects = from_each (λ one unit. objects_from units one unit one.objects) 0 units;
       functions = from_each (λ one unit. map (function_there (numbers_of units one unit)) one.functions) 0 units;
       externals = es;
+      orders = program.orders;
     }) (externals ∙ sym (outers_are units))
+    ∙ ap (λ (all : List CDeclaredOrder). record {
+      types = types_of_all units;
+      objects = from_each (λ one unit. objects_from units one unit one.objects) 0 units;
+      functions = from_each (λ one unit. map (function_there (numbers_of units one unit)) one.functions) 0 units;
+      externals = from_each (λ one unit. outers_from units one unit one.externals) 0 units;
+      orders = all;
+    }) orders

@@ -2,11 +2,11 @@
 use Rattle.std.specs.Prelude.{◌≡◌, ℕ, suc, option_map, ◌+◌, ◌==◌, ◌&&◌, Bool, if◌then◌else◌, List, [], ◌∷◌, map, Option, Some, None, slice_get, is_some}
 use Rattle.std.specs.List.{find, flat_map}
 use Rattle.cx_core.specs.Linked.{is_external}
-use Rattle.cx_core.specs.Trees.{CTypes, CObject, CFun, COuter, CProgram, CUnit}
+use Rattle.cx_core.specs.Trees.{CTypes, CObject, CFun, COuter, CDeclaredOrder, CProgram, CUnit}
 use Rattle.cx_core.specs.Views.{view_function, view_object, view_outer, view_unit}
 use Rattle.cx_link.specs.Chains.{indexed}
 use Rattle.cx_links.specs.Program.{CFound, counts_before, external_object, from_each, function_as, has_name, is_left, numbers_of, object_as}
-use Rattle.cx_renumber.specs.Numbers.{CCounts, CNumbers, function_there, object_there, outer_there}
+use Rattle.cx_renumber.specs.Numbers.{CCounts, CNumbers, function_there, object_there, order_there, outer_there}
 use Rattle.cx_renumber.specs.Views.{view_counts}
 use Rattle.cx_linked.specs.declared.index.Index.{Index}
 use Rattle.cx_linked.specs.declared.found.Things.{Things}
@@ -122,11 +122,19 @@ outers_for units found = if is_left units found.unit found.thing then outer_renu
 abbrev pub AreAt : {A : Type 0} → List CUnit → List (CFound A) → Type 0
 AreAt {A} units all = (place : ℕ) (found : CFound A) → slice_get all place ≡ Some found → IsAt units found
 
--- the program of these things beside types
-abbrev pub with_things : List CUnit → CTypes → CProgram
-with_things units types = record {
+abbrev pub order_alone : List CUnit → CUnit → ℕ → List CDeclaredOrder
+order_alone units one unit = order_there (numbers_of units one unit) one.order ∷ []
+
+-- the order of declarations of each unit
+abbrev pub all_orders : List CUnit → List CDeclaredOrder
+all_orders units = from_each (order_alone units) 0 units
+
+-- the program of these things beside types and orders of declarations
+abbrev pub with_things : List CUnit → CTypes → List CDeclaredOrder → CProgram
+with_things units types orders = record {
   types = types;
   objects = flat_map (objects_for units) (all_found (λ (home : CUnit). home.objects) units);
   functions = map (function_renumbered units) (all_found (λ (home : CUnit). home.functions) units);
   externals = flat_map (outers_for units) (all_found (λ (home : CUnit). home.externals) units);
+  orders = orders;
 }

@@ -5,6 +5,7 @@ mod found;
 mod index;
 mod named;
 mod numbers;
+mod orders;
 mod parts;
 mod program;
 

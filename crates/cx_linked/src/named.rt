@@ -4,7 +4,7 @@ ghost use Rattle.std.specs.Prelude.{◌≡◌, ◌+◌, map, Some, IfOk, option_
 ghost use Rattle.std.specs.Option.{option_and_then, option_copied};
 ghost use Rattle.cx_core.specs.Views.{view_function, view_object, view_outer, view_unit};
 ghost use Rattle.cx_link.specs.Chains.{indexed};
-ghost use Rattle.cx_links.specs.Program.{counts_before, declared_object, first_unit, function_as, function_at, function_of_name, is_in, object_as, object_at, object_by, object_of_name, outer_by, outer_of_name};
+ghost use Rattle.cx_links.specs.Program.{counts_before, function_as, function_at, function_of_name, is_in, object_as, object_at, object_by, object_of_name, outer_by, outer_of_name};
 ghost use Rattle.cx_linked.specs.Found.{view_found};
 ghost use Rattle.cx_linked.specs.Named.{ArePlaces, IsNamed, IsNamedBy, all_before, units_of};
 ghost use Rattle.cx_renumber.specs.Views.{view_counts};
@@ -115,12 +115,12 @@ impl<'a> Named<'a> {
         }
     }
 
-    /// Whether a unit is the first that declares an object of a name.
-    pub(crate) fn is_declared_first(&self, unit: usize, name: &[u8]) -> bool
+    /// Whether what stands for the name of an object is of a unit.
+    pub(crate) fn stands_in(&self, unit: usize, name: &[u8]) -> bool
         requires known { IsNamed self.now }
-        ensures { result ≡ is_in unit (first_unit (declared_object name.now) 0 (units_of self.now)) }
+        ensures { result ≡ is_in unit (object_of_name (units_of self.now) name.now) }
     {
-        match found_by(&self.things.objects, &self.places.declared_objects, name) {
+        match self.object_of_name(name) {
             Some(one) => one.unit == unit,
             None => false,
         }

@@ -2,7 +2,7 @@
 
 ghost use Rattle.std.specs.Prelude.{◌≡◌, ◌++◌, [], ◌∷◌, ℕ, map, Some, IfOk, OnOk, slice_get};
 ghost use Rattle.std.specs.List.{flat_map};
-ghost use Rattle.cx_core.specs.Views.{view_function, view_object, view_outer, view_program, view_types, view_unit};
+ghost use Rattle.cx_core.specs.Views.{view_function, view_object, view_order, view_outer, view_program, view_types, view_unit};
 ghost use Rattle.cx_links.specs.Program.{external_object, is_left, numbers_of, object_of_name, there};
 ghost use Rattle.cx_linked.specs.Found.{view_found};
 ghost use Rattle.cx_linked.specs.Linking.{IsLinking, units_in};
@@ -37,7 +37,7 @@ impl<'a> Linking<'a> {
     }
 
     // The numbers of the unit of a thing.
-    fn numbers_of<T>(&self, found: &Found<'_, T>) -> Result<&Numbers, Memory>
+    pub(crate) fn numbers_of<T>(&self, found: &Found<'_, T>) -> Result<&Numbers, Memory>
         requires known { IsLinking self.now }
         requires at { slice_get (units_in self.now) found.now.unit ≡ Some (view_unit found.now.home.now) }
         ensures { IfOk result (λ numbers. view_numbers numbers.now ≡ numbers_of (units_in self.now) (view_unit found.now.home.now) found.now.unit) }
@@ -79,7 +79,7 @@ impl<'a> Linking<'a> {
         }
     }
 
-    // The object of an external name stands where the name is declared first.
+    // The object of an external name stands in its own unit, there where that unit declares it first.
     fn put_external(
         &self,
         alloc: Global,
@@ -92,7 +92,7 @@ impl<'a> Linking<'a> {
         let Some(name) = &found.thing.name else {
             return Ok(());
         };
-        if self.named.is_declared_first(found.unit, name.bytes()) {
+        if self.named.stands_in(found.unit, name.bytes()) {
             self.put_named(alloc, name.bytes(), made)
         } else {
             Ok(())
@@ -232,8 +232,8 @@ impl<'a> Linking<'a> {
     /// Adds the things of the program. Refused only for want of memory.
     pub(crate) fn add_things(&self, alloc: Global, parts: &mut Parts) -> Result<(), Memory>
         requires known { IsLinking self.now }
-        requires none { parts.old ≡ record { types = parts.old.types; objects = []; functions = []; externals = [] } }
-        ensures { OnOk result (view_program parts.new ≡ with_things (units_in self.now) (view_types parts.old.types)) }
+        requires none { parts.old ≡ record { types = parts.old.types; objects = []; functions = []; externals = []; orders = parts.old.orders } }
+        ensures { OnOk result (view_program parts.new ≡ with_things (units_in self.now) (view_types parts.old.types) (map view_order parts.old.orders)) }
     {
         let things = &self.named.things;
         self.objects(alloc, things.objects.as_slice(), &mut parts.objects)?;

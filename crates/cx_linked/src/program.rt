@@ -20,11 +20,13 @@ fn parts_with(alloc: Global, units: &[CoreUnit], linking: &Linking<'_>) -> Resul
     ensures { IfOk result (λ parts. view_program parts ≡ linked (map view_unit units.now)) }
 {
     let types = all_types(alloc, units)?;
+    let orders = linking.orders(alloc)?;
     let mut parts = Parts {
         types,
         objects: Items::new(alloc),
         functions: Items::new(alloc),
         externals: Items::new(alloc),
+        orders,
     };
     linking.add_things(alloc, &mut parts)?;
     Ok(parts)
@@ -49,7 +51,13 @@ pub fn program_of(alloc: Global, units: &[CoreUnit]) -> Result<Program, Memory>
     ensures linked { IfOk result (λ program. view_program program ≡ linked (map view_unit units.now)) }
 {
     let parts = parts_of(alloc, units)?;
-    Ok(Program::new(parts.types, parts.objects, parts.functions, parts.externals))
+    Ok(Program::new(
+        parts.types,
+        parts.objects,
+        parts.functions,
+        parts.externals,
+        parts.orders,
+    ))
 }
 
 /// The program of units each of which breaks no rule by itself (ISO C99, 5.1.2.2.1, 6.2.2p2, 6.2.7p2, 6.9p5).

@@ -1,3 +1,5 @@
 pub mod Compatible
 pub mod Mains
+pub mod UnitOrder
 mod Worked
+mod WorkedOrder

@@ -8,7 +8,7 @@ use Rattle.cx_core.specs.Externals.{known_functions}
 use Rattle.cx_core.specs.declared.program.Linkage.{Linkage}
 use Rattle.cx_core.specs.declared.program.Linkage.TheVariants.{External, Internal}
 use Rattle.cx_core.specs.declared.ty.Basic.TheVariants.{Char, Int, Long, UnsignedLong}
-use Rattle.cx_core.specs.Trees.{CTy, ty, void, basic, pointer, record_type, function, listed, unlisted, CTys, no_types, more_types, CExpr, expr, object, load, no_puts, stmt, block, returns, no_stmts, more_stmts, CTypes, no_types_yet, CObject, CFun, COuter, CDoes, declares, defines, calls, uses, CMention, CUnit, CProgram}
+use Rattle.cx_core.specs.Trees.{CTy, ty, void, basic, pointer, record_type, function, listed, unlisted, CTys, no_types, more_types, CExpr, expr, object, load, no_puts, stmt, block, returns, no_stmts, more_stmts, CTypes, no_types_yet, CObject, CFun, COuter, CDeclaredOrder, CDoes, declares, defines, calls, uses, CMention, CUnit, CProgram}
 use Rattle.cx_links.specs.Program.{linked}
 use Rattle.cx_externals.specs.Functions.{is_external_type}
 use Rattle.cx_links.specs.Rules.{broken_links, compatible_in, first_in, rule_of}
@@ -70,9 +70,12 @@ an_object unit number name type linkage false =
 abbrev an_outer : ℕ → List ℕ → CTy → Linkage → COuter
 an_outer number name type linkage = record { function = number; name = name; linkage = linkage; type = type }
 
+abbrev no_order : CDeclaredOrder
+no_order = record { things = []; completed = [] }
+
 abbrev a_unit : List CObject → List CFun → List COuter → List CMention → CUnit
 a_unit objects functions externals mentions =
-    record { types = no_types_yet; objects = objects; functions = functions; externals = externals; mentions = mentions }
+    record { types = no_types_yet; objects = objects; functions = functions; externals = externals; mentions = mentions; order = no_order }
 
 -- `int main(void) { .. }` at a line
 abbrev main_at : ℕ → ℕ → CMention
@@ -294,6 +297,7 @@ with_record unit name is_defined functions mentions = record {
   functions = functions;
   externals = [];
   mentions = mentions;
+  order = no_order;
 }
 
 abbrev pointer_p : CTy
@@ -314,8 +318,8 @@ other_records = refl
 abbrev object_numbers : CProgram → List ℕ
 object_numbers program = map (λ one. one.object) program.objects
 
--- `n` stands where it is declared first, and is that of the unit that defines it; the static object of that unit follows
-numbers_of_objects : object_numbers (linked (uses_n ∷ defines_n ∷ [])) ≡ 2 ∷ 1 ∷ []
+-- `n` is that of the unit that defines it, and stands there behind the static object
+numbers_of_objects : object_numbers (linked (uses_n ∷ defines_n ∷ [])) ≡ 1 ∷ 2 ∷ []
 unfolding linked
 numbers_of_objects = refl
 

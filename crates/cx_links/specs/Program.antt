@@ -3,7 +3,7 @@ use Rattle.std.specs.Prelude.{ℕ, zero, suc, ◌+◌, ◌==◌, ◌&&◌, Bool,
 use Rattle.std.specs.List.{find}
 use Rattle.cx_core.specs.Linked.{is_external}
 use Rattle.cx_core.specs.Trees.{CTypes, no_types_yet, CObject, CFun, COuter, CProgram, CMention, CUnit}
-use Rattle.cx_renumber.specs.Numbers.{CCounts, no_counts, together, counts_of, CNumbers, record_there, object_there, function_there, outer_there, mention_there}
+use Rattle.cx_renumber.specs.Numbers.{CCounts, no_counts, together, counts_of, CNumbers, record_there, object_there, function_there, outer_there, order_there, mention_there}
 
 -- ---- the thing of an external name
 
@@ -146,11 +146,12 @@ abbrev pub there : List CUnit → Option (CFound CObject) → List CObject
 there units None = []
 there units (Some found) = object_there (numbers_of units found.home found.unit) found.thing ∷ []
 
--- the object of an external name stands where the name is declared first
+-- the object of an external name stands in the unit that defines it, and where none does, in the first that declares it: there where
+-- that unit declares it first (6.2.2p2, 6.2.4)
 abbrev pub external_object : List CUnit → ℕ → Option (List ℕ) → List CObject
 external_object units unit None = []
 external_object units unit (Some name) =
-    if is_in unit (first_unit (declared_object name) 0 units) then there units (object_of_name units name) else []
+    if is_in unit (object_of_name units name) then there units (object_of_name units name) else []
 
 abbrev pub objects_from : List CUnit → CUnit → ℕ → List CObject → List CObject
 objects_from units one unit [] = []
@@ -176,6 +177,7 @@ linked units = record {
   objects = from_each (λ one unit. objects_from units one unit one.objects) 0 units;
   functions = from_each (λ one unit. map (function_there (numbers_of units one unit)) one.functions) 0 units;
   externals = from_each (λ one unit. outers_from units one unit one.externals) 0 units;
+  orders = from_each (λ one unit. order_there (numbers_of units one unit) one.order ∷ []) 0 units;
 }
 
 -- all mentions, unit by unit

@@ -1,5 +1,5 @@
 -- A static object that begins, as a step of a run.
-use Rattle.std.proofs.Common.{◌≡◌, ◌∙◌, refl, sym, ap, subst, ℤ, true, List, [], ◌∷◌, ◌++◌, Option, Some, Result, Err}
+use Rattle.std.proofs.Common.{◌≡◌, ◌∙◌, inl, refl, sym, ap, subst, ℤ, true, List, [], ◌∷◌, ◌++◌, Option, Some, Result, Err}
 use Rattle.cr_base.specs.declared.layout.Laid.{Laid}
 use Rattle.cr_world.specs.World.{World, Got, full, asks, object_begun}
 use Rattle.cx_core.specs.Trees.{CObject}
@@ -8,6 +8,7 @@ use Rattle.cx_mean.specs.Settings.{CSetting, extent_in}
 use Rattle.cx_mean.specs.State.{CState, has_stopped, at_control, after_static, as_stop, no_place, slot, beginning_statics, statics_in}
 use Rattle.cx_outside.specs.Comes.{Comes, got, Steps}
 use Rattle.cx_outside.specs.States.{Around, world_at}
+use Rattle.cx_outside.specs.Wanting.{HostKept}
 use Rattle.cx_outside.specs.declared.outside.Lack.{Lack}
 use Rattle.cx_outside.specs.declared.outside.Lack.TheVariants as lack
 use Rattle.ext_calls.specs.declared.call.Made.{Made}
@@ -37,23 +38,23 @@ module _ (setting : CSetting) (old : Machine) (one : CObject) (others : List COb
       (sym (begun_by here ∙ ap (λ (found : Result (Got Ptr) CStop). after_static setting (view_machine old here) one others found) stopped))
       (record { control_is = refl; made_is = refl; answers_are = refl })
 
-  pub static_lacks : (why : Lack) (next : World → CState) (before after : Around) → Steps {A = Ptr} (object_begun true laid.size laid.align) (Err why) before after →
+  pub static_lacks : (why : Lack) (next : World → CState) (before after : Around) → HostKept before.host after.host → Steps {A = Ptr} (object_begun true laid.size laid.align) (Err why) before after →
       Advances piece (Err (stop.Lacks why)) next before after
-  static_lacks (lack.Full need left) next before after found =
+  static_lacks (lack.Full need left) next before after kept found =
       record { quiet = found.quiet; stops = λ made ahead. stops_as made ahead before (full need left) (found.stops made ahead) }
-  static_lacks (lack.Refused name) next before after found = record {
+  static_lacks (lack.Refused name) next before after kept found = record {
     call = found.call;
     named = found.named;
     declined = found.declined;
     asks = record { quiet = found.asks.quiet; stops = λ made. stops_as made [] before (asks found.call) (found.asks.stops made) };
   }
-  static_lacks lack.Failed next before after found = record {
+  static_lacks lack.Failed next before after kept found = record {
     call = found.call;
     taken = found.taken;
     rose = found.rose;
     asks = record { quiet = found.asks.quiet; stops = λ made. stops_as made [] before (asks found.call) (found.asks.stops made) };
   }
-  static_lacks lack.Memory next before after found = tt
+  static_lacks lack.Memory next before after kept found = inl kept
 
   pub static_begun : (mid new : Machine) (at : Ptr) (before later : Around) (all : List CObject) → all ≡ statics_in setting.program.objects →
       mid ≡ record old { statics = old.statics ++ slot one.object at ∷ [] } → IsAt mid new (beginning_statics others all) →

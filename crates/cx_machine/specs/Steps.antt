@@ -1,11 +1,12 @@
 -- One step of a run, and what it comes to.
-use Rattle.std.specs.Prelude.{◌≡◌, ℕ, suc, ℤ, true, false, List, [], Option, Result, Ok, Err}
+use Rattle.std.specs.Prelude.{◌≡◌, ℕ, suc, ℤ, true, false, List, [], Option, Some, Result, Ok, Err}
 use Rattle.cr_base.specs.Count.{Rose}
 use Rattle.cr_world.specs.World.{World, full, asks}
 use Rattle.cx_mean.specs.Operands.{breaks, stops}
 use Rattle.cx_mean.specs.State.{CControl, has_ended, has_stopped, CState}
 use Rattle.cx_outside.specs.Comes.{Comes}
 use Rattle.cx_outside.specs.States.{Around, KeptState, Quiet, around, world_at}
+use Rattle.cx_outside.specs.Wanting.{Wants}
 use Rattle.cx_outside.specs.declared.outside.Lack.TheVariants as lack
 use Rattle.ext_calls.specs.declared.call.Call.{Call}
 use Rattle.ext_calls.specs.declared.call.Made.{Made}
@@ -52,8 +53,8 @@ Advances piece (Err (stop.Undefined rule place)) next before after = Stops piece
 Advances piece (Err (stop.Lacks (lack.Full need left))) next before after = Stops piece (has_stopped (full need left)) before after
 Advances piece (Err (stop.Lacks (lack.Refused name))) next before after = IsRefused piece name.now before after
 Advances piece (Err (stop.Lacks lack.Failed)) next before after = Fails piece before after
--- want of memory may come in the place of anything
-Advances piece (Err (stop.Lacks lack.Memory)) next before after = Unit {0}
+-- want of memory may come in the place of anything; then the host was asked for nothing, or for what the step asks
+Advances piece (Err (stop.Lacks lack.Memory)) next before after = Wants (λ world. Some (piece world).world) before after
 
 -- the steps that a run took before and in the one in which it stopped; one that lacks something isn't taken
 abbrev pub taken_of : Stop → ℕ → ℕ

@@ -63,6 +63,11 @@ with_case_in_loop : plain (does (switch (n 1) (does (while (n 1) (does (case (po
 unfolding plain
 with_case_in_loop = refl
 
+-- in the first part of a `for`, too
+with_goto_in_first_part : plain (does (label (codes "a") (does (for_loop (stmts (does (goto (codes "a")) ∷ [])) None None (does break)))) ∷ []) ≡ false
+unfolding plain
+with_goto_in_first_part = refl
+
 with_default_in_loop : plain (does (switch (n 1) (does (for_loop (stmts []) None None (does (default skip))))) ∷ []) ≡ false
 unfolding plain
 with_default_in_loop = refl

@@ -18,7 +18,7 @@ use Rattle.cx_core.specs.Trees.{CTy, ty, CTyForm, void, basic, enum_type, pointe
 use Rattle.cx_mean.specs.Accesses.{CKind, of_scalar, of_record, scalar_kind, record_kind, kind_by, kind_of, object_at, is_field_place, at_field_place, field_value, CLoaded, loaded_kind, loaded_from, loaded, CStored, sized, cells_in, exact_or_apart, source_of, stored_bits, stored_kind, stored_to, stored}
 use Rattle.cx_mean.specs.Initialisers.{part_with}
 use Rattle.cx_mean.specs.Marks.{Marks, Range, any_overlap, bits_of_bytes, bits_of_field, with_write}
-use Rattle.cx_mean.specs.Nodes.{pointed_to, member_of_place, value_part, member_of_kind, member_bits, member_with, member_value}
+use Rattle.cx_mean.specs.Nodes.{pointed_to, aligned_place, member_of_place, value_part, member_of_kind, member_bits, member_with, member_value}
 use Rattle.cx_numbers.specs.Numbers.{represents}
 use Rattle.cx_mean.specs.Operands.{CWhy, breaks, stuck, needed, accessed, by_pointers, CValue, scalar, cells, names, designates, designates_bits, missing, sequenced_after, Frame, place_in, scalar_value}
 use Rattle.cx_mean.specs.Settings.{CSetting, scalar_in_type, extent_in, types_in_setting}
@@ -415,19 +415,21 @@ part_is_place : (at : Ptr) (bit width : ℕ) → IsHeldValue (part_with at bit w
 part_is_place at bit zero = tt
 part_is_place at bit (suc n) = tt
 
-member_place_held : (blocks : Blocks) (spot : Spot) (place : Result Value CWhy) → IfGiven IsHeldValue (member_of_place blocks spot place)
-member_place_held blocks spot place =
+member_place_held : (blocks : Blocks) (spot : Spot) (laid : Option Laid) (place : Result Value CWhy) → IfGiven IsHeldValue (member_of_place blocks spot laid place)
+member_place_held blocks spot laid place =
+    given_then IsHeldValue (needed laid) _ (λ one.
     given_then IsHeldValue place _ (λ to.
     given_then IsHeldValue (object_at to) _ (λ at.
-    given_then IsHeldValue (by_pointers U11 (place_moved blocks at (pos spot.byte))) _ (λ new. part_is_place new spot.bit spot.width)))
+    given_then IsHeldValue (by_pointers U11 (place_moved blocks at (pos spot.byte))) _ (λ new.
+    given_then IsHeldValue (accessed (aligned_place blocks one.align at)) _ (λ _. part_is_place new spot.bit spot.width)))))
 
-pub member_held : (setting : CSetting) (frame : Frame) (blocks : Blocks) (type : CTy) (spot : Spot) (value : CValue) → IsHeldValue value → IfGiven IsHeldValue (member_value setting frame blocks type spot value)
-member_held setting frame blocks type spot (cells held from) are = member_with_held setting type spot spot.width held from are
-member_held setting frame blocks type spot missing are = tt
-member_held setting frame blocks type spot (scalar value) are = member_place_held blocks spot (place_in frame (scalar value))
-member_held setting frame blocks type spot (names number) are = member_place_held blocks spot (place_in frame (names number))
-member_held setting frame blocks type spot (designates to) are = member_place_held blocks spot (place_in frame (designates to))
-member_held setting frame blocks type spot (designates_bits at bit width) are = member_place_held blocks spot (place_in frame (designates_bits at bit width))
+pub member_held : (setting : CSetting) (frame : Frame) (blocks : Blocks) (type holder : CTy) (spot : Spot) (value : CValue) → IsHeldValue value → IfGiven IsHeldValue (member_value setting frame blocks type holder spot value)
+member_held setting frame blocks type holder spot (cells held from) are = member_with_held setting type spot spot.width held from are
+member_held setting frame blocks type holder spot missing are = tt
+member_held setting frame blocks type holder spot (scalar value) are = member_place_held blocks spot (extent_in setting holder) (place_in frame (scalar value))
+member_held setting frame blocks type holder spot (names number) are = member_place_held blocks spot (extent_in setting holder) (place_in frame (names number))
+member_held setting frame blocks type holder spot (designates to) are = member_place_held blocks spot (extent_in setting holder) (place_in frame (designates to))
+member_held setting frame blocks type holder spot (designates_bits at bit width) are = member_place_held blocks spot (extent_in setting holder) (place_in frame (designates_bits at bit width))
 
 pub pointed_held : (value : Value) → IfGiven IsHeldValue (pointed_to value)
 pointed_held (Pointer at) = tt

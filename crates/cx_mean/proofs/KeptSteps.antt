@@ -4,7 +4,7 @@ use Rattle.std.proofs.lemmas.List.{append-nil}
 use Rattle.std.proofs.lemmas.List.Elements.{All-append, All-take, All-drop, All-replicate}
 use Rattle.cr_base.specs.declared.layout.Spot.{Spot}
 use Rattle.cr_base.specs.declared.rule.URule.TheVariants.{U1}
-use Rattle.cx_core.specs.Trees.{CTy, unqualified, CForm, whole, null, object, code, load, deref, member, address, convert, unary, binary, and, or, cond, assign, assign_by, step, call, call_by, comma, literal, put, CPuts, no_puts, more_puts}
+use Rattle.cx_core.specs.Trees.{CTy, unqualified, CForm, whole, null, object, code, load, deref, member, address, convert, unary, binary, and, or, cond, assign, assign_by, step, call, call_by, comma, literal, put, CPuts, no_puts, more_puts, type_of}
 use Rattle.cx_mean.specs.Accesses.{CLoaded, loaded, CStored, sized, stored}
 use Rattle.cx_mean.specs.Initialisers.{part_place, with_cells, field_unset, unset_by, unset_put, unset_puts, first_cells, CCleared, object_cleared, put_stored}
 use Rattle.cx_mean.specs.Marks.{Marks, Range, conflict, both, bits_of_bytes}
@@ -79,7 +79,7 @@ unary_keeps setting type (load from) frame base before now marks one kept is = g
 unary_keeps setting type (deref from) frame base before now marks one kept is =
     given_value base before now marks (deref_value one.value) kept (given_then IsHeldValue (scalar_value one.value) _ pointed_held)
 unary_keeps setting type (member of spot) frame base before now marks one kept is =
-    given_value base before now marks (member_value setting frame now type spot one.value) kept (member_held setting frame now type spot one.value is)
+    given_value base before now marks (member_value setting frame now type (type_of of) spot one.value) kept (member_held setting frame now type (type_of of) spot one.value is)
 unary_keeps setting type (address of) frame base before now marks one kept is =
     given_value base before now marks (address_value frame one.value) kept (held_scalar (place_in frame one.value))
 unary_keeps setting type (convert value) frame base before now marks one kept is =

@@ -13,6 +13,7 @@ pub mod ExampleStuck
 pub mod ExampleTables
 pub mod ExampleUndefined
 pub mod ExampleUndefinedCalls
+pub mod ExampleUndefinedMembers
 pub mod ExampleUnits
 pub mod Finished
 pub mod Functions

@@ -310,6 +310,7 @@ program_of types objects functions = record {
   objects = objects;
   functions = functions;
   externals = externals;
+  orders = [];
 }
 
 -- a program without records of `main` alone

@@ -24,18 +24,18 @@ pub record CEdge : Type 0 where
   pub from : CNode
   pub to : CNode
 
-abbrev edge : CNode → CNode → CEdge
+abbrev pub edge : CNode → CNode → CEdge
 edge from to = record { from = from; to = to }
 
-abbrev count_of : CStmts → ℕ
+abbrev pub count_of : CStmts → ℕ
 count_of no_stmts = 0
 count_of (more_stmts first others) = suc (count_of others)
 
 -- the body of a `for` is numbered behind its first part
-abbrev body_path : CStmts → CPath → CPath
+abbrev pub body_path : CStmts → CPath → CPath
 body_path first path = count_of first ∷ path
 
-abbrev third_node : Option CExpr → CPath → List CNode
+abbrev pub third_node : Option CExpr → CPath → List CNode
 third_node None path = []
 third_node (Some next) path = at_third path ∷ []
 
@@ -44,7 +44,7 @@ abbrev mutual
   pub nodes_of : CStmt → CPath → List CNode
   nodes_of (stmt place objects form) path = at_statement path ∷ nodes_of_form form path
 
-  nodes_of_form : CStmtForm → CPath → List CNode
+  pub nodes_of_form : CStmtForm → CPath → List CNode
   nodes_of_form (label name body) path = nodes_of body (0 ∷ path)
   nodes_of_form (case value body) path = nodes_of body (0 ∷ path)
   nodes_of_form (default body) path = nodes_of body (0 ∷ path)
@@ -62,11 +62,11 @@ abbrev mutual
   nodes_of_form (returns value) path = []
   nodes_of_form (begin number puts) path = []
 
-  nodes_of_else : COtherwise → CPath → List CNode
+  pub nodes_of_else : COtherwise → CPath → List CNode
   nodes_of_else no_else path = []
   nodes_of_else (else_do body) path = nodes_of body (1 ∷ path)
 
-  nodes_of_list : CStmts → ℕ → CPath → List CNode
+  pub nodes_of_list : CStmts → ℕ → CPath → List CNode
   nodes_of_list no_stmts number path = []
   nodes_of_list (more_stmts first others) number path = nodes_of first (number ∷ path) ++ nodes_of_list others (suc number) path
 
@@ -77,19 +77,19 @@ pub record CLabelled : Type 0 where
   pub target : CTarget
   pub path : CPath
 
-abbrev labelled : CTarget → CPath → CLabelled
+abbrev pub labelled : CTarget → CPath → CLabelled
 labelled target path = record { target = target; path = path }
 
-abbrev unless : Bool → List CLabelled → List CLabelled
+abbrev pub unless : Bool → List CLabelled → List CLabelled
 unless true found = []
 unless false found = found
 
 abbrev mutual
   -- the labelled statements in a statement; those of an inner `switch` may be left out
-  labels_of : (own : Bool) → CStmt → CPath → List CLabelled
+  pub labels_of : (own : Bool) → CStmt → CPath → List CLabelled
   labels_of own (stmt place objects form) path = labels_of_form own form path
 
-  labels_of_form : Bool → CStmtForm → CPath → List CLabelled
+  pub labels_of_form : Bool → CStmtForm → CPath → List CLabelled
   labels_of_form own (label name body) path = labelled (named name) path ∷ labels_of own body (0 ∷ path)
   labels_of_form own (case value body) path = labelled (case_of value) path ∷ labels_of own body (0 ∷ path)
   labels_of_form own (default body) path = labelled default_case path ∷ labels_of own body (0 ∷ path)
@@ -106,37 +106,37 @@ abbrev mutual
   labels_of_form own (returns value) path = []
   labels_of_form own (begin number puts) path = []
 
-  labels_of_else : Bool → COtherwise → CPath → List CLabelled
+  pub labels_of_else : Bool → COtherwise → CPath → List CLabelled
   labels_of_else own no_else path = []
   labels_of_else own (else_do body) path = labels_of own body (1 ∷ path)
 
-  labels_of_list : Bool → CStmts → ℕ → CPath → List CLabelled
+  pub labels_of_list : Bool → CStmts → ℕ → CPath → List CLabelled
   labels_of_list own no_stmts number path = []
   labels_of_list own (more_stmts first others) number path =
       labels_of own first (number ∷ path) ++ labels_of_list own others (suc number) path
 
-abbrev is_named : List ℕ → CTarget → Bool
+abbrev pub is_named : List ℕ → CTarget → Bool
 is_named name (named own) = bytes_eq name own
 is_named name (case_of value) = false
 is_named name default_case = false
 
-abbrev is_case : CTarget → Bool
+abbrev pub is_case : CTarget → Bool
 is_case (named name) = false
 is_case (case_of value) = true
 is_case default_case = true
 
-abbrev is_default : CTarget → Bool
+abbrev pub is_default : CTarget → Bool
 is_default (named name) = false
 is_default (case_of value) = false
 is_default default_case = true
 
 -- the statements with a target that passes a test
-abbrev nodes_where : (CTarget → Bool) → List CLabelled → List CNode
+abbrev pub nodes_where : (CTarget → Bool) → List CLabelled → List CNode
 nodes_where test [] = []
 nodes_where test (one ∷ others) =
     if test one.target then at_statement one.path ∷ nodes_where test others else nodes_where test others
 
-abbrev or_else : List CNode → CNode → List CNode
+abbrev pub or_else : List CNode → CNode → List CNode
 or_else [] other = other ∷ []
 or_else (first ∷ others) other = []
 
@@ -148,40 +148,40 @@ pub record CJumps : Type 0 where
   pub continues : List CNode
   pub labels : List CLabelled
 
-abbrev in_switch : CNode → CJumps → CJumps
+abbrev pub in_switch : CNode → CJumps → CJumps
 in_switch next jumps = record jumps { breaks = next ∷ [] }
 
-abbrev in_loop : (next again : CNode) → CJumps → CJumps
+abbrev pub in_loop : (next again : CNode) → CJumps → CJumps
 in_loop next again jumps = record jumps { breaks = next ∷ []; continues = again ∷ [] }
 
-abbrev edges_to : CNode → List CNode → List CEdge
+abbrev pub edges_to : CNode → List CNode → List CEdge
 edges_to from tos = map (edge from) tos
 
 -- the first of statements, or what follows
-abbrev first_or : CStmts → ℕ → CPath → CNode → CNode
+abbrev pub first_or : CStmts → ℕ → CPath → CNode → CNode
 first_or no_stmts number path next = next
 first_or (more_stmts first others) number path next = at_statement (number ∷ path)
 
-abbrev else_or : COtherwise → CPath → CNode → CNode
+abbrev pub else_or : COtherwise → CPath → CNode → CNode
 else_or no_else path next = next
 else_or (else_do body) path next = at_statement (1 ∷ path)
 
 -- a missing condition has the body alone
-abbrev test_ways : Option CExpr → CNode → CNode → List CNode
+abbrev pub test_ways : Option CExpr → CNode → CNode → List CNode
 test_ways None body next = body ∷ []
 test_ways (Some test) body next = body ∷ next ∷ []
 
 -- the end of a turn of a `for`
-abbrev turn_node : Option CExpr → CPath → CNode
+abbrev pub turn_node : Option CExpr → CPath → CNode
 turn_node None path = at_test path
 turn_node (Some next) path = at_third path
 
-abbrev third_edges : Option CExpr → CPath → List CEdge
+abbrev pub third_edges : Option CExpr → CPath → List CEdge
 third_edges None path = []
 third_edges (Some next) path = edge (at_third path) (at_test path) ∷ []
 
 -- a `switch` goes to each of its labels, and without `default` to what follows it
-abbrev switch_ways : List CLabelled → CNode → List CNode
+abbrev pub switch_ways : List CLabelled → CNode → List CNode
 switch_ways labels next = nodes_where is_case labels ++ or_else (nodes_where is_default labels) next
 
 abbrev mutual
@@ -189,7 +189,7 @@ abbrev mutual
   pub edges_of : CJumps → CStmt → CPath → (next : CNode) → List CEdge
   edges_of jumps (stmt place objects form) path next = edges_of_form jumps form path next
 
-  edges_of_form : CJumps → CStmtForm → CPath → CNode → List CEdge
+  pub edges_of_form : CJumps → CStmtForm → CPath → CNode → List CEdge
   edges_of_form jumps (label name body) path next =
       edge (at_statement path) (at_statement (0 ∷ path)) ∷ edges_of jumps body (0 ∷ path) next
   edges_of_form jumps (case value body) path next =
@@ -224,11 +224,11 @@ abbrev mutual
   edges_of_form jumps (returns value) path next = edge (at_statement path) at_end ∷ []
   edges_of_form jumps (begin number puts) path next = edge (at_statement path) next ∷ []
 
-  edges_of_else : CJumps → COtherwise → CPath → CNode → List CEdge
+  pub edges_of_else : CJumps → COtherwise → CPath → CNode → List CEdge
   edges_of_else jumps no_else path next = []
   edges_of_else jumps (else_do body) path next = edges_of jumps body (1 ∷ path) next
 
-  edges_of_list : CJumps → CStmts → ℕ → CPath → CNode → List CEdge
+  pub edges_of_list : CJumps → CStmts → ℕ → CPath → CNode → List CEdge
   edges_of_list jumps no_stmts number path next = []
   edges_of_list jumps (more_stmts first others) number path next =
       edges_of jumps first (number ∷ path) (first_or others (suc number) path next)
@@ -241,7 +241,7 @@ pub record CBodyGraph : Type 0 where
   pub edges : List CEdge
   pub entry : CNode
 
-abbrev jumps_in : CStmt → CJumps
+abbrev pub jumps_in : CStmt → CJumps
 jumps_in body = record { breaks = []; continues = []; labels = labels_of false body [] }
 
 -- the graph of a body: a node for each statement and declaration, one for each controlling expression and each third
@@ -257,10 +257,10 @@ body_graph body = record {
 
 abbrev mutual
   -- no `goto`, and no `case` or `default` inside a loop inside its `switch`; there may be such a loop around
-  is_plain_stmt : (in_loop : Bool) → CStmt → Bool
+  pub is_plain_stmt : (in_loop : Bool) → CStmt → Bool
   is_plain_stmt in_loop (stmt place objects form) = is_plain_form in_loop form
 
-  is_plain_form : Bool → CStmtForm → Bool
+  pub is_plain_form : Bool → CStmtForm → Bool
   is_plain_form in_loop (label name body) = is_plain_stmt in_loop body
   is_plain_form in_loop (case value body) = not in_loop && is_plain_stmt in_loop body
   is_plain_form in_loop (default body) = not in_loop && is_plain_stmt in_loop body
@@ -269,7 +269,7 @@ abbrev mutual
   is_plain_form in_loop (switch value body) = is_plain_stmt false body
   is_plain_form in_loop (while test body) = is_plain_stmt true body
   is_plain_form in_loop (do_while body test) = is_plain_stmt true body
-  is_plain_form in_loop (for_loop first test next body) = is_plain_stmt true body
+  is_plain_form in_loop (for_loop first test next body) = are_plain in_loop first && is_plain_stmt true body
   is_plain_form in_loop (goto name) = false
   is_plain_form in_loop (expression value) = true
   is_plain_form in_loop continue = true
@@ -277,11 +277,11 @@ abbrev mutual
   is_plain_form in_loop (returns value) = true
   is_plain_form in_loop (begin number puts) = true
 
-  is_plain_else : Bool → COtherwise → Bool
+  pub is_plain_else : Bool → COtherwise → Bool
   is_plain_else in_loop no_else = true
   is_plain_else in_loop (else_do body) = is_plain_stmt in_loop body
 
-  are_plain : Bool → CStmts → Bool
+  pub are_plain : Bool → CStmts → Bool
   are_plain in_loop no_stmts = true
   are_plain in_loop (more_stmts first others) = is_plain_stmt in_loop first && are_plain in_loop others
 

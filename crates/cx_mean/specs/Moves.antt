@@ -94,7 +94,7 @@ slots_of_site site = slots_in site.levels ++ site.bottom.params
 -- ---- turns of loops (6.8.5)
 
 -- the condition, or the body where a `for` has none; another statement than a loop has no turns
-abbrev loop_test : CStmtForm → CLevel → List CLevel → CBottom → CMove
+abbrev pub loop_test : CStmtForm → CLevel → List CLevel → CBottom → CMove
 loop_test (while test body) level outer bottom = values test (chooses_by (place_of test) (site_at (level ∷ outer) bottom))
 loop_test (do_while body test) level outer bottom = values test (chooses_by (place_of test) (site_at (level ∷ outer) bottom))
 loop_test (for_loop first (Some test) next body) level outer bottom =
@@ -107,7 +107,7 @@ abbrev pub turning : CLevel → List CLevel → CBottom → Blocks → CStand
 turning level outer bottom blocks = stand (loop_test level.form level outer bottom) blocks
 
 -- the end of a turn: the third expression of a `for`, then the condition
-abbrev turn_ended_in : CStmtForm → CLevel → List CLevel → CBottom → Blocks → CStand
+abbrev pub turn_ended_in : CStmtForm → CLevel → List CLevel → CBottom → Blocks → CStand
 turn_ended_in (for_loop first test (Some next) body) level outer bottom blocks =
     stand (values next (turns_on (site_at (level ∷ outer) bottom))) blocks
 turn_ended_in form level outer bottom blocks = turning level outer bottom blocks
@@ -118,7 +118,7 @@ turn_ended level outer bottom blocks = turn_ended_in level.form level outer bott
 -- ---- what follows
 
 -- a statement of a list is reached, or the statement that holds the list has nothing left
-abbrev next_statement : (CStmts → CRest) → CStmts → CLevel → List CLevel → CBottom → Blocks → CStand → CStand
+abbrev pub next_statement : (CStmts → CRest) → CStmts → CLevel → List CLevel → CBottom → Blocks → CStand → CStand
 next_statement rest_of no_stmts level outer bottom blocks at_end = at_end
 next_statement rest_of (more_stmts first others) level outer bottom blocks at_end =
     stand (reaches first (site_at (with_rest (rest_of others) level ∷ outer) bottom)) blocks
@@ -139,18 +139,18 @@ abbrev pub next_of : CSite → Blocks → CStand
 next_of site blocks = next_in site.levels site.bottom blocks
 
 -- the innermost open statement has nothing left
-abbrev level_ended : CLevel → List CLevel → CBottom → Blocks → CStand
+abbrev pub level_ended : CLevel → List CLevel → CBottom → Blocks → CStand
 level_ended level outer bottom blocks = next_in (with_rest nothing_left level ∷ outer) bottom blocks
 
 -- ---- jumps (6.8.6)
 
-abbrev is_loop : CStmtForm → Bool
+abbrev pub is_loop : CStmtForm → Bool
 is_loop (while test body) = true
 is_loop (do_while body test) = true
 is_loop (for_loop first test next body) = true
 is_loop form = false
 
-abbrev is_left_by_break : CStmtForm → Bool
+abbrev pub is_left_by_break : CStmtForm → Bool
 is_left_by_break (switch value body) = true
 is_left_by_break form = is_loop form
 
@@ -163,7 +163,7 @@ breaking place (level ∷ outer) bottom blocks = elim (is_left_by_break level.fo
 ]
 
 -- `continue`: the turn of the innermost loop is at its end
-abbrev continuing : Place → List CLevel → CBottom → Blocks → CStand
+abbrev pub continuing : Place → List CLevel → CBottom → Blocks → CStand
 continuing place [] bottom blocks = stand (goes_nowhere place) blocks
 continuing place (level ∷ outer) bottom blocks = elim (is_loop level.form) as (λ _. CStand) [
   | true ↦ turn_ended level outer bottom blocks
@@ -183,7 +183,7 @@ following (opens (first ∷ others) form rest way) site =
       goal = follows way;
     })
 
-abbrev entered : CInside → CLevel → List CLevel → CBottom → CMove
+abbrev pub entered : CInside → CLevel → List CLevel → CBottom → CMove
 entered one level outer bottom = following one.way (site_at (with_rest one.rest level ∷ outer) bottom)
 
 -- `goto`: the innermost open statement that holds the label stays open, and those inside of it are left
@@ -196,12 +196,12 @@ jumping place name (level ∷ outer) bottom blocks = elim (way_in (named name) l
 
 -- ---- puts (6.7.8)
 
-abbrev static_puts_of : Option CPuts → CPuts
+abbrev pub static_puts_of : Option CPuts → CPuts
 static_puts_of None = no_puts
 static_puts_of (Some puts) = puts
 
 -- a put's value is evaluated, or what is behind the puts follows
-abbrev first_put : ℕ → CPuts → CBehind → CMove → CMove
+abbrev pub first_put : ℕ → CPuts → CBehind → CMove → CMove
 first_put number no_puts behind after = after
 first_put number (more_puts (put spot type value) others) behind after =
     values value
@@ -213,7 +213,7 @@ static_puts [] = calls_main
 static_puts (one ∷ others) =
     first_put one.object (static_puts_of one.puts) (of_statics others) (static_puts others)
 
-abbrev behind_puts : CBehind → Blocks → CStand
+abbrev pub behind_puts : CBehind → Blocks → CStand
 behind_puts (in_body site) blocks = next_of site blocks
 behind_puts (of_statics others) blocks = stand (static_puts others) blocks
 
@@ -226,7 +226,7 @@ putting number (more_puts one others) behind blocks =
 -- ---- what a statement does
 
 -- its objects begin, and then it goes on
-abbrev declared : Place → ℕ → Option CPuts → CSite → Result CCleared CWhy → Blocks → CStand
+abbrev pub declared : Place → ℕ → Option CPuts → CSite → Result CCleared CWhy → Blocks → CStand
 declared place number puts site (Ok one) blocks = putting number (static_puts_of puts) (in_body site) one.blocks
 declared place number puts site (Err why) blocks = stand (goes_nowhere place) blocks
 
@@ -281,19 +281,19 @@ abbrev pub is_switch : CStmtForm → Bool
 is_switch (switch value body) = true
 is_switch form = false
 
-abbrev with_body : CRest → CStmt → CLevel → List CLevel → CBottom → Blocks → CStand
+abbrev pub with_body : CRest → CStmt → CLevel → List CLevel → CBottom → Blocks → CStand
 with_body rest body level outer bottom blocks = stand (reaches body (site_at (with_rest rest level ∷ outer) bottom)) blocks
 
-abbrev else_body : COtherwise → CLevel → List CLevel → CBottom → Blocks → CStand
+abbrev pub else_body : COtherwise → CLevel → List CLevel → CBottom → Blocks → CStand
 else_body no_else level outer bottom blocks = level_ended level outer bottom blocks
 else_body (else_do body) level outer bottom blocks = with_body nothing_left body level outer bottom blocks
 
 -- the way that a `switch` takes: to the `case` of the value, or else to `default` (6.8.4.2p5)
-abbrev way_of_switch : ℤ → CStmt → Option CWay → Option CWay
+abbrev pub way_of_switch : ℤ → CStmt → Option CWay → Option CWay
 way_of_switch value body (Some way) = Some way
 way_of_switch value body None = way_to default_case body
 
-abbrev switched : Option CWay → CLevel → List CLevel → CBottom → Blocks → CStand
+abbrev pub switched : Option CWay → CLevel → List CLevel → CBottom → Blocks → CStand
 switched None level outer bottom blocks = level_ended level outer bottom blocks
 switched (Some way) level outer bottom blocks =
     stand (following way (site_at (with_rest nothing_left level ∷ outer) bottom)) blocks

@@ -1,6 +1,7 @@
 -- What the step of a node gives whose operands are finished (ISO C99, 6.5), where it touches memory alone. The conflicts of its
 -- operands come first, then what its own access or its operator finds.
 use Rattle.std.specs.Prelude.{ℕ, zero, suc, ◌+◌, nat_le, Bool, true, false, if◌then◌else◌, pos, List, [], ◌∷◌, length, take, drop, Option, Some, option_map, Result, Ok, Err}
+use Rattle.cr_base.specs.declared.layout.Laid.{Laid}
 use Rattle.cr_base.specs.declared.layout.Spot.{Spot}
 use Rattle.cr_base.specs.declared.rule.URule.TheVariants.{U11, U14}
 use Rattle.cr_base.specs.declared.scalar.Scalar.{Scalar}
@@ -15,17 +16,19 @@ use Rattle.cx_mean.specs.Initialisers.{part_with, object_cleared}
 use Rattle.cx_mean.specs.Marks.{Marks, no_marks, bits_of_bytes, with_write, at_sequence_point, both}
 use Rattle.cx_numbers.specs.Numbers.{number_of_truth}
 use Rattle.cx_mean.specs.Operands.{CWhy, breaks, stuck, needed, accessed, by_pointers, CValue, scalar, cells, names, designates, missing, COperand, Frame, place_in, scalar_value, united_operands}
-use Rattle.cx_mean.specs.Settings.{CSetting, types_in_setting, scalar_in_type}
+use Rattle.cx_mean.specs.Settings.{CSetting, types_in_setting, scalar_in_type, extent_in}
 use Rattle.cx_mean.specs.Values.{CTyped, is_true, unary_value, binary_value, converted_value}
 use Rattle.cx_mean.specs.Work.{CUpdate}
-use Rattle.mem_bytes.specs.Access.{and_then}
+use Rattle.mem_bytes.specs.Access.{and_then, is_record_aligned, live_read}
 use Rattle.mem_bytes.specs.Bits.{bytes_touched, field_in}
 use Rattle.mem_bytes.specs.Coding.{scalar_size, value_of}
 use Rattle.mem_bytes.specs.declared.cell.Cell.{Cell}
+use Rattle.mem_bytes.specs.declared.fault.Fault.{Fault}
+use Rattle.mem_bytes.specs.declared.fault.Fault.TheVariants.{Misaligned}
 use Rattle.mem_bytes.specs.declared.value.Ptr.{Ptr}
 use Rattle.mem_bytes.specs.declared.value.Value.{Value}
 use Rattle.mem_bytes.specs.declared.value.Value.TheVariants.{Whole as Number, Null, Object as Pointer, Code as Function}
-use Rattle.mem_bytes.specs.Memory.{Blocks}
+use Rattle.mem_bytes.specs.Memory.{Blocks, live_block}
 
 -- what a step of a node gives, the accesses up to there, and the memory after it
 pub record CDone : Type 0 where
@@ -52,14 +55,23 @@ pointed_to (Function number) = Err stuck
 abbrev pub deref_value : CValue → Result CValue CWhy
 deref_value value = and_then (scalar_value value) pointed_to
 
--- a member of the object at a place: the object lives, and the member begins in it or at its end
-abbrev pub member_at : Blocks → Spot → Ptr → Result CValue CWhy
-member_at blocks spot at =
-    and_then (by_pointers U11 (place_moved blocks at (pos spot.byte))) (λ new. Ok (part_with new spot.bit spot.width))
+-- a place at which a structure or union of an alignment may stand (6.3.2.3p7)
+abbrev pub aligned_place : Blocks → (align : ℕ) → Ptr → Result Ptr Fault
+aligned_place blocks align at =
+    live_read (live_block blocks at.block) (λ block.
+    if is_record_aligned align block at.offset then Ok at else Err Misaligned)
 
-abbrev pub member_of_place : Blocks → Spot → Result Value CWhy → Result CValue CWhy
-member_of_place blocks spot place =
-    and_then place (λ to. and_then (object_at to) (member_at blocks spot))
+-- a member of the structure or union of an alignment at a place: the object lives, the member begins in it or at its end, and
+-- the structure or union may stand there
+abbrev pub member_at : Blocks → Spot → (align : ℕ) → Ptr → Result CValue CWhy
+member_at blocks spot align at =
+    and_then (by_pointers U11 (place_moved blocks at (pos spot.byte))) (λ new.
+    and_then (accessed (aligned_place blocks align at)) (λ _. Ok (part_with new spot.bit spot.width)))
+
+abbrev pub member_of_place : Blocks → Spot → Option Laid → Result Value CWhy → Result CValue CWhy
+member_of_place blocks spot laid place =
+    and_then (needed laid) (λ one.
+    and_then place (λ to. and_then (object_at to) (member_at blocks spot one.align)))
 
 -- so many cells of a value
 abbrev pub value_part : List Cell → (offset count : ℕ) → Result (List Cell) CWhy
@@ -88,11 +100,12 @@ member_with setting type spot zero held from = and_then (kind_of setting type) (
 member_with setting type spot (suc n) held from =
     and_then (needed (scalar_in_type setting type)) (member_bits spot (suc n) held)
 
--- a member of an lvalue is an lvalue, and one of a value is a value (6.5.2.3p3)
-abbrev pub member_value : CSetting → Frame → Blocks → CTy → Spot → CValue → Result CValue CWhy
-member_value setting frame blocks type spot (cells held from) = member_with setting type spot spot.width held from
-member_value setting frame blocks type spot missing = Err (breaks U14)
-member_value setting frame blocks type spot place = member_of_place blocks spot (place_in frame place)
+-- a member of an lvalue is an lvalue, and one of a value is a value (6.5.2.3p3), in a structure or union of the type `holder`
+abbrev pub member_value : CSetting → Frame → Blocks → (type holder : CTy) → Spot → CValue → Result CValue CWhy
+member_value setting frame blocks type holder spot (cells held from) = member_with setting type spot spot.width held from
+member_value setting frame blocks type holder spot missing = Err (breaks U14)
+member_value setting frame blocks type holder spot place =
+    member_of_place blocks spot (extent_in setting holder) (place_in frame place)
 
 -- the address of an lvalue, or of the first element of an array
 abbrev pub address_value : Frame → CValue → Result CValue CWhy
@@ -111,7 +124,7 @@ unary_done setting type (load from) frame marks blocks one =
     done_by_load blocks (loaded setting frame blocks type one.value marks)
 unary_done setting type (deref from) frame marks blocks one = gives_value marks blocks (deref_value one.value)
 unary_done setting type (member of spot) frame marks blocks one =
-    gives_value marks blocks (member_value setting frame blocks type spot one.value)
+    gives_value marks blocks (member_value setting frame blocks type (type_of of) spot one.value)
 unary_done setting type (address of) frame marks blocks one = gives_value marks blocks (address_value frame one.value)
 unary_done setting type (convert value) frame marks blocks one =
     gives_value marks blocks (converted_value setting type blocks one.value)
@@ -181,12 +194,12 @@ abbrev pub update_loaded : CSetting → Frame → Blocks → Marks → CChange �
 update_loaded setting frame blocks marks change =
     and_then (loaded setting frame blocks (unqualified change.target.type) change.target.value marks) (updating change)
 
-abbrev up_or_down : Bool → Op2
+abbrev pub up_or_down : Bool → Op2
 up_or_down true = Add
 up_or_down false = Subtract
 
 -- `++` and `--` compute with 1, an integer in its promoted type
-abbrev change_by_one : CSetting → Bool → Bool → CExpr → COperand → CChange
+abbrev pub change_by_one : CSetting → Bool → Bool → CExpr → COperand → CChange
 change_by_one setting up post on target =
     let computes = promoted (types_in_setting setting) (type_of on) (width_of on) in
     record {

@@ -58,7 +58,7 @@ why_held not_allocated = breaks U15
 why_held overlapping = breaks U16
 why_held wrong_kind = stuck
 
-abbrev why_pointer : URule → PointerFault → CWhy
+abbrev pub why_pointer : URule → PointerFault → CWhy
 why_pointer rule ToDead = breaks U5
 why_pointer rule LeavesObject = breaks rule
 why_pointer rule NotWithinOne = breaks rule
@@ -128,7 +128,7 @@ slot_of [] number = None
 slot_of (slot ∷ others) number =
     if slot.object == number then Some (record { block = slot.block; offset = 0 }) else slot_of others number
 
-abbrev object_value : Option Ptr → Result Value CWhy
+abbrev pub object_value : Option Ptr → Result Value CWhy
 object_value None = Err stuck
 object_value (Some at) = Ok (Object at)
 

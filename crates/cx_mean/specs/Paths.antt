@@ -61,35 +61,35 @@ pub record CInside : Type 0 where
   pub way : CWay
 
 -- a statement is the target
-abbrev is_target : CTarget → CStmtForm → Bool
+abbrev pub is_target : CTarget → CStmtForm → Bool
 is_target (named name) (label own body) = bytes_eq name own
 is_target (case_of value) (case own body) = int_eq value own
 is_target default_case (default body) = true
 is_target target form = false
 
 -- the `case` and `default` labels of a `switch` aren't those of one around it
-abbrev passes_switch : CTarget → Bool
+abbrev pub passes_switch : CTarget → Bool
 passes_switch (named name) = true
 passes_switch (case_of value) = false
 passes_switch default_case = false
 
-abbrev if_passing : Bool → Option CInside → Option CInside
+abbrev pub if_passing : Bool → Option CInside → Option CInside
 if_passing true inside = inside
 if_passing false inside = None
 
-abbrev with_rest_of : CRest → Option CWay → Option CInside
+abbrev pub with_rest_of : CRest → Option CWay → Option CInside
 with_rest_of rest found = option_map (λ way. record { rest = rest; way = way }) found
 
 -- the first that there is
-abbrev first_of_two : {A : Type 0} → Option A → Option A → Option A
+abbrev pub first_of_two : {A : Type 0} → Option A → Option A → Option A
 first_of_two (Some one) other = Some one
 first_of_two None other = other
 
-abbrev arrives_or : CStmt → Bool → Option CWay → Option CWay
+abbrev pub arrives_or : CStmt → Bool → Option CWay → Option CWay
 arrives_or here true inside = Some (arrives here)
 arrives_or here false inside = inside
 
-abbrev opened : List ℕ → CStmtForm → Option CInside → Option CWay
+abbrev pub opened : List ℕ → CStmtForm → Option CInside → Option CWay
 opened objects form inside = option_map (λ one. opens objects form one.rest one.way) inside
 
 abbrev mutual
@@ -117,11 +117,11 @@ abbrev mutual
   way_in target (returns value) = None
   way_in target (begin number puts) = None
 
-  way_in_else : CTarget → COtherwise → Option CWay
+  pub way_in_else : CTarget → COtherwise → Option CWay
   way_in_else target no_else = None
   way_in_else target (else_do body) = way_to target body
 
-  way_among : CTarget → CStmts → Option CInside
+  pub way_among : CTarget → CStmts → Option CInside
   way_among target no_stmts = None
   way_among target (more_stmts first others) =
       first_of_two (with_rest_of (statements_left others) (way_to target first)) (way_among target others)

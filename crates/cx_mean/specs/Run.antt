@@ -29,7 +29,7 @@ pub record CSeen : Type 0 where
   pub events : List Call
   pub progress : CProgress
 
-abbrev progress_of_fault : CWhy → ℕ → ℕ → CProgress
+abbrev pub progress_of_fault : CWhy → ℕ → ℕ → CProgress
 progress_of_fault (breaks rule) unit line = undefined rule unit line
 progress_of_fault stuck unit line = is_stuck unit line
 

@@ -43,13 +43,13 @@ number_in (Pointer at) = Err stuck
 number_in (Function number) = Err stuck
 
 -- a value compares unequal to 0 (6.5.3.3p5); that of a pointer to a dead object isn't told
-abbrev is_not_zero : Value → Bool
+abbrev pub is_not_zero : Value → Bool
 is_not_zero (Number number) = not (int_eq number (pos 0))
 is_not_zero Null = false
 is_not_zero (Pointer at) = true
 is_not_zero (Function number) = true
 
-abbrev tested_pointer : Blocks → Value → Result Bool CWhy
+abbrev pub tested_pointer : Blocks → Value → Result Bool CWhy
 tested_pointer blocks value = and_then (by_pointers U12 (usable blocks value)) (λ one. Ok (is_not_zero one))
 
 abbrev pub is_true : Blocks → Value → Result Bool CWhy
@@ -61,7 +61,7 @@ is_true blocks (Function number) = Ok (is_not_zero (Function number))
 -- ---- operators with one operand
 
 -- `!`, and the arithmetic ones
-abbrev unary_of : Op1 → Option Scalar → Blocks → Value → Result ℤ CWhy
+abbrev pub unary_of : Op1 → Option Scalar → Blocks → Value → Result ℤ CWhy
 unary_of Not kind blocks value = and_then (is_true blocks value) (λ truth. Ok (number_of_truth (not truth)))
 unary_of op None blocks value = Err stuck
 unary_of op (Some kind) blocks value = and_then (number_in value) (number_of_unary op kind)
@@ -73,35 +73,35 @@ unary_value setting op type blocks value =
 -- ---- operators with two operands
 
 -- by how many bytes a number of elements moves a pointer of this type
-abbrev bytes_of_elements : CSetting → CTy → ℤ → Result ℤ CWhy
+abbrev pub bytes_of_elements : CSetting → CTy → ℤ → Result ℤ CWhy
 bytes_of_elements setting type count =
     and_then (needed (element_extent setting (form_of_type type))) (λ laid. Ok (count *ℤ pos laid.size))
 
 -- a pointer of a type is moved by so many elements (6.5.6p8)
-abbrev moved_by : CSetting → Blocks → CTy → Value → ℤ → Result Value CWhy
+abbrev pub moved_by : CSetting → Blocks → CTy → Value → ℤ → Result Value CWhy
 moved_by setting blocks type at count =
     and_then (bytes_of_elements setting type count) (λ bytes. by_pointers U11 (moved blocks at bytes))
 
-abbrev pointer_and_number : CSetting → Op2 → Blocks → CTy → Value → ℤ → Result Value CWhy
+abbrev pub pointer_and_number : CSetting → Op2 → Blocks → CTy → Value → ℤ → Result Value CWhy
 pointer_and_number setting Add blocks type at count = moved_by setting blocks type at count
 pointer_and_number setting Subtract blocks type at count = moved_by setting blocks type at (neg_ℤ count)
 pointer_and_number setting op blocks type at count = Err stuck
 
-abbrev number_and_pointer : CSetting → Op2 → Blocks → CTy → Value → ℤ → Result Value CWhy
+abbrev pub number_and_pointer : CSetting → Op2 → Blocks → CTy → Value → ℤ → Result Value CWhy
 number_and_pointer setting Add blocks type at count = moved_by setting blocks type at count
 number_and_pointer setting op blocks type at count = Err stuck
 
 -- two pointers, of which the first has this type
-abbrev ordered : (ℤ → Bool) → Blocks → Value → Value → Result ℤ CWhy
+abbrev pub ordered : (ℤ → Bool) → Blocks → Value → Value → Result ℤ CWhy
 ordered holds blocks first second =
     and_then (by_pointers U12 (distance blocks first second)) (λ bytes. Ok (number_of_truth (holds bytes)))
 
-abbrev differ_by : CSetting → Blocks → CTy → Value → Value → Result ℤ CWhy
+abbrev pub differ_by : CSetting → Blocks → CTy → Value → Value → Result ℤ CWhy
 differ_by setting blocks type first second =
     and_then (needed (element_extent setting (form_of_type type))) (λ laid.
     by_pointers U11 (difference blocks laid.size first second))
 
-abbrev two_pointers : CSetting → Op2 → Blocks → CTy → Value → Value → Result ℤ CWhy
+abbrev pub two_pointers : CSetting → Op2 → Blocks → CTy → Value → Value → Result ℤ CWhy
 two_pointers setting Subtract blocks type first second = differ_by setting blocks type first second
 two_pointers setting Less blocks type first second = ordered (λ bytes. int_lt bytes (pos 0)) blocks first second
 two_pointers setting Greater blocks type first second = ordered (λ bytes. int_lt (pos 0) bytes) blocks first second
@@ -119,16 +119,16 @@ pub record CTyped : Type 0 where
   pub value : Value
 
 -- two numbers, in the type of the operator
-abbrev two_numbers : CSetting → Op2 → CTy → ℤ → ℤ → Result Value CWhy
+abbrev pub two_numbers : CSetting → Op2 → CTy → ℤ → ℤ → Result Value CWhy
 two_numbers setting op type left right =
     and_then (needed (scalar_in_type setting type)) (λ kind.
     and_then (number_of_binary op kind left right) (λ number. Ok (Number number)))
 
-abbrev number_of_pointers : Result ℤ CWhy → Result Value CWhy
+abbrev pub number_of_pointers : Result ℤ CWhy → Result Value CWhy
 number_of_pointers outcome = and_then outcome (λ number. Ok (Number number))
 
 -- what an operator gives, in a type
-abbrev binary_of : CSetting → Op2 → CTy → Blocks → (left right : CTy) → Value → Value → Result Value CWhy
+abbrev pub binary_of : CSetting → Op2 → CTy → Blocks → (left right : CTy) → Value → Value → Result Value CWhy
 binary_of setting op type blocks left right (Number one) (Number other) = two_numbers setting op type one other
 binary_of setting op type blocks left right (Number one) second = number_and_pointer setting op blocks right second one
 binary_of setting op type blocks left right first (Number other) = pointer_and_number setting op blocks left first other
@@ -141,7 +141,7 @@ binary_value setting op type blocks left right =
 -- ---- conversions (6.3)
 
 -- to an integer type, `_Bool` too
-abbrev to_number : Scalar → Blocks → Value → Result Value CWhy
+abbrev pub to_number : Scalar → Blocks → Value → Result Value CWhy
 to_number Truth blocks value = and_then (is_true blocks value) (λ truth. Ok (Number (number_of_truth truth)))
 to_number (Whole width signed) blocks value =
     and_then (number_in value) (λ number. Ok (Number (converted (Whole width signed) number)))
@@ -149,7 +149,7 @@ to_number Object blocks value = Err stuck
 to_number Code blocks value = Err stuck
 
 -- between pointers to objects, or between pointers to functions; that of a pointer to a dead object isn't told
-abbrev to_pointer : Scalar → Blocks → Value → Result Value CWhy
+abbrev pub to_pointer : Scalar → Blocks → Value → Result Value CWhy
 to_pointer kind blocks value =
     if is_of_kind kind value then by_pointers U11 (usable blocks value) else Err stuck
 

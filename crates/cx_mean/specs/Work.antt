@@ -53,10 +53,10 @@ mutual
     no_works : CWorks
     more_works : CWork → CWorks → CWorks
 
-abbrev one_work : CWork → CWorks
+abbrev pub one_work : CWork → CWorks
 one_work work = more_works work no_works
 
-abbrev two_works : CWork → CWork → CWorks
+abbrev pub two_works : CWork → CWork → CWorks
 two_works first second = more_works first (more_works second no_works)
 
 abbrev mutual
@@ -111,7 +111,7 @@ abbrev pub are_finished : CWorks → Bool
 are_finished no_works = true
 are_finished (more_works first others) = is_finished first && are_finished others
 
-abbrev operand_before : CWork → List COperand → List COperand
+abbrev pub operand_before : CWork → List COperand → List COperand
 operand_before (finished operand) others = operand ∷ others
 operand_before work others = others
 

@@ -3,7 +3,7 @@ use Rattle.std.specs.Prelude.{ℕ, List, Result, Ok, Err}
 use Rattle.cr_base.specs.declared.scalar.Scalar.{Scalar}
 use Rattle.cx_core.specs.declared.expr.Op1.{Op1}
 use Rattle.cx_core.specs.declared.expr.Op2.{Op2}
-use Rattle.cx_core.specs.Trees.{CTy, CForm, deref, member, address, convert, unary}
+use Rattle.cx_core.specs.Trees.{CTy, CForm, deref, member, address, convert, unary, type_of}
 use Rattle.cx_mean.specs.Nodes.{value_part, deref_value, member_value, address_value, typed_value}
 use Rattle.cx_mean.specs.Operands.{CWhy, stuck, accessed, CValue, scalar, COperand, Frame, scalar_value}
 use Rattle.cx_mean.specs.Settings.{CSetting}
@@ -24,7 +24,7 @@ unary_operated setting op type blocks value = and_then (scalar_value value) (una
 -- what a node gives that leaves memory, and the accesses of its operand, as they are
 abbrev pub unary_given : CSetting → CTy → CForm → Frame → Blocks → CValue → Result CValue CWhy
 unary_given setting type (deref from) frame blocks value = deref_value value
-unary_given setting type (member of spot) frame blocks value = member_value setting frame blocks type spot value
+unary_given setting type (member of spot) frame blocks value = member_value setting frame blocks type (type_of of) spot value
 unary_given setting type (address of) frame blocks value = address_value frame value
 unary_given setting type (convert from) frame blocks value = converted_value setting type blocks value
 unary_given setting type (unary op from) frame blocks value = and_then (unary_operated setting op type blocks value) (λ new. Ok (scalar new))

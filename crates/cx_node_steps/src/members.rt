@@ -1,13 +1,13 @@
 //! Members of structures and unions, and addresses (ISO C99, 6.5.2.3, 6.5.3.2).
 
-ghost use Rattle.std.specs.Prelude.{◌≡◌, length, option_map, Ok, IfOk, IfErr, IfSome};
+ghost use Rattle.std.specs.Prelude.{◌≡◌, ◌<◌, length, option_map, Ok, IfOk, IfErr, IfSome};
 ghost use Rattle.cx_access.specs.Calls.{IsKind};
-ghost use Rattle.cx_access.specs.Finds.{Finds};
+ghost use Rattle.cx_access.specs.Finds.{Finds, fault_in};
 ghost use Rattle.cx_access.specs.Views.{view_kind, view_setting};
 ghost use Rattle.cx_core.specs.Views.{view_type};
 ghost use Rattle.cx_mean.specs.Accesses.{of_record};
 ghost use Rattle.cx_mean.specs.Initialisers.{part_with};
-ghost use Rattle.cx_mean.specs.Nodes.{deref_value, member_at, member_bits, member_of_kind, member_of_place, member_value, member_with, moved_by, value_part};
+ghost use Rattle.cx_mean.specs.Nodes.{aligned_place, deref_value, member_at, member_bits, member_of_kind, member_of_place, member_value, member_with, moved_by, value_part};
 ghost use Rattle.cx_mean.specs.Operands.{designates, place_in, scalar};
 ghost use Rattle.cx_work.specs.Views.{view_finished};
 ghost use Rattle.cx_node_steps.specs.Parts.{scalar_part};
@@ -15,14 +15,14 @@ ghost use Rattle.mem_bytes.specs.Coding.{IsScalar};
 
 use cr_base::{Int, Items, Laid, Scalar, Spot, URule};
 use cx_access::{
-    Kind, Setting, Trouble, field_value, is_field_place, kind_of, place_of, rule_of, scalar_of,
-    scalar_value,
+    Kind, Setting, Trouble, extent_of, field_value, is_field_place, kind_of, place_of, rule_of,
+    scalar_of, scalar_value,
 };
 use cx_core::Ty;
 use cx_operations::pointer_trouble;
 use cx_work::{Finished, Objects, OperandTy};
 use mem_bytes::{
-    Cell, Ptr, Store, Value, bytes_touched, decode, field_in, place_moved, scalar_size,
+    Cell, Fault, Ptr, Store, Value, bytes_touched, decode, field_in, place_moved, scalar_size,
 };
 use std::alloc::Global;
 
@@ -49,13 +49,41 @@ fn part_with(at: Ptr, bit: u32, width: u32) -> Finished
     Finished::Bits(at, bit, width)
 }
 
-// A member of the object at a place: the object lives, and the member begins in it or at its end.
-fn member_at<S: Store>(store: &S, spot: Spot, at: Ptr) -> Result<Finished, Trouble>
-    ensures { Finds view_finished result (member_at (S.memory store.now) spot at) }
+// What is wrong with a place for a structure or union of an alignment, if something is (6.3.2.3p7).
+fn place_fault<S: Store>(store: &S, align: u64, at: Ptr) -> Option<Fault>
+    requires { 0 < align }
+    ensures { result ≡ fault_in (aligned_place (S.memory store.now) align at) }
 {
-    match place_moved(store, at, Int::from(spot.byte)) {
-        Ok(new) => Ok(part_with(new, spot.bit, spot.width)),
-        Err(fault) => Err(pointer_trouble(URule::U11, fault)),
+    let Some(state) = store.state(at.block) else {
+        return Some(Fault::Dead);
+    };
+    if !state.live {
+        return Some(Fault::Dead);
+    }
+    if at.offset % align != 0 {
+        return Some(Fault::Misaligned);
+    }
+    if state.align < align {
+        return Some(Fault::Misaligned);
+    }
+    None
+}
+
+// A member of the structure or union of an alignment at a place: the object lives, the member begins in it or at its
+// end, and the structure or union may stand there.
+fn member_at<S: Store>(store: &S, spot: Spot, align: u64, at: Ptr) -> Result<Finished, Trouble>
+    ensures { Finds view_finished result (member_at (S.memory store.now) spot align at) }
+{
+    let new = match place_moved(store, at, Int::from(spot.byte)) {
+        Ok(new) => new,
+        Err(fault) => return Err(pointer_trouble(URule::U11, fault)),
+    };
+    if align == 0 {
+        return Err(Trouble::Memory);
+    }
+    match place_fault(store, align, at) {
+        None => Ok(part_with(new, spot.bit, spot.width)),
+        Some(fault) => Err(Trouble::Undefined(rule_of(fault))),
     }
 }
 
@@ -189,41 +217,48 @@ fn member_of_place<S: Store, O: Objects>(
     store: &S,
     objects: &O,
     spot: Spot,
+    laid: Option<Laid>,
     place: &Finished,
 ) -> Result<Finished, Trouble>
-    ensures { Finds view_finished result (member_of_place (S.memory store.now) spot (place_in (O.frame objects.now) (view_finished place.now))) }
+    ensures { Finds view_finished result (member_of_place (S.memory store.now) spot laid (place_in (O.frame objects.now) (view_finished place.now))) }
 {
+    let Some(laid) = laid else {
+        return Err(Trouble::Memory);
+    };
     match place_of(objects, place) {
-        Ok(at) => member_at(store, spot, at),
+        Ok(at) => member_at(store, spot, laid.align, at),
         Err(trouble) => Err(trouble),
     }
 }
 
-/// A member of an lvalue is an lvalue, and one of a value is a value (6.5.2.3p3).
+/// A member of an lvalue is an lvalue, and one of a value is a value (6.5.2.3p3), in a structure or union of the type
+/// `holder`.
 ///
 /// # Errors
 ///
-/// `Undefined` by U5, U6 or U11 of an lvalue, by U7, U8, U9 or U14 of a value.
+/// `Undefined` by U5, U6, U11 or U10 of an lvalue, by U7, U8, U9 or U14 of a value.
 pub(crate) fn member_value<S: Store, O: Objects>(
     alloc: Global,
     store: &S,
     objects: &O,
     setting: &Setting<'_>,
     ty: &Ty,
+    holder: &Ty,
     spot: Spot,
     value: &Finished,
 ) -> Result<Finished, Trouble>
     ensures { Finds view_finished result
-        (member_value (view_setting setting.now) (O.frame objects.now) (S.memory store.now) (view_type ty.now) spot (view_finished value.now)) }
+        (member_value (view_setting setting.now) (O.frame objects.now) (S.memory store.now) (view_type ty.now) (view_type holder.now) spot (view_finished value.now)) }
 {
+    let laid = extent_of(setting, OperandTy::Of(holder));
     match value {
         Finished::Cells(held, from) => {
             member_with(alloc, setting, ty, spot, held.as_slice(), *from)
         }
         Finished::Missing => Err(Trouble::Undefined(URule::U14)),
-        Finished::Names(_) => member_of_place(store, objects, spot, value),
-        Finished::Designates(_) => member_of_place(store, objects, spot, value),
-        Finished::Scalar(_) => member_of_place(store, objects, spot, value),
-        Finished::Bits(_, _, _) => member_of_place(store, objects, spot, value),
+        Finished::Names(_) => member_of_place(store, objects, spot, laid, value),
+        Finished::Designates(_) => member_of_place(store, objects, spot, laid, value),
+        Finished::Scalar(_) => member_of_place(store, objects, spot, laid, value),
+        Finished::Bits(_, _, _) => member_of_place(store, objects, spot, laid, value),
     }
 }

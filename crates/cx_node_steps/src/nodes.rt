@@ -84,8 +84,11 @@ fn unary_given<S: Store, O: Objects>(
 {
     match &node.form {
         Form::Deref(_) => as_place(deref_value(value)),
-        Form::Member(_, spot) => {
-            member_value(alloc, store, objects, setting, &node.ty, *spot, value)
+        Form::Member(of, spot) => {
+            let holder = &of.get().ty;
+            member_value(
+                alloc, store, objects, setting, &node.ty, holder, *spot, value,
+            )
         }
         Form::Address(_) => as_scalar(place_value(objects, value)),
         Form::Convert(_) => as_given(converted_value(

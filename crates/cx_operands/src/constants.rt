@@ -40,6 +40,9 @@ fn is_constant_form(types: &Types, e: &CoreExpr) -> bool
         Form::Binary(_, left, right) | Form::And(left, right) | Form::Or(left, right) => {
             is_constant_form(types, left.get()) && is_constant_form(types, right.get())
         }
+        Form::Comma(first, second) => {
+            is_constant_form(types, first.get()) && is_constant_form(types, second.get())
+        }
         Form::Cond(test, first, second) => {
             is_constant_form(types, test.get())
                 && is_constant_form(types, first.get())

@@ -5,3 +5,4 @@ pub mod Given
 pub mod Heap
 pub mod Opaque
 pub mod Written
+pub mod Wanting

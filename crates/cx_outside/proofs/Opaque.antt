@@ -91,7 +91,7 @@ module _ (setting : CSetting) (called : CCalled) (callee : COuter) (before : Aro
   arguments_fail trouble.Memory halt finds is = subst (λ (one : Halt). Calls (opaque_call setting called callee) (Err one) before before) (sym is) tt
 
   module _ (args : List Arg) (call : Call) (found : arguments setting before.held.blocks called.args ≡ Ok args) (same : call ≡ record { name = callee.name; args = args }) where
-    asks_call : (made : List Made) (ahead : List ℤ) →
+    pub asks_call : (made : List Made) (ahead : List ℤ) →
         opaque_call setting called callee (world_at before made ahead) ≡ with_answer (scalar_in_type setting called.type) (answered call (world_at before made ahead))
     asks_call made ahead =
         ap (λ (one : Result (List Arg) CWhy). and_then (wrong_at called.place one) (asks_for setting called callee (world_at before made ahead))) found

@@ -5,3 +5,4 @@ pub mod Effects
 pub mod Moves
 pub mod States
 pub mod Texts
+pub mod Wanting

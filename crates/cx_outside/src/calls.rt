@@ -7,6 +7,7 @@ ghost use Rattle.cx_mean.specs.Calls as meaning;
 ghost use Rattle.cx_outside.specs.Called.{Calls, Ends, Granted, IsHalt, library_piece};
 ghost use Rattle.cx_outside.specs.Effects.{library_view};
 ghost use Rattle.cx_outside.specs.States.{around};
+ghost use Rattle.cx_outside.specs.Wanting.{CallWants};
 ghost use Rattle.cx_work.specs.Views.{view_called, view_finished};
 ghost use Rattle.ext_calls.specs.Host.{HostState};
 ghost use Rattle.mem_bytes.specs.Coding.{IsScalar};
@@ -153,7 +154,9 @@ fn opaque_call<'a, S: Store, H: Host>(
     called: &Called<'_>,
     outer: &'a Outer,
 ) -> Result<Returned, Halt<'a>>
-    ensures { (limit : Option Limit) → Calls (meaning.opaque_call (view_setting setting.now) (view_called called.now) (view_outer outer.now)) result
+    ensures calls { (limit : Option Limit) → Calls (meaning.opaque_call (view_setting setting.now) (view_called called.now) (view_outer outer.now)) result
+        (around kept.old (S.memory store.now) limit (H.state host.old)) (around kept.new (S.memory store.now) limit (H.state host.new)) }
+    ensures wants { (limit : Option Limit) → CallWants (meaning.opaque_call (view_setting setting.now) (view_called called.now) (view_outer outer.now)) result
         (around kept.old (S.memory store.now) limit (H.state host.old)) (around kept.new (S.memory store.now) limit (H.state host.new)) }
 {
     let args = match arguments(kept.alloc(), setting, store, called.args.as_slice()) {
@@ -182,6 +185,8 @@ pub fn external_call<'a, S: Store, H: Host>(
     outer: &'a Outer,
 ) -> Result<Returned, Halt<'a>>
     ensures calls { Calls (meaning.external_call (view_setting setting.now) (view_called called.now) (view_outer outer.now)) result
+        (around kept.old (S.memory store.old) (S.limit store.old) (H.state host.old)) (around kept.new (S.memory store.new) (S.limit store.new) (H.state host.new)) }
+    ensures wants { CallWants (meaning.external_call (view_setting setting.now) (view_called called.now) (view_outer outer.now)) result
         (around kept.old (S.memory store.old) (S.limit store.old) (H.state host.old)) (around kept.new (S.memory store.new) (S.limit store.new) (H.state host.new)) }
     ensures limit { S.limit store.new ≡ S.limit store.old }
 {

@@ -8,6 +8,7 @@ ghost use Rattle.mem_bytes.specs.Memory.{Blocks};
 ghost use Rattle.cx_outside.specs.Blocks.{Begins};
 ghost use Rattle.cx_outside.specs.Comes.{Steps, StoreSteps};
 ghost use Rattle.cx_outside.specs.States.{KeptState, around};
+ghost use Rattle.cx_outside.specs.Wanting.{StepWants};
 
 use crate::kept::Kept;
 use cr_base::MOST_BYTES;
@@ -35,7 +36,9 @@ pub fn tell<'a, H: Host>(
     name: &'a [u8],
 ) -> Result<i64, Lack<'a>>
     requires { call.now.name ≡ name.now }
-    ensures { (blocks : Blocks) (limit : Option Limit) → Steps (answered call.now) result
+    ensures steps { (blocks : Blocks) (limit : Option Limit) → Steps (answered call.now) result
+        (around kept.old blocks limit (H.state host.old)) (around kept.new blocks limit (H.state host.new)) }
+    ensures wants { (blocks : Blocks) (limit : Option Limit) → StepWants (answered call.now) result
         (around kept.old blocks limit (H.state host.old)) (around kept.new blocks limit (H.state host.new)) }
 {
     let answer = match host.answer(call) {

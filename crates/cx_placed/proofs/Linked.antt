@@ -73,7 +73,7 @@ module _ (Among : ℕ → Type 0) where
   external_stands : (units : List CUnit) (unit : ℕ) (name : Option (List ℕ)) → Each IsReady units → Each (ObjectStandsIn Among) (external_object units unit name)
   external_stands units unit None held = tt
   external_stands units unit (Some name) held =
-      by_test (Each (ObjectStandsIn Among)) (is_in unit (first_unit (declared_object name) 0 units)) (there units (object_of_name units name)) []
+      by_test (Each (ObjectStandsIn Among)) (is_in unit (object_of_name units name)) (there units (object_of_name units name)) []
       (there_stands units (object_of_name units name) (named_ready units name held)) tt
 
   objects_stand : (units : List CUnit) (one : CUnit) (unit : ℕ) (objects : List CObject) → Each IsReady units → Each ObjectIsReady objects

@@ -20,6 +20,7 @@ use Rattle.cx_rules.specs.Scope.{CThing, new_scope}
 use Rattle.cx_rules.specs.Shapes.{CSpecs, no_specs_yet, base_type, CShape}
 use Rattle.cx_rules.specs.UnitWalk.{name_or_none, CWhere, in_loop, CMeant, CStated, stmts_of, as_block, CHead, fun_of, where_in, tentative_things}
 use Rattle.cx_rules.specs.Units.{seen_unit}
+use Rattle.cx_rules.specs.Types.{defined_type}
 use Rattle.cx_tree.specs.Trees.{ExprTree, OptionExprTree, no_expr, some_expr, DeclaratorTree, DeclTree, ForFirstTree, StmtTree, Label, Case, Default, Block, ExprStmt, If, Switch, While, Do, For, Goto, Continue, Break, Return, OptionStmtTree, no_stmt, some_stmt, ItemTree, Statement, Declared, ItemTrees, no_items, more_items, DefinitionTree, ExternalTree, Defined, Declaration, UnitTree}
 
 module _ (Among : ℕ → Type 0) where
@@ -165,7 +166,7 @@ module _ (Among : ℕ → Type 0) where
   pub on_head_walk : (specs : CSpecs) (missing : ℕ) (declarator : DeclaratorTree) → Keeps Among CHead (Anything CHead) (s_head_walk specs missing declarator)
   on_head_walk specs missing declarator = on_chain _ _ _ _ _ _ (on_declarator_walk Among declarator) (λ shape _. on_chain _ _ _ _ _ _
       (on_derives_seen Among (declarator_line missing declarator) (base_type specs) shape) (λ type _.
-      on_head_seen specs (declarator_line missing declarator) shape type))
+      on_head_seen specs (declarator_line missing declarator) shape (defined_type type)))
 
   pub on_definition_walk : (d : DefinitionTree) → Keeps Among Done (Anything Done) (s_definition_walk d)
   on_definition_walk d = on_chain _ _ _ _ _ _ (on_specs_walk Among false no_specs_yet d.specs) (λ all _. on_chain _ _ _ _ _ _ (on_specs_seen Among Definition (specs_line d.specs) all) (λ _ _. on_chain _ _ _ _ _ _

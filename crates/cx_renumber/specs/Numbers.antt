@@ -1,6 +1,6 @@
 -- The numbers of a unit's types and things in the whole program: those of each unit stand behind those of the units before it.
 use Rattle.std.specs.Prelude.{ℕ, suc, ◌+◌, max, List, [], ◌∷◌, map, length, option_map}
-use Rattle.cx_core.specs.Trees.{CTy, ty, CTyForm, void, basic, enum_type, pointer, array, record_type, function, CParams, unlisted, listed, CTys, no_types, more_types, CExpr, expr, CForm, whole, null, object, code, load, deref, member, address, convert, unary, binary, and, or, cond, assign, assign_by, step, call, call_by, comma, literal, CExprs, no_exprs, more_exprs, CPut, put, CPuts, no_puts, more_puts, CStmt, stmt, CStmtForm, label, case, default, block, expression, if_then, switch, while, do_while, for_loop, goto, continue, break, returns, begin, COtherwise, no_else, else_do, CStmts, no_stmts, more_stmts, CMember, CRecord, CObject, CFun, COuter, CDoes, declares, defines, calls, uses, CMention, CUnit}
+use Rattle.cx_core.specs.Trees.{CTy, ty, CTyForm, void, basic, enum_type, pointer, array, record_type, function, CParams, unlisted, listed, CTys, no_types, more_types, CExpr, expr, CForm, whole, null, object, code, load, deref, member, address, convert, unary, binary, and, or, cond, assign, assign_by, step, call, call_by, comma, literal, CExprs, no_exprs, more_exprs, CPut, put, CPuts, no_puts, more_puts, CStmt, stmt, CStmtForm, label, case, default, block, expression, if_then, switch, while, do_while, for_loop, goto, continue, break, returns, begin, COtherwise, no_else, else_do, CStmts, no_stmts, more_stmts, CMember, CRecord, CObject, CFun, COuter, CKey, a_function, an_object, a_record, a_calloc, CDeclaredOrder, CDoes, declares, defines, calls, uses, CMention, CUnit}
 
 -- ---- how many numbers units take
 
@@ -180,3 +180,17 @@ module _ (numbers : CNumbers) where
 
   abbrev pub outer_there : COuter → COuter
   outer_there one = record one { function = numbers.function_for one.function; type = type_there numbers.before one.type }
+
+  -- ---- the order of declarations
+
+  abbrev pub key_there : CKey → CKey
+  key_there (a_function number) = a_function (numbers.function_for number)
+  key_there (an_object number) = an_object (numbers.object_for number)
+  key_there (a_record number) = a_record (numbers.before.records + number)
+  key_there a_calloc = a_calloc
+
+  abbrev pub order_there : CDeclaredOrder → CDeclaredOrder
+  order_there one = record {
+    things = map key_there one.things;
+    completed = map (λ number. numbers.before.records + number) one.completed;
+  }

@@ -4,12 +4,14 @@
 
 mod expressions;
 mod numbers;
+mod orders;
 mod statements;
 mod things;
 mod types;
 
 pub use expressions::{expr_there, puts_there};
 pub use numbers::{Counts, Numbers};
+pub use orders::order_there;
 pub use statements::stmt_there;
 pub use things::{function_there, mention_there, object_there, outer_there};
 pub use types::{record_there, type_there, types_there};

@@ -10,6 +10,7 @@ use Rattle.cx_rules.specs.Shapes.{CSpecs, no_specs_yet, base_type, CShape}
 use Rattle.cx_rules.specs.Pieces.{Done}
 use Rattle.cx_tree.specs.Trees.{ExprTree, OptionExprTree, no_expr, some_expr, DeclaratorTree, DeclTree, ForFirstTree, StmtTree, Label, Case, Default, Block, ExprStmt, If, Switch, While, Do, For, Goto, Continue, Break, Return, OptionStmtTree, no_stmt, some_stmt, ItemTree, Statement, Declared, ItemTrees, no_items, more_items, DefinitionTree, ExternalTree, Defined, Declaration, UnitTree}
 use Rattle.cx_rules.specs.UnitWalk.{name_or_none, CWhere, in_loop, CMeant, CStated, stmts_of, CHead, where_in, tentative_things}
+use Rattle.cx_rules.specs.Types.{defined_type}
 use Rattle.cx_rules.proofs.Verdicts.{Agree, on_gives, on_chain, on_here, on_becomes, on_settled, on_changed, on_scoped}
 use Rattle.cx_rules.proofs.UnitNodesAgree.{c_stmt_walk, s_stmt_walk, c_else_walk, s_else_walk, c_item_walk, s_item_walk, c_items_walk, s_items_walk, c_head_as, s_head_as, c_head_seen, s_head_seen, c_body_ends, s_body_ends, c_function_body, s_function_body, c_head_walk, s_head_walk, c_definition_walk, s_definition_walk, c_external_walk, s_external_walk, c_externals_walk, s_externals_walk, c_tentative_seen, s_tentative_seen, c_tentatives_seen, s_tentatives_seen, c_unit_ends, s_unit_ends, c_unit_walk, s_unit_walk, on_expr_walk, on_option_walk, on_specs_walk, on_specs_seen, on_declarator_walk, on_derives_seen, on_scope_begins, on_decl_walk, on_label_seen, on_case_seen, on_default_seen, on_null_seen, on_expression_walk, on_whole_ends, on_tested_begins, on_tested_ends, on_switch_begins, on_switch_ends, on_do_ends, on_for_begins, on_for_ends, on_goto_seen, on_jump_seen, on_return_seen}
 
@@ -120,7 +121,7 @@ on_function_body head (Block items lines) = (on_chain _ _ _ _ _ _ (on_items_walk
 on_function_body head body = (on_chain _ _ _ _ _ _ (on_stmt_walk (where_in head body) body) (λ one. (on_gives _ _)))
 
 pub on_head_walk : (x1 : CSpecs) (x2 : ℕ) (x3 : DeclaratorTree) → Agree CHead (c_head_walk x1 x2 x3) (s_head_walk x1 x2 x3)
-on_head_walk specs missing declarator = (on_chain _ _ _ _ _ _ (on_declarator_walk declarator) (λ shape. (on_chain _ _ _ _ _ _ (on_derives_seen (declarator_line missing declarator) (base_type specs) shape) (λ type. (on_head_seen specs (declarator_line missing declarator) shape type)))))
+on_head_walk specs missing declarator = (on_chain _ _ _ _ _ _ (on_declarator_walk declarator) (λ shape. (on_chain _ _ _ _ _ _ (on_derives_seen (declarator_line missing declarator) (base_type specs) shape) (λ type. (on_head_seen specs (declarator_line missing declarator) shape (defined_type type))))))
 
 pub on_definition_walk : (x1 : DefinitionTree) → Agree Done (c_definition_walk x1) (s_definition_walk x1)
 on_definition_walk d = (on_chain _ _ _ _ _ _ (on_specs_walk false no_specs_yet d.specs) (λ all. (on_chain _ _ _ _ _ _ (on_specs_seen Definition (specs_line d.specs) all) (λ _. (on_chain _ _ _ _ _ _ (on_head_walk all (specs_line d.specs) d.declarator) (λ head. (on_chain _ _ _ _ _ _ (on_function_body head d.body) (λ body. (on_body_ends head body)))))))))

@@ -2,7 +2,7 @@
 use Rattle.std.specs.Prelude.{ℕ, ◌==◌, nat_le, Bool, true, false, not, ◌&&◌, ◌||◌, if◌then◌else◌, List, [], ◌∷◌, ◌++◌, map, length, Option, None, Some, is_some, is_none, bytes_eq, find}
 use Rattle.cx_core.specs.declared.program.Linkage.{Linkage}
 use Rattle.cx_core.specs.declared.program.Linkage.TheVariants.{External, Internal, Nothing}
-use Rattle.cx_core.specs.Trees.{CTy, ty, CTyForm, array, form_of_type, CTypes, CPuts, no_puts, CObject, COuter, CDoes, declares, defines, CMention, CUnit}
+use Rattle.cx_core.specs.Trees.{CTy, ty, CTyForm, array, form_of_type, CTypes, CPuts, no_puts, CObject, COuter, CKey, a_function as function_key, an_object as object_key, CDeclaredOrder, CDoes, declares, defines, CMention, CUnit}
 use Rattle.cx_lex.specs.declared.token.Keyword.TheVariants as keyword
 use Rattle.cx_rules.specs.declared.kinds.SpecsPlace.{SpecsPlace}
 use Rattle.cx_rules.specs.declared.kinds.SpecsPlace.TheVariants.{File, Definition, Block, ForClause, Parameter, Plain}
@@ -498,6 +498,13 @@ final_mention_by one (Some thing) = if ends_with_one_element thing then record o
 abbrev final_mention : List CThing → CMention → CMention
 final_mention things one = if is_defining one.does then final_mention_by one (thing_named one.name things) else one
 
+-- the order of declarations: what has linkage by its numbers, and the records
+abbrev pub key_of : CThing → CKey
+key_of one = if one.is_function then function_key one.number else object_key one.number
+
+abbrev pub order_of : CScope → CDeclaredOrder
+order_of scope = record { things = map key_of scope.things; completed = scope.completed }
+
 -- the typed unit
 unfoldable pub unit_of : CScope → CUnit
 unit_of scope = record {
@@ -506,4 +513,5 @@ unit_of scope = record {
   functions = scope.functions;
   externals = outers_of scope.things;
   mentions = map (final_mention scope.things) scope.mentions;
+  order = order_of scope;
 }

@@ -11,6 +11,7 @@ pub mod Readings
 pub mod Rules
 pub mod Scope
 pub mod Shapes
+pub mod Texts
 pub mod Types
 pub mod UnitWalk
 pub mod Units

@@ -4,7 +4,7 @@ use Rattle.std.specs.Ordering.{int_eq}
 use Rattle.cr_base.specs.Scalar.{converted}
 use Rattle.cr_base.specs.declared.scalar.Scalar.{Scalar}
 use Rattle.cx_core.specs.Conversions.{basic_of, scalar_of_basic, promoted, common_type}
-use Rattle.cx_core.specs.Trees.{CTy, ty, pointer, array, form_of_type, unqualified, CTypes, CExpr, expr, CForm, whole, null, load, address, convert, unary, binary, and, or, cond, type_of, place_of}
+use Rattle.cx_core.specs.Trees.{CTy, ty, pointer, array, form_of_type, unqualified, CTypes, CExpr, expr, CForm, whole, null, load, address, convert, unary, binary, and, or, cond, comma, type_of, place_of}
 use Rattle.cx_core.specs.Typing.{width_of}
 use Rattle.cx_core.specs.declared.expr.Op1.{Op1}
 use Rattle.cx_core.specs.declared.expr.Op2.{Op2}
@@ -83,7 +83,8 @@ is_register_array operand = is_place operand && (operand.is_register && is_array
 
 abbrev mutual
   -- its operands are integer constants, enumeration constants, character constants, `sizeof` expressions and casts of these to
-  -- integer types, and no operator is among them that a constant expression may not have (6.6p3, p6)
+  -- integer types (6.6p6); of the operators that a constant expression may have only where they aren't evaluated (6.6p3) a comma alone
+  -- has such operands, and where it is evaluated it gives no number
   pub is_constant_form : CTypes → CExpr → Bool
   is_constant_form types (expr type place form) = is_integer types type && are_constant_parts types form
 
@@ -96,6 +97,7 @@ abbrev mutual
   are_constant_parts types (or left right) = is_constant_form types left && is_constant_form types right
   are_constant_parts types (cond test first second) =
       is_constant_form types test && (is_constant_form types first && is_constant_form types second)
+  are_constant_parts types (comma first second) = is_constant_form types first && is_constant_form types second
   are_constant_parts types _ = false
 
 abbrev pub number_in : Result ℤ CWhy → Option ℤ
@@ -139,7 +141,7 @@ abbrev pub chosen : Option ℤ → Option ℤ → ℤ → Option ℤ
 chosen first second test = if is_zero test then second else first
 
 abbrev mutual
-  -- the number that such an expression gives, or none where its value isn't defined
+  -- the number that such an expression gives, or none where its value isn't defined, or a comma is evaluated
   pub number_of : CTypes → CExpr → Option ℤ
   number_of types (expr type place form) = number_of_form types type form
 
@@ -153,6 +155,7 @@ abbrev mutual
   number_of_form types type (or left right) = option_and_then (either_holds (number_of types right)) (number_of types left)
   number_of_form types type (cond test first second) =
       option_and_then (chosen (number_of types first) (number_of types second)) (number_of types test)
+  number_of_form types type (comma first second) = None
   number_of_form types type _ = None
 
 -- the value of an integer constant expression

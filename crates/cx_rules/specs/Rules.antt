@@ -243,8 +243,12 @@ abbrev pub params_incomplete : CTypes → CParams → Bool
 params_incomplete types unlisted = false
 params_incomplete types (listed params) = any_incomplete types params
 
+-- `void` as a whole result: an unqualified one (6.9.1p3)
+abbrev pub is_plain_void : CTy → Bool
+is_plain_void result = is_void result && not (is_const_type result)
+
 abbrev pub result_incomplete : CTypes → CTy → Bool
-result_incomplete types result = not (is_void result) && is_incomplete types result
+result_incomplete types result = not (is_plain_void result) && is_incomplete types result
 
 abbrev pub parts_incomplete : CTypes → CTyForm → Bool
 parts_incomplete types (function result params variadic) = result_incomplete types result || params_incomplete types params

@@ -86,6 +86,8 @@ pub record CScope : Type 0 where
   pub functions : List CFun
   -- the names with linkage, in the order of their first declarations
   pub things : List CThing
+  -- the numbers of the records that were completed so far, in that order (6.7.2.3p4)
+  pub completed : List ℕ
   pub body : CLabels
 
 abbrev pub no_labels : CLabels
@@ -106,6 +108,7 @@ new_scope unit = record {
   objects = [];
   functions = [];
   things = [];
+  completed = [];
   body = no_labels;
 }
 
@@ -190,7 +193,10 @@ with_record name is_union scope = with_types (record scope.types {
 
 -- the record with a number is completed
 abbrev pub with_completed : ℕ → CRecord → CScope → CScope
-with_completed number one scope = with_types (record scope.types { records = slice_set scope.types.records number (Some one) }) scope
+with_completed number one scope = record scope {
+  types = record scope.types { records = slice_set scope.types.records number (Some one) };
+  completed = scope.completed ++ number ∷ [];
+}
 
 -- an enumerated type, whose list may follow (6.7.2.2)
 abbrev pub with_enum : CScope → CScope

@@ -255,6 +255,22 @@ abbrev mutual
   composite_types (more_types first firsts) (more_types second seconds) = more_types (composite first second) (composite_types firsts seconds)
   composite_types first _ = first
 
+-- ---- definitions of functions (6.9.1)
+
+-- an empty list in a declarator that is part of a definition says that the function has no parameters (6.7.5.3p14), so its type goes with no
+-- list of parameters (6.7.5.3p15)
+abbrev pub defined_params : CParams → CParams
+defined_params unlisted = listed no_types
+defined_params (listed params) = listed params
+
+abbrev pub defined_form : CTyForm → CTyForm
+defined_form (function result params variadic) = function result (defined_params params) variadic
+defined_form form = form
+
+-- the type of a function that is defined, by the one that its declarator says
+abbrev pub defined_type : CTy → CTy
+defined_type (ty form is_const) = ty (defined_form form) is_const
+
 -- ---- qualifiers (6.7.3)
 
 -- a type with `const` added: an array passes it on to its elements (6.7.3p8); it does nothing to a function type

@@ -12,7 +12,7 @@ use Rattle.cx_rules.specs.Operands.{COperand, value_of, dropped, fitted, promote
 use Rattle.cx_rules.specs.Rules.{case_value}
 use Rattle.cx_rules.specs.Scope.{CScope, CLabels, no_labels, CMade, CThing, entered, left}
 use Rattle.cx_rules.specs.Shapes.{CSpecs, no_specs_yet, base_type, CParam, CShape}
-use Rattle.cx_rules.specs.Types.{int_type}
+use Rattle.cx_rules.specs.Types.{int_type, defined_type}
 use Rattle.cx_rules.specs.Walk as walk
 use Rattle.cx_rules.specs.Pieces.{Done, at_line, CTarget, CFilled, filled_object}
 use Rattle.cx_tree.specs.Trees.{ExprTree, OptionExprTree, no_expr, some_expr, SpecTrees, no_specs, more_specs, Record, no_members, DeclaratorTree, InitialiserTree, InitDeclaratorTree, DeclTree, ForFirstTree, FirstValue, FirstDeclared, StmtTree, Label, Case, Default, Block, ExprStmt, If, Switch, While, Do, For, Goto, Continue, Break, Return, OptionStmtTree, no_stmt, some_stmt, ItemTree, Statement, Declared, ItemTrees, no_items, more_items, DefinitionTree, ExternalTree, Defined, Declaration, UnitTree}
@@ -545,7 +545,7 @@ module _
     abbrev pub head_walk : CSpecs → ℕ → DeclaratorTree → M CHead
     head_walk specs missing declarator = declarator_walk declarator >>= (λ shape.
         derives_seen (declarator_line missing declarator) (base_type specs) shape >>= (λ type.
-        head_seen specs (declarator_line missing declarator) shape type))
+        head_seen specs (declarator_line missing declarator) shape (defined_type type)))
 
     abbrev pub definition_walk : DefinitionTree → M Done
     definition_walk d = specs_walk false no_specs_yet d.specs >>= (λ all. specs_seen Definition (specs_line d.specs) all >>= (λ _.

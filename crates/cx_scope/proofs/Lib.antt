@@ -8,5 +8,4 @@ pub mod Places
 pub mod Replaced
 pub mod Splits
 pub mod Standing
-pub mod TextPuts
 pub mod Uses

@@ -1,9 +1,9 @@
 -- What else the calls of a scope change.
-use Rattle.std.specs.Prelude.{ℕ, min, Bool, true, false, ◌&&◌, is_none, slice_get, List, [], ◌∷◌, ◌++◌, length, take, drop, Option, None, Some}
+use Rattle.std.specs.Prelude.{ℕ, min, Bool, true, false, ◌&&◌, is_none, slice_get, slice_set, List, [], ◌∷◌, ◌++◌, length, take, drop, Option, None, Some}
 use Rattle.std.specs.Bool.{beq}
 use Rattle.std.specs.Option.{option_flatten}
 use Rattle.cx_core.specs.declared.program.Linkage.TheVariants.{Nothing}
-use Rattle.cx_core.specs.Trees.{CTypes, CRecordTag, CPuts}
+use Rattle.cx_core.specs.Trees.{CTypes, CRecord, CRecordTag, CPuts}
 use Rattle.cx_rules.specs.Scope.{an_object, CDeclared, CTag, CScope, down_to, with_record, with_tag}
 use Rattle.cx_rules.specs.Shapes.{CParam}
 
@@ -38,6 +38,14 @@ with_record_types name is_union unit types = record types {
 
 abbrev pub with_enum_types : (unit : ℕ) → CTypes → CTypes
 with_enum_types unit types = record types { enums = types.enums ++ true ∷ []; enum_units = types.enum_units ++ unit ∷ [] }
+
+-- the number of a record stands behind those that were completed
+abbrev pub with_number_completed : ℕ → CScope → CScope
+with_number_completed number scope = record scope { completed = scope.completed ++ number ∷ [] }
+
+-- the record with a number has these members
+abbrev pub with_contents : ℕ → CRecord → CScope → CScope
+with_contents number one scope = record scope { types = record scope.types { records = slice_set scope.types.records number (Some one) } }
 
 -- a structure or union that isn't there yet is declared
 abbrev pub with_declared_record : Option (List ℕ) → Bool → CScope → CScope

@@ -6,6 +6,5 @@ pub mod NameIndex
 pub mod Names
 pub mod Objects
 pub mod Places
-pub mod Texts
 pub mod Uses
 pub mod Views

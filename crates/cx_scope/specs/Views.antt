@@ -61,5 +61,6 @@ view_scope one = record {
   objects = map view_object one.objects;
   functions = map view_function one.functions;
   things = map view_thing one.things;
+  completed = one.completed;
   body = view_labels one.body;
 }

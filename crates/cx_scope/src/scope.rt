@@ -45,6 +45,8 @@ pub struct Scope {
     pub functions: Items<Fun>,
     /// The names with linkage, in the order of their first declarations (6.2.2).
     pub things: Things,
+    /// The numbers of the structures and unions that were completed so far, in that order (6.7.2.3p4).
+    pub completed: Items<u32>,
     /// The labels of the function, and of the innermost `switch`.
     pub body: Labels,
 }
@@ -68,6 +70,7 @@ impl Scope {
             objects: Objects::new(alloc),
             functions: Items::new(alloc),
             things: Things::new(alloc),
+            completed: Items::new(alloc),
             body: no_labels(alloc),
         }
     }

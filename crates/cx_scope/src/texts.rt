@@ -8,7 +8,7 @@ ghost use Rattle.cx_core.specs.Trees.{expr, ty, array, whole};
 ghost use Rattle.cx_core.specs.Views.{view_type, view_expr, view_put, view_puts};
 ghost use Rattle.cx_rules.specs.Initial.{char_type, joined_bytes, text_puts, text_type};
 ghost use Rattle.cx_rules.specs.Pieces.{made_text, with_text};
-ghost use Rattle.cx_scope.specs.Texts.{byte_expr, byte_put, byte_puts};
+ghost use Rattle.cx_rules.specs.Texts.{byte_expr, byte_put, byte_puts};
 ghost use Rattle.cx_scope.specs.Views.{view_scope, view_made};
 
 use crate::made::Made;
@@ -35,7 +35,7 @@ impl Scope {
     }
 
     // The object that a string literal gets.
-    #[tactic(auto, using(crate::proofs::TextPuts::text_puts_are), unfolding(crate::specs::Views::view_scope))]
+    #[tactic(auto, using(cx_rules::proofs::TextPuts::text_puts_are), unfolding(crate::specs::Views::view_scope))]
     fn made_text(&self, line: u32, bytes: &[u8]) -> Result<Made, Memory>
         ensures { IfOk result (λ made. view_made made ≡ made_text (view_scope self.now) line bytes.now) }
     {

@@ -3,8 +3,8 @@
 
 ghost use Rattle.std.specs.Prelude.{◌≡◌, OnOk, OnErr};
 ghost use Rattle.cx_core.specs.Views.{view_record, view_types};
-ghost use Rattle.cx_rules.specs.Scope.{with_record, with_completed, with_enum, with_enum_type};
-ghost use Rattle.cx_scope.specs.Changes.{with_record_types, with_tag_of, with_enum_types};
+ghost use Rattle.cx_rules.specs.Scope.{with_record, with_enum, with_enum_type};
+ghost use Rattle.cx_scope.specs.Changes.{with_contents, with_enum_types, with_number_completed, with_record_types, with_tag_of};
 ghost use Rattle.cx_scope.specs.Views.{view_scope};
 
 use crate::lists::{drop_last, replace_at};
@@ -22,9 +22,18 @@ impl Scope {
         put_record(&mut self.types, tag, is_union, self.unit)
     }
 
-    /// The structure or union with its number is completed (ISO C99, 6.7.2.1p7). It takes no memory.
+    /// The number of a structure or union stands behind those that were completed (ISO C99, 6.7.2.3p4). Refused only for want of
+    /// memory, and then nothing changed.
+    pub fn note_completed(&mut self, number: u32) -> Result<(), Memory>
+        ensures noted { OnOk result (view_scope self.new ≡ with_number_completed number (view_scope self.old)) }
+        ensures refused { OnErr result (view_scope self.new ≡ view_scope self.old) }
+    {
+        self.completed.push(number)
+    }
+
+    /// The structure or union with its number has these members (ISO C99, 6.7.2.1p7). It takes no memory.
     pub fn complete_record(&mut self, one: RecordTy)
-        ensures { view_scope self.new ≡ with_completed one.number (view_record one) (view_scope self.old) }
+        ensures { view_scope self.new ≡ with_contents one.number (view_record one) (view_scope self.old) }
     {
         let index = one.number as usize;
         replace_at(&mut self.types.records, index, Some(one));

@@ -1,5 +1,6 @@
 -- Typed units from their bytes, and the program that they make (ISO C99, 5.1.1.1).
-use Rattle.std.proofs.Common.{◌≡◌, subst, ℕ, zero, suc, ◌+◌, List, [], ◌∷◌, Some, All, slice_get, arith}
+use Rattle.std.proofs.Common.{◌≡◌, refl, ap, ◌∙◌, subst, ℕ, zero, suc, ◌+◌, List, [], ◌∷◌, Some, All, slice_get, arith}
+use Rattle.cr_base.specs.declared.rule.URule.{URule}
 use Rattle.cx_core.specs.Linked.{IsTypedUnit, IsLinked}
 use Rattle.cx_core.specs.Trees.{CUnit}
 use Rattle.cx_links.specs.Program.{linked}
@@ -11,12 +12,15 @@ use Rattle.cx_typed_files.specs.Covered.{IsMentionCovered}
 use Rattle.cx_typed_files.specs.Defining.{IsDefinitionThere}
 use Rattle.cx_typed_files.specs.FileUnits.{AreSpelledExternals}
 use Rattle.cx_typed_links.proofs.LinksHold.{linked_units_make_programs}
-use Rattle.cx_mean.specs.Run.{CProgress, going, ended, undefined, is_stuck, is_full, asks_for, is_astray, c_run}
-use Rattle.cr_world.specs.World.{open_ended}
+use Rattle.cx_mean.proofs.Functions.{leftmost_is_run}
+use Rattle.cx_mean.specs.Leftmost.{c_shown}
+use Rattle.cx_mean.specs.Operands.{CWhy, breaks, stuck, CStop}
+use Rattle.cx_mean.specs.Run.{CSeen, CProgress, going, ended, undefined, is_stuck, is_full, asks_for, is_astray, progress_of_fault, progress_of_stop, c_run, leftmost}
+use Rattle.cr_world.specs.World.{open_ended, wrong, full, asks, astray}
 use Rattle.cx_typed_runs.proofs.OpenRuns.{open_runs_want_nothing}
 use Rattle.cx_typed_runs.proofs.StatesTyped.{runs_are_never_stuck}
 use Rattle.cx_typed_runs.specs.Runs.{HasNamedProgress, WantsNothing}
-use Rattle.cx_sound.specs.Sound.{MeansUnit, MeanUnits, UnbrokenUnitsAreLinked, UnbrokenUnitsNeverStick, GoesEndsOrBreaks, UnbrokenUnitsHaveOutcomes}
+use Rattle.cx_sound.specs.Sound.{MeansUnit, MeanUnits, UnbrokenUnitsAreLinked, UnbrokenUnitsNeverStick, GoesEndsOrBreaks, UnbrokenUnitsHaveOutcomes, LinkedProgramsNeverStick, LinkedProgramsHaveOutcomes, BreaksRule, LinkedProgramsBreakRules}
 
 -- ---- units by their numbers
 
@@ -93,3 +97,28 @@ unbroken_units_have_outcomes given units order outside steps sound =
     no_fourth (c_run (linked units) order outside steps).progress
     (unbroken_units_never_stick given units order open_ended outside steps sound)
     (open_runs_want_nothing (linked units) order outside steps)
+
+-- ---- linked programs
+
+pub linked_programs_never_stick : LinkedProgramsNeverStick
+linked_programs_never_stick program order terms outside steps are = runs_are_never_stuck program order terms outside steps are
+
+pub linked_programs_have_outcomes : LinkedProgramsHaveOutcomes
+linked_programs_have_outcomes program order outside steps are =
+    no_fourth (c_run program order outside steps).progress (linked_programs_never_stick program order open_ended outside steps are) (open_runs_want_nothing program order outside steps)
+
+broken_by : (why : CWhy) (unit line : ℕ) → GoesEndsOrBreaks (progress_of_fault why unit line) → (rule : URule) × (why ≡ breaks rule)
+broken_by (breaks rule) unit line is = (rule, refl)
+broken_by stuck unit line is = absurd is
+
+stops_by : (stop : CStop) → GoesEndsOrBreaks (progress_of_stop stop) → BreaksRule stop
+stops_by (wrong fault) is = broken_by fault.why fault.place.unit fault.place.line is
+stops_by (full need left) is = is
+stops_by (asks call) is = is
+stops_by astray is = is
+
+pub linked_programs_break_rules : LinkedProgramsBreakRules
+linked_programs_break_rules program outside steps stop world are is =
+    let shown : (c_run program leftmost outside steps).progress ≡ progress_of_stop stop =
+    ap (λ (one : CSeen). one.progress) (leftmost_is_run program open_ended outside steps ∙ ap c_shown is) in
+    stops_by stop (subst GoesEndsOrBreaks shown (linked_programs_have_outcomes program leftmost outside steps are))

@@ -3,7 +3,7 @@
 use Rattle.std.proofs.Common.{ℕ, Bool, true, false, List, [], ◌∷◌, length, Some, Result, Ok, Err}
 use Rattle.cr_base.specs.declared.refusal.Place.{Place}
 use Rattle.cr_base.specs.declared.rule.URule.TheVariants.{U14}
-use Rattle.cx_core.specs.Trees.{CTy, unqualified, CExpr, expr, CForm, whole, null, object, code, load, deref, member, address, convert, unary, binary, and, or, cond, assign, assign_by, step, call, call_by, comma, literal, CExprs, no_exprs, more_exprs, CPut, put, CPuts, no_puts, more_puts, place_of}
+use Rattle.cx_core.specs.Trees.{CTy, unqualified, CExpr, expr, CForm, whole, null, object, code, load, deref, member, address, convert, unary, binary, and, or, cond, assign, assign_by, step, call, call_by, comma, literal, CExprs, no_exprs, more_exprs, CPut, put, CPuts, no_puts, more_puts, place_of, type_of}
 use Rattle.cx_mean.proofs.KeptNodes.{IfGiven, given_and, given_then, given_else}
 use Rattle.cx_mean.specs.Accesses.{CLoaded, loaded, stored}
 use Rattle.cx_mean.specs.Calls.{CCallee, callee_numbered, callee_by, CCalling, called_with, called_by, counted, is_missing, all_given, node_calling}
@@ -184,7 +184,7 @@ module _ (reached : ℕ → Bool) (Named : ℕ → Type 0) where
         → IfGiven (DoneGives reached Named blocks) (unary_done setting type form frame marks blocks one)
     unary_gives type (load from) marks blocks one gives closed = load_done blocks (loaded setting frame blocks type one.value marks) (load_gives reached Named frame live setting blocks type one.value marks gives closed) closed
     unary_gives type (deref from) marks blocks one gives closed = value_done blocks marks (deref_value one.value) (deref_gives reached Named one.value gives) closed
-    unary_gives type (member of spot) marks blocks one gives closed = value_done blocks marks (member_value setting frame blocks type spot one.value) (member_gives reached Named frame live setting blocks type spot one.value gives) closed
+    unary_gives type (member of spot) marks blocks one gives closed = value_done blocks marks (member_value setting frame blocks type (type_of of) spot one.value) (member_gives reached Named frame live setting blocks type (type_of of) spot one.value gives) closed
     unary_gives type (address of) marks blocks one gives closed = value_done blocks marks (address_value frame one.value) (address_gives reached Named frame live one.value gives) closed
     unary_gives type (convert value) marks blocks one gives closed = value_done blocks marks (converted_value setting type blocks one.value) (converted_gives reached Named setting type blocks one.value gives) closed
     unary_gives type (unary op value) marks blocks one gives closed =

@@ -16,9 +16,9 @@ use Rattle.cx_mean.proofs.KeptNodes.{IfGiven, given_and, given_then, given_where
 use Rattle.cx_mean.specs.Accesses.{CKind, of_scalar, of_record, kind_of, object_at, is_field_place, field_value, CLoaded, loaded_scalar, loaded_record, loaded_kind, loaded_bits, loaded_from, loaded}
 use Rattle.cx_mean.specs.Initialisers.{part_with}
 use Rattle.cx_mean.specs.Marks.{Marks, bits_of_bytes, bits_of_field}
-use Rattle.cx_mean.specs.Nodes.{moved_by, pointed_to, deref_value, member_of_place, value_part, member_of_kind, member_bits, member_with, member_value, address_value}
+use Rattle.cx_mean.specs.Nodes.{moved_by, pointed_to, deref_value, aligned_place, member_of_place, value_part, member_of_kind, member_bits, member_with, member_value, address_value}
 use Rattle.cx_mean.specs.Operands.{CWhy, stuck, needed, accessed, by_pointers, CValue, scalar, cells, names, designates, designates_bits, missing, Frame, slot_of, place_in, scalar_value, sequenced_after}
-use Rattle.cx_mean.specs.Settings.{CSetting, scalar_in_type}
+use Rattle.cx_mean.specs.Settings.{CSetting, scalar_in_type, extent_in}
 use Rattle.cx_mean.specs.Values.{is_true, is_of_kind, value_of_kind, number_in, unary_value, CTyped, binary_value, to_scalar, converted_scalar, converted_value}
 use Rattle.cx_numbers.specs.Numbers.{number_of_binary}
 use Rattle.mem_bytes.specs.Access.{and_then, scalar_part_of, block_value, record_part_of, part_at, value_at, field_at, record_at}
@@ -274,13 +274,14 @@ module _ (reached : ℕ → Bool) where
     object_leads (Number number) leads = tt
     object_leads (Function number) leads = tt
 
-    member_place_gives : (blocks : Blocks) (spot : Spot) (place : Result Value CWhy) → IfGiven (LeadsWithin reached) place → IfGiven (GivesWithin reached Named) (member_of_place blocks spot place)
-    member_place_gives blocks spot place leads =
+    member_place_gives : (blocks : Blocks) (spot : Spot) (laid : Option Laid) (place : Result Value CWhy) → IfGiven (LeadsWithin reached) place → IfGiven (GivesWithin reached Named) (member_of_place blocks spot laid place)
+    member_place_gives blocks spot laid place leads =
+        given_then (GivesWithin reached Named) (needed laid) _ (λ one.
         given_and (LeadsWithin reached) (GivesWithin reached Named) place _ leads (λ to to_leads.
         given_and (λ (at : Ptr). reached at.block ≡ true) (GivesWithin reached Named) (object_at to) _ (object_leads to to_leads) (λ at within.
         given_and (λ (new : Ptr). reached new.block ≡ true) (GivesWithin reached Named) (by_pointers U11 (place_moved blocks at (pos spot.byte))) _
         (given_pointers (λ (new : Ptr). reached new.block ≡ true) U11 (place_moved blocks at (pos spot.byte)) (place_moved_leads blocks at (pos spot.byte) within))
-        (λ new new_within. part_is_place new spot.bit spot.width new_within)))
+        (λ new new_within. given_then (GivesWithin reached Named) (accessed (aligned_place blocks one.align at)) _ (λ _. part_is_place new spot.bit spot.width new_within)))))
 
     -- ---- objects in scope
 
@@ -300,13 +301,13 @@ module _ (reached : ℕ → Bool) where
       pub address_gives : (value : CValue) → GivesWithin reached Named value → IfGiven (GivesWithin reached Named) (address_value frame value)
       address_gives value gives = scalar_gives (place_in frame value) (place_leads value gives)
 
-      pub member_gives : (setting : CSetting) (blocks : Blocks) (type : CTy) (spot : Spot) (value : CValue) → GivesWithin reached Named value → IfGiven (GivesWithin reached Named) (member_value setting frame blocks type spot value)
-      member_gives setting blocks type spot (cells held from) gives = member_with_gives setting type spot spot.width held from gives.0 gives.1
-      member_gives setting blocks type spot missing gives = tt
-      member_gives setting blocks type spot (scalar value) gives = member_place_gives blocks spot (place_in frame (scalar value)) (place_leads (scalar value) gives)
-      member_gives setting blocks type spot (names number) gives = member_place_gives blocks spot (place_in frame (names number)) (place_leads (names number) gives)
-      member_gives setting blocks type spot (designates to) gives = member_place_gives blocks spot (place_in frame (designates to)) (place_leads (designates to) gives)
-      member_gives setting blocks type spot (designates_bits at bit width) gives = member_place_gives blocks spot (place_in frame (designates_bits at bit width)) (place_leads (designates_bits at bit width) gives)
+      pub member_gives : (setting : CSetting) (blocks : Blocks) (type holder : CTy) (spot : Spot) (value : CValue) → GivesWithin reached Named value → IfGiven (GivesWithin reached Named) (member_value setting frame blocks type holder spot value)
+      member_gives setting blocks type holder spot (cells held from) gives = member_with_gives setting type spot spot.width held from gives.0 gives.1
+      member_gives setting blocks type holder spot missing gives = tt
+      member_gives setting blocks type holder spot (scalar value) gives = member_place_gives blocks spot (extent_in setting holder) (place_in frame (scalar value)) (place_leads (scalar value) gives)
+      member_gives setting blocks type holder spot (names number) gives = member_place_gives blocks spot (extent_in setting holder) (place_in frame (names number)) (place_leads (names number) gives)
+      member_gives setting blocks type holder spot (designates to) gives = member_place_gives blocks spot (extent_in setting holder) (place_in frame (designates to)) (place_leads (designates to) gives)
+      member_gives setting blocks type holder spot (designates_bits at bit width) gives = member_place_gives blocks spot (extent_in setting holder) (place_in frame (designates_bits at bit width)) (place_leads (designates_bits at bit width) gives)
 
       -- ---- loads
 

@@ -1,5 +1,5 @@
 -- Steps of a run, by their parts.
-use Rattle.std.proofs.Common.{◌≡◌, ◌∙◌, refl, sym, subst, arith, ℤ, List, [], Option, Result, Ok, Err}
+use Rattle.std.proofs.Common.{◌≡◌, ◌∙◌, refl, sym, subst, arith, ℤ, List, [], Option, Some, Result, Ok, Err}
 use Rattle.cr_base.specs.declared.refusal.Place.{Place}
 use Rattle.cr_base.specs.declared.rule.URule.{URule}
 use Rattle.cr_world.specs.World.{World, with_memory, full, asks}
@@ -12,6 +12,8 @@ use Rattle.cx_machine.proofs.Landing.{at_comes}
 use Rattle.cx_mean.specs.Operands.{breaks, stops}
 use Rattle.cx_mean.specs.State.{CControl, CState, has_ended, has_stopped, at_control}
 use Rattle.cx_outside.specs.States.{Around, KeptState, Quiet, around, world_at}
+use Rattle.cx_outside.specs.Wanting.{HasMade}
+use Rattle.cx_outside.proofs.Wanting.{wants_by}
 use Rattle.cx_outside.specs.declared.outside.Lack.TheVariants as lack
 use Rattle.ext_calls.specs.declared.call.Made.{Made}
 use Rattle.ext_calls.specs.Host.{HostState}
@@ -43,7 +45,9 @@ module _ (piece other : World → CState) (same : (world : World) → piece worl
     rose = one.rose;
     asks = record { quiet = one.asks.quiet; stops = λ made. stopped_same (has_stopped (asks one.call)) made [] _ (one.asks.stops made) };
   }
-  advances_by (Err (stop.Lacks lack.Memory)) next before after one = tt
+  advances_by (Err (stop.Lacks lack.Memory)) next before after one =
+      wants_by (λ world. Some (piece world).world) (λ world. Some (other world).world) before after
+      (λ made more ahead has. subst (λ (state : CState). HasMade more (Some state.world)) (sym (same _)) has) one
 
   pub store_by : (result : Result (Unit {0}) Stop) (next : World → CState) (before after : Blocks) (limit later : Option Limit) → StoreAdvances other result next before after limit later →
       StoreAdvances piece result next before after limit later

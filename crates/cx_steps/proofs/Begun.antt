@@ -1,5 +1,5 @@
 -- Objects that begin, as steps of a run.
-use Rattle.std.proofs.Common.{◌≡◌, ◌∙◌, refl, sym, ap, subst, ℕ, ℤ, Bool, false, List, [], ◌∷◌, ◌++◌, map, reverse, Option, Result, Ok, Err}
+use Rattle.std.proofs.Common.{◌≡◌, ◌∙◌, inl, refl, sym, ap, subst, ℕ, ℤ, Bool, false, List, [], ◌∷◌, ◌++◌, map, reverse, Option, Result, Ok, Err}
 use Rattle.cr_base.specs.declared.layout.Laid.{Laid}
 use Rattle.cr_base.specs.declared.refusal.Place.{Place}
 use Rattle.cr_base.specs.declared.rule.URule.{URule}
@@ -18,6 +18,8 @@ use Rattle.cx_mean.specs.Settings.{CSetting}
 use Rattle.cx_mean.specs.State.{CState, has_stopped, at_control, stopped, CShape, shape_of, as_stop, no_place, slot, with_slot, object_begins, after_begin, param_begins, after_param, place_of_body, taking, control_of}
 use Rattle.cx_outside.specs.Comes.{Comes, got, Steps}
 use Rattle.cx_outside.specs.States.{Around, KeptState, around, world_at}
+use Rattle.cx_outside.specs.Wanting.{HostKept}
+use Rattle.cx_outside.proofs.Wanting.{host_alone}
 use Rattle.cx_outside.specs.declared.outside.Lack.{Lack}
 use Rattle.cx_outside.specs.declared.outside.Lack.TheVariants as lack
 use Rattle.cx_work.specs.Views.{view_finished}
@@ -40,23 +42,23 @@ module _ (old : Machine) (piece : World → CState) (is_zero : Bool) (size align
       subst (λ (state : CState). IsStopped (has_stopped why) made ahead state) (sym (stops_by (world_at at made ahead) why is))
       (record { control_is = refl; made_is = refl; answers_are = refl })
 
-  pub begun_lacks : (why : Lack) (next : World → CState) (before after : Around) → Steps {A = Ptr} (object_begun is_zero size align) (Err why) before after →
+  pub begun_lacks : (why : Lack) (next : World → CState) (before after : Around) → HostKept before.host after.host → Steps {A = Ptr} (object_begun is_zero size align) (Err why) before after →
       Advances piece (Err (stop.Lacks why)) next before after
-  begun_lacks (lack.Full need left) next before after found =
+  begun_lacks (lack.Full need left) next before after kept found =
       record { quiet = found.quiet; stops = λ made ahead. stops_as made ahead before (full need left) (found.stops made ahead) }
-  begun_lacks (lack.Refused name) next before after found = record {
+  begun_lacks (lack.Refused name) next before after kept found = record {
     call = found.call;
     named = found.named;
     declined = found.declined;
     asks = record { quiet = found.asks.quiet; stops = λ made. stops_as made [] before (asks found.call) (found.asks.stops made) };
   }
-  begun_lacks lack.Failed next before after found = record {
+  begun_lacks lack.Failed next before after kept found = record {
     call = found.call;
     taken = found.taken;
     rose = found.rose;
     asks = record { quiet = found.asks.quiet; stops = λ made. stops_as made [] before (asks found.call) (found.asks.stops made) };
   }
-  begun_lacks lack.Memory next before after found = tt
+  begun_lacks lack.Memory next before after kept found = inl kept
 
 -- ---- where it begins
 
@@ -96,11 +98,11 @@ module _ (setting : CSetting) (old : Machine) (one : CBeginning) (type : CTy) (l
       ap (λ (found : Result CShape CWhy). after_begin setting (view_machine old world) one
       (and_then (as_stop no_place found) (λ which. object_begun false which.laid.size which.laid.align world))) shape
 
-  pub block_lacks : (why : Lack) (next : World → CState) (before after : Around) → Steps {A = Ptr} (object_begun false laid.size laid.align) (Err why) before after →
+  pub block_lacks : (why : Lack) (next : World → CState) (before after : Around) → HostKept before.host after.host → Steps {A = Ptr} (object_begun false laid.size laid.align) (Err why) before after →
       Advances block_piece (Err (stop.Lacks why)) next before after
-  block_lacks why next before after found =
+  block_lacks why next before after kept found =
       begun_lacks old block_piece false laid.size laid.align
-      (λ world stop is. begins_by world ∙ ap (λ (result : Result (Got Ptr) CStop). after_begin setting (view_machine old world) one result) is) why next before after found
+      (λ world stop is. begins_by world ∙ ap (λ (result : Result (Got Ptr) CStop). after_begin setting (view_machine old world) one result) is) why next before after kept found
 
   pub block_begun : (new : Machine) (at : Ptr) (kept : KeptState) (before mid after : Blocks) (limit mid_limit later : Option Limit) (host : HostState) (stand : CStand) → later ≡ mid_limit →
       stand ≡ beginning setting one.others one.goal (with_slot (slot one.object at) one.level) one.outer mid → GoesTo old new (record { control = control_of stand.move; blocks = stand.blocks }) after →
@@ -145,11 +147,11 @@ module _ (setting : CSetting) (old : Machine) (callee : CFun) (number : ℕ) (ot
   param_by : (world : World) → param_piece world ≡ after_param (view_machine old world) callee number others args frame (argued (object_begun false laid.size laid.align world))
   param_by world = ap (λ (found : Result CShape CWhy). after_param (view_machine old world) callee number others args frame (by_shape world found)) shape
 
-  pub param_lacks : (why : Lack) (next : World → CState) (before after : Around) → Steps {A = Ptr} (object_begun false laid.size laid.align) (Err why) before after →
+  pub param_lacks : (why : Lack) (next : World → CState) (before after : Around) → HostKept before.host after.host → Steps {A = Ptr} (object_begun false laid.size laid.align) (Err why) before after →
       Advances param_piece (Err (stop.Lacks why)) next before after
-  param_lacks why next before after found =
+  param_lacks why next before after kept found =
       begun_lacks old param_piece false laid.size laid.align
-      (λ world stop is. param_by world ∙ ap (λ (result : Result (Got Ptr) CStop). after_param (view_machine old world) callee number others args frame (argued result)) is) why next before after found
+      (λ world stop is. param_by world ∙ ap (λ (result : Result (Got Ptr) CStop). after_param (view_machine old world) callee number others args frame (argued result)) is) why next before after kept found
 
   argued_by : (world there : World) (at : Ptr) (mid : Blocks) → object_begun {F = CFault} false laid.size laid.align world ≡ Ok (record { value = at; world = there }) → blocks_of there ≡ mid →
       param_piece world ≡ after_param (view_machine old world) callee number others args frame (stored_as (record { value = at; world = there }) (argument_at setting mid type at value))
@@ -204,4 +206,4 @@ module _ (setting : CSetting) (old : Machine) (callee : CFun) (number : ℕ) (ot
         (record { quiet = quiet_at kept before after limit later host (same ∙ comes.between.limit); stops = undefined_by rule argues.0 })
     param_argues (Err (stop.Ended status)) frame_is argues args_are = elim argues [ ]
     param_argues (Err (stop.Lacks why)) frame_is argues args_are =
-        subst (λ (one : Lack). Advances param_piece (Err (stop.Lacks one)) (view_machine new) (around kept before limit host) (around kept after later host)) (sym argues) tt
+        subst (λ (one : Lack). Advances param_piece (Err (stop.Lacks one)) (view_machine new) (around kept before limit host) (around kept after later host)) (sym argues) (inl (host_alone host))

@@ -1,5 +1,5 @@
 -- A full expression that takes a step, as a step of a run.
-use Rattle.std.proofs.Common.{◌≡◌, ◌∙◌, refl, sym, ap, subst, arith, ℕ, zero, suc, ℤ, Bor, true, List, [], ◌++◌, map, Option, Some, None, option_map, Result, Ok, Err, append-nil}
+use Rattle.std.proofs.Common.{◌≡◌, ◌∙◌, inl, inr, refl, sym, ap, subst, arith, ℕ, zero, suc, ℤ, Bor, true, List, [], ◌++◌, map, Option, Some, None, option_map, Result, Ok, Err, append-nil}
 use Rattle.cr_base.specs.declared.refusal.Place.{Place}
 use Rattle.cr_base.specs.declared.rule.URule.{URule}
 use Rattle.cr_world.specs.World.{World, with_memory, blocks_of, trail_of, full, asks}
@@ -32,6 +32,7 @@ use Rattle.cx_moves.specs.declared.sites.Site.{Site}
 use Rattle.cx_moves.specs.Sites.{levels_of, stores_put, view_behind, view_purpose, view_site}
 use Rattle.cx_outside.specs.Comes.{Comes}
 use Rattle.cx_outside.specs.States.{Around, KeptState, Quiet, around, world_at}
+use Rattle.cx_outside.specs.Wanting.{HasMade}
 use Rattle.cx_outside.specs.declared.outside.Lack.TheVariants as lack
 use Rattle.cx_steps.specs.Choices.{is_in_body, scope_frame, stands_in_body}
 use Rattle.cx_steps.specs.Picks.{Follows}
@@ -99,7 +100,16 @@ module _ (piece other : World → CState) (kept : KeptState) (before mid : Block
     rose = one.rose;
     asks = record { quiet = quiet_first after one.asks.quiet; stops = λ made. stopped_first (has_stopped (asks one.call)) made [] (one.asks.stops made) };
   }
-  advances_from (Err (stop.Lacks lack.Memory)) next after one = tt
+  advances_from (Err (stop.Lacks lack.Memory)) next after (inl kept) = inl kept
+  advances_from (Err (stop.Lacks lack.Memory)) next after (inr called) = inr (record {
+    answers = called.answers;
+    calls = called.calls;
+    told = called.told;
+    given = called.given;
+    taken_by = called.taken_by;
+    takes = called.takes;
+    shows = λ made. subst (λ (state : CState). HasMade (made ++ called.calls) (Some state.world)) (sym (same made called.answers)) (called.shows made);
+  })
 
 -- ---- the objects in scope
 

@@ -7,7 +7,7 @@ ghost use Rattle.cx_core.specs.Trees.{CTypes, form_of_type};
 ghost use Rattle.cx_core.specs.Views.{types_of, view_function_type, view_params, view_type};
 ghost use Rattle.cx_kinds.specs.Known.{IsKnown, types_in};
 ghost use Rattle.cx_rules.specs.Nodes.{declares_node, empty_node, head_node, tentative_node};
-ghost use Rattle.cx_rules.specs.Rules.{rule_at, any_incomplete, declares_typedef, is_function_step, is_unlinked, is_variadic, misplaced_function, params_incomplete, parts_incomplete, result_incomplete};
+ghost use Rattle.cx_rules.specs.Rules.{rule_at, any_incomplete, declares_typedef, is_function_step, is_plain_void, is_unlinked, is_variadic, misplaced_function, params_incomplete, parts_incomplete, result_incomplete};
 ghost use Rattle.cx_rules.specs.Scope.{CScope};
 ghost use Rattle.cx_rules.specs.Shapes.{last_step, same_key};
 ghost use Rattle.cx_rules.specs.Types.{is_function, is_incomplete};
@@ -199,11 +199,18 @@ fn function_incomplete(known: Known, one: &FunctionTy) -> bool
     result_incomplete(known, &one.result_ty) || params_incomplete(known, &one.params)
 }
 
+// Whether a type is the unqualified `void` (ISO C99, 6.9.1p3).
+fn is_plain_void(t: &Ty) -> bool
+    ensures { result ≡ is_plain_void (view_type t.now) }
+{
+    is_void(t) && !t.is_const
+}
+
 fn result_incomplete(known: Known, result_ty: &Ty) -> bool
     requires { IsKnown known }
     ensures { result ≡ result_incomplete (types_in known.entry) (view_type result_ty.now) }
 {
-    !is_void(result_ty) && is_incomplete(known, result_ty)
+    !is_plain_void(result_ty) && is_incomplete(known, result_ty)
 }
 
 fn params_incomplete(known: Known, params: &Params) -> bool

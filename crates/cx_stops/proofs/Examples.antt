@@ -29,7 +29,7 @@ main_doing form = record {
 }
 
 abbrev program_doing : CStmtForm → CProgram
-program_doing form = record { types = no_types_yet; objects = []; functions = main_doing form ∷ []; externals = [] }
+program_doing form = record { types = no_types_yet; objects = []; functions = main_doing form ∷ []; externals = []; orders = [] }
 
 abbrev number : ℕ → CExpr
 number value = expr int_t here (whole (pos value))

@@ -6,7 +6,7 @@ use Rattle.cx_core.specs.declared.expr.Op2.TheVariants as op
 use Rattle.cx_core.specs.declared.program.Linkage.{Linkage}
 use Rattle.cx_core.specs.declared.program.Linkage.TheVariants.{External, Internal, Nothing}
 use Rattle.cx_core.specs.Linked.{home_of}
-use Rattle.cx_core.specs.Trees.{CTy, ty, void, basic, enum_type, pointer, array, record_type, function, CTypes, CExpr, expr, CForm, whole, null, object, code, deref, member, address, convert, unary, binary, and, or, cond, CPuts, CObject}
+use Rattle.cx_core.specs.Trees.{CTy, ty, void, basic, enum_type, pointer, array, record_type, function, CTypes, CExpr, expr, CForm, whole, null, object, code, deref, member, address, convert, unary, binary, and, or, cond, comma, CPuts, CObject}
 use Rattle.cx_core.specs.Typing.{CHome, CCallee, IsTyped, IsTypedForm, IsLvalue, IsLvalueForm, IsConstant, IsConstantForm, IsFixed, IsFixedForm, IsStaticObject, IsNamed, IsObjectOf, IsCodeOf, IsPointerToCode, IsMentioned, object_with, callee_with}
 use Rattle.cx_core.specs.Trees.{uses}
 use Rattle.cx_rules.specs.Initial.{is_initial, is_initial_form, is_initial_pointer, is_fixed, is_fixed_form}
@@ -35,6 +35,7 @@ module _ (home : CHome) where
     parts_constant (and left right) held = (numbers_constant left held.0, numbers_constant right held.1)
     parts_constant (or left right) held = (numbers_constant left held.0, numbers_constant right held.1)
     parts_constant (cond test first second) held = (numbers_constant test held.0, numbers_constant first held.1, numbers_constant second held.2)
+    parts_constant (comma first second) held = (numbers_constant first held.0, numbers_constant second held.1)
     parts_constant form held = absurd held
 
   mutual
@@ -49,6 +50,7 @@ module _ (home : CHome) where
     parts_outside type (and left right) held typed = (numbers_outside left held.0 typed.0, numbers_outside right held.1 typed.1, typed.2)
     parts_outside type (or left right) held typed = (numbers_outside left held.0 typed.0, numbers_outside right held.1 typed.1, typed.2)
     parts_outside type (cond test first second) held typed = (numbers_outside test held.0 typed.0, numbers_outside first held.1 typed.1, numbers_outside second held.2 typed.2, typed.3)
+    parts_outside type (comma first second) held typed = (numbers_outside first held.0 typed.0, numbers_outside second held.1 typed.1, typed.2)
     parts_outside type form held typed = absurd held
 
 -- ---- objects and functions

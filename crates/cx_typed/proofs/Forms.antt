@@ -201,7 +201,7 @@ comma_goes left right lines first second opens scope good =
     go_chain _ _ _ _ scope (IsExpr opens left scope) _ (first opens scope good) (λ one middle held.
     go_chain _ _ _ _ middle (IsExpr opens right middle) _ (second opens middle held.good) (λ other after behind.
     go_here_then _ _ after _ (go_settled _ after (expr_line left) _ _ after _ (λ unbroken.
-    node_is opens (Comma left right lines) scope after (expr_line left) _ (one ∷ other ∷ []) _ (λ is. absurd cc) (λ held. absurd held.1) (just_two opens left right scope middle after one other held behind)
+    node_is opens (Comma left right lines) scope after (expr_line left) _ (one ∷ other ∷ []) _ (λ is. absurd cc) (λ held. (held.1.0, (held.1.1, tt))) (just_two opens left right scope middle after one other held behind)
     ((operators (standing_of opens after (expr_line left))).comma one other) unbroken))))
 
 pub cond_goes : (test first second : ExprTree) (lines : List ℕ) → ExprGoes test → ExprGoes first → ExprGoes second → ExprGoes (Cond test first second lines)

@@ -52,6 +52,7 @@ pub mod Spelled
 pub mod Stays
 pub mod Storing
 pub mod Tags
+pub mod TextHeld
 pub mod Texts
 pub mod Unbroken
 pub mod Valid

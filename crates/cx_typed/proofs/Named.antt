@@ -19,6 +19,7 @@ use Rattle.cx_typed.proofs.Names.{names}
 use Rattle.cx_typed.proofs.OfNumbers.{no_place_operand, cast_numbers}
 use Rattle.cx_typed.proofs.Numbered.{numbers_by, one_number}
 use Rattle.cx_typed.proofs.Scopes.{grows_not, grows_on, used_passes, name_served, kept_before, serve}
+use Rattle.cx_typed.proofs.TextHeld.{EndsWithZero, joined_ended}
 use Rattle.cx_typed.proofs.Texts.{text_made}
 use Rattle.cx_typed.specs.Names.{IsKnownMeant, IsServed}
 use Rattle.cx_typed.specs.Constants.{IsTypedConstant}
@@ -82,9 +83,9 @@ module _ (opens : List ℕ) (scope : CScope) (good : IsGood opens scope) where
 
   -- ---- string literals (6.4.5)
 
-  text_is : (parts : List (List ℕ)) (lines : List ℕ) (bytes : List ℕ) → 0 < length bytes → IsUnbroken scope scope.types (literal_node (text_type bytes))
+  text_is : (parts : List (List ℕ)) (lines : List ℕ) (bytes : List ℕ) → 0 < length bytes → EndsWithZero bytes → IsUnbroken scope scope.types (literal_node (text_type bytes))
       → IsExpr opens (Text parts lines) scope (text_meaning scope (own_line lines) bytes) (with_text (own_line lines) bytes scope)
-  text_is parts lines bytes some unbroken =
+  text_is parts lines bytes some ended unbroken =
       let made = (names (standing_of opens scope (own_line lines))).text scope (own_line lines) bytes unbroken some in
       record {
         good = record { sound = good.sound; known = good.known; tags = good.tags };
@@ -103,7 +104,7 @@ module _ (opens : List ℕ) (scope : CScope) (good : IsGood opens scope) where
         known = made.known;
         typed = λ home serves. made.typed home serves.unit_is serves.grows ((serve opens).text home scope (own_line lines) bytes serves);
         named = λ is. absurd cc;
-        made = text_made opens scope (own_line lines) bytes good.sound some unbroken;
+        made = text_made opens scope (own_line lines) bytes good.sound some ended unbroken;
         makes_none = λ is. absurd (no_place_operand false (expr (text_type bytes) (at_line scope (own_line lines)) (object scope.next_object)) is);
       }
 
@@ -121,7 +122,7 @@ name_goes name lines opens scope good =
 
 pub text_goes : (parts : List (List ℕ)) (lines : List ℕ) → ExprGoes (Text parts lines)
 text_goes parts lines opens scope good =
-    go_here_then _ _ scope _ (go_changed _ scope (own_line lines) _ _ _ scope _ (text_is opens scope good parts lines (joined_bytes parts) (joined_some parts)))
+    go_here_then _ _ scope _ (go_changed _ scope (own_line lines) _ _ _ scope _ (text_is opens scope good parts lines (joined_bytes parts) (joined_some parts) (joined_ended parts)))
 
 -- ---- `sizeof` and casts (6.5.3.4, 6.5.4)
 

@@ -60,7 +60,7 @@ mutual
   parts_are types (step up post on) is = absurd cc
   parts_are types (call callee args) is = absurd cc
   parts_are types (call_by callee args) is = absurd cc
-  parts_are types (comma first second) is = absurd cc
+  parts_are types (comma first second) is = (numbers_are types first (both is).0, numbers_are types second (both is).1)
   parts_are types (literal number puts) is = absurd cc
 
 constant_by : (types : CTypes) (value : CExpr) (test : Bool) (found : Option ℤ) → is_constant_form types value ≡ test → is_some (if test then found else None) ≡ true → IsOfNumbers value

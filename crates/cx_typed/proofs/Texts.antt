@@ -22,6 +22,7 @@ use Rattle.cx_typed.proofs.Puts.{whole_bits, in_place, are_puts, constant_puts}
 use Rattle.cx_typed.proofs.NamedPaths.{named_behind}
 use Rattle.cx_typed.proofs.Numbered.{only_last}
 use Rattle.cx_typed.proofs.Sorted.{each_more}
+use Rattle.cx_typed.proofs.TextHeld.{EndsWithZero, text_held}
 use Rattle.cx_typed.specs.Initialised.{is_named_by, IsStored, IsTypedStored, EachStored}
 use Rattle.cx_typed.specs.Sound.{AreSound}
 use Rattle.cx_typed.specs.Scopes.{object_made, AreTypedLiterals, IsWellMade}
@@ -143,16 +144,16 @@ module _ (types : CTypes) (at : TextPlace) (where_is : CAt) (element : CTy) (len
 text_complete : (count : ℕ) → 0 < count → exceeds (elements count (Some (laid_bytes 1))) ≡ false → (types : CTypes) (unit : ℕ) → IsTypeIn types unit (ty (array char_type (Some count)) false)
 text_complete count some fits types unit = (tt, record { plain = refl; complete = refl; length = (some, text_fits count some fits) })
 
-pub text_made : (opens : List ℕ) (scope : CScope) (line : ℕ) (bytes : List ℕ) → AreSound opens scope.types scope.unit → 0 < length bytes
+pub text_made : (opens : List ℕ) (scope : CScope) (line : ℕ) (bytes : List ℕ) → AreSound opens scope.types scope.unit → 0 < length bytes → EndsWithZero bytes
     → IsUnbroken scope scope.types (literal_node (text_type bytes)) → AreTypedLiterals opens scope (with_text line bytes scope)
-text_made opens scope line bytes sound some unbroken = record {
+text_made opens scope line bytes sound some ended unbroken = record {
   well = λ number one from is. subst (IsWellMade scope.types) (sym (only_last scope.literals (made_text scope line bytes) number one from is)) (record { complete = λ none. absurd cc; no_text = λ none. absurd cc });
   typed = λ home serves number one from is.
       subst (λ made. IsTypedObject home.program home.mentions (object_made home.unit made)) (sym (only_last scope.literals (made_text scope line bytes) number one from is)) (record {
         type_in = text_complete (length bytes) some fits home.program.types home.unit;
         object = tt;
         named = λ linked. absurd cc;
-        text = λ is_text. record { unnamed = refl; no_linkage = refl; static = refl; array = refl };
+        text = λ is_text. record { unnamed = refl; no_linkage = refl; static = refl; array = refl; holds = text_held scope.types (at_line scope line) bytes ended };
         static = record {
           complete = text_fits (length bytes) some fits;
           typed = (

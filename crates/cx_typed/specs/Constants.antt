@@ -3,7 +3,7 @@ use Rattle.std.specs.Prelude.{ℕ, ◌<◌, ℤ, true, List, Option, All}
 use Rattle.cr_base.specs.Scalar.{IsInRange}
 use Rattle.cr_base.specs.declared.scalar.Scalar.{Scalar}
 use Rattle.cr_base.specs.declared.scalar.Scalar.TheVariants.{Whole}
-use Rattle.cx_core.specs.Trees.{CTy, ty, basic, enum_type, CExpr, expr, CForm, whole, convert, unary, binary, and, or, cond}
+use Rattle.cx_core.specs.Trees.{CTy, ty, basic, enum_type, CExpr, expr, CForm, whole, convert, unary, binary, and, or, cond, comma}
 use Rattle.cx_core.specs.Typing.{CHome}
 use Rattle.cx_lex.specs.declared.token.Token.{Token}
 use Rattle.cx_lex.specs.declared.token.TokenKind.{TokenKind}
@@ -54,6 +54,7 @@ abbrev mutual
   IsFormOfNumbers (and left right) = IsOfNumbers left × IsOfNumbers right
   IsFormOfNumbers (or left right) = IsOfNumbers left × IsOfNumbers right
   IsFormOfNumbers (cond test first second) = IsOfNumbers test × IsOfNumbers first × IsOfNumbers second
+  IsFormOfNumbers (comma first second) = IsOfNumbers first × IsOfNumbers second
   IsFormOfNumbers _ = ⊥
 
 -- known and typed, whatever else there is in the unit and in the program

@@ -21,7 +21,7 @@ use Rattle.cx_rules.specs.Readings.{seen_chain}
 use Rattle.cx_rules.specs.Rules.{is_variadic, is_function_step, parts_incomplete, result_incomplete}
 use Rattle.cx_rules.specs.Scope.{a_function, CDeclared, CThing, CScope, new_scope}
 use Rattle.cx_rules.specs.Shapes.{same_key, CSpecs, base_type, CParam, CStep, to_pointer, to_array, to_function, last_step, derived}
-use Rattle.cx_rules.specs.Types.{int_type, is_function, is_void}
+use Rattle.cx_rules.specs.Types.{int_type, is_function, is_void, defined_type}
 use Rattle.cx_rules.specs.UnitWalk.{CMeant as CMeaning, CWhere, CHead, where_in, fun_of, with_body, stmts_of, name_or_none, labels_of_items}
 use Rattle.cx_tree.specs.Trees.{DeclaratorTree, StmtTree, Label, Case, Default, Block, ExprStmt, If, Switch, While, Do, For, Goto, Continue, Break, Return, ItemTrees}
 use Rattle.cx_typed.proofs.Derived.{derived_known}
@@ -40,7 +40,7 @@ use Rattle.cx_typed_files.proofs.Bodies.{inside_held, param_there, inside_typed,
 use Rattle.cx_typed_files.proofs.DefinedFunctions.{function_typed}
 use Rattle.cx_typed_files.proofs.FileDeclarations.{unit_on}
 use Rattle.cx_typed_files.proofs.FileSteps.{backs_start, file_on}
-use Rattle.cx_typed_files.proofs.FunctionTypes.{IsCode, code_of, ones_by, AreCompleteOnes, complete_by, result_is}
+use Rattle.cx_typed_files.proofs.FunctionTypes.{IsCode, code_of, defined_code, defined_known, ones_by, AreCompleteOnes, complete_by, result_is}
 use Rattle.cx_typed_files.proofs.Heads.{IsHead, behind, begun, form, linked, number, mention, inside, head_is, inside_good, inside_orderly, inside_accounted, entity_by, same_objects, thing_defined, mention_at, numbers_from}
 use Rattle.cx_typed_files.proofs.OwnShapes.{IsOwnStep, HeadOf, head_goes}
 use Rattle.cx_typed_files.proofs.OwnParams.{AreFrom}
@@ -155,15 +155,15 @@ head_walk_goes opens specs typedef missing tree spelled start at known =
       derived_known opens scope scope.types scope.unit (base_type specs) shape.steps (type_on opens start scope (base_type specs) held.0.shape_is.passes known) held.0.shape_is.known unbroken,
       refl,
     )))) (λ type later is.
-    subst (λ from. Ends (s_head_seen specs (declarator_line missing tree) shape type) from (IsHeaded opens specs start)) (sym is.2)
-    (subst (λ written. Ends (s_head_seen specs (declarator_line missing tree) shape written) scope (IsHeaded opens specs start)) (sym is.0)
+    subst (λ from. Ends (s_head_seen specs (declarator_line missing tree) shape (defined_type type)) from (IsHeaded opens specs start)) (sym is.2)
+    (subst (λ written. Ends (s_head_seen specs (declarator_line missing tree) shape (defined_type written)) scope (IsHeaded opens specs start)) (sym is.0)
     (go_here_then _ _ scope _ (go_changed _ scope _ _ _ _ scope _ (λ unbroken.
     let step : is_function_step (last_step shape.steps) ≡ true = not_not unbroken.k7 in
     record {
       scope = scope;
       line = declarator_line missing tree;
       name = name_or_none shape.name;
-      written = derived (base_type specs) shape.steps;
+      written = defined_type (derived (base_type specs) shape.steps);
       steps = shape.steps;
       head = record {
         at_start = at;
@@ -171,13 +171,13 @@ head_walk_goes opens specs typedef missing tree spelled start at known =
         leads = held.0.leads;
         objects_same = held.2;
         literals_same = held.0.shape_is.makes_none;
-        known = is.1;
+        known = defined_known opens scope.types scope.unit (derived (base_type specs) shape.steps) is.1;
         own = own_step_of opens start scope shape.steps held.0.shape_is.passes.numbers.grows step held.1;
         typedef = typedef;
-        code = ap is_function (code_of (base_type specs) shape.steps step).written_is;
+        code = ap is_function (defined_code _ _ (code_of (base_type specs) shape.steps step)).written_is;
         apart = unbroken.k2;
       };
-      code = code_of (base_type specs) shape.steps step;
+      code = defined_code _ _ (code_of (base_type specs) shape.steps step);
       fixed = unbroken.o5;
       parts = unbroken.k5;
       head_is = refl;

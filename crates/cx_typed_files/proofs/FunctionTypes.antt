@@ -6,18 +6,18 @@ use Rattle.cr_base.specs.declared.layout.Laid.{Laid}
 use Rattle.cr_base.specs.declared.layout.Piece.{Piece}
 use Rattle.cr_base.specs.Layout.{most_bytes, laid_of, laid_record}
 use Rattle.cx_core.specs.Layouts.{CRow, row_at, row_of_pieces, pieces_of, passes, completed_count, layouts_of, within_most}
-use Rattle.cx_core.specs.Trees.{CTy, ty, CTyForm, void, basic, enum_type, pointer, array, record_type, function, CParams, unlisted, listed, form_of_type, CTypes}
-use Rattle.cx_core.specs.ValidTypes.{IsComplete, IsObjectForm, IsResultForm, IsParamForm, AreTypesIn}
+use Rattle.cx_core.specs.Trees.{CTy, ty, CTyForm, void, basic, enum_type, pointer, array, record_type, function, CParams, unlisted, listed, no_types, form_of_type, is_const_type, CTypes}
+use Rattle.cx_core.specs.ValidTypes.{IsComplete, IsObjectForm, IsResultForm, IsParamForm, AreTypesIn, AreParamsIn}
 use Rattle.cx_layout.proofs.Builds.{layouts_are}
 use Rattle.cx_rules.specs.Declare.{own_params}
 use Rattle.cx_rules.specs.Rules.{is_function_step, any_incomplete, params_incomplete, result_incomplete, parts_incomplete}
 use Rattle.cx_rules.specs.Shapes.{CParam, CStep, to_pointer, to_array, to_function, param_types, step_on, derived, last_step}
-use Rattle.cx_rules.specs.Types.{is_void, is_incomplete, has_size}
+use Rattle.cx_rules.specs.Types.{is_void, is_incomplete, has_size, defined_params, defined_type}
 use Rattle.cx_typed.proofs.Listed.{basic_complete}
 use Rattle.cx_typed.proofs.Members.{row_is}
 use Rattle.cx_typed.proofs.Placed.{then_found, map_found, row_with}
 use Rattle.cx_typed.proofs.Promoted.{neither, not_not}
-use Rattle.cx_typed.specs.Growth.{AreSettled}
+use Rattle.cx_typed.specs.Growth.{AreSettled, AreSettledParams}
 use Rattle.cx_typed.specs.Operands.{IsKnownType}
 use Rattle.cx_typed_files.proofs.ParamAccounts.{AreKnownOnes}
 
@@ -41,6 +41,40 @@ code_of from (to_array length ∷ []) is = absurd cc
 code_of from (to_function None variadic within ∷ []) is = record { result = from; list = unlisted; variadic = variadic; written_is = refl; listed_as = refl }
 code_of from (to_function (Some params) variadic within ∷ []) is = record { result = from; list = listed (param_types params); variadic = variadic; written_is = refl; listed_as = refl }
 code_of from (step ∷ next ∷ steps) is = code_of (step_on from step) (next ∷ steps) is
+
+-- the type of a definition, by the one that its declarator says
+defined_as : (list : CParams) (params : List CParam) → AreParamsAs list params → AreParamsAs (defined_params list) params
+defined_as unlisted params same = sym (ap param_types same)
+defined_as (listed types) params same = same
+
+pub defined_code : (written : CTy) (params : List CParam) → IsCode written params → IsCode (defined_type written) params
+defined_code written params code = record {
+  result = code.result;
+  list = defined_params code.list;
+  variadic = code.variadic;
+  written_is = ap defined_type code.written_is;
+  listed_as = defined_as code.list params code.listed_as;
+}
+
+defined_in : (types : CTypes) (unit : ℕ) (variadic : Bool) (list : CParams) → AreParamsIn types unit variadic list → AreParamsIn types unit variadic (defined_params list)
+defined_in types unit variadic unlisted held = (held, tt)
+defined_in types unit variadic (listed all) held = held
+
+defined_settled : (opens : List ℕ) (list : CParams) → AreSettledParams opens list → AreSettledParams opens (defined_params list)
+defined_settled opens unlisted held = tt
+defined_settled opens (listed all) held = held
+
+pub defined_known : (opens : List ℕ) (types : CTypes) (unit : ℕ) (written : CTy) → IsKnownType opens types unit written → IsKnownType opens types unit (defined_type written)
+defined_known opens types unit (ty (function result list variadic) is_const) known = record {
+  type_in = (known.type_in.0, known.type_in.1, defined_in types unit variadic list known.type_in.2);
+  settled = (known.settled.0, defined_settled opens list known.settled.1);
+}
+defined_known opens types unit (ty void is_const) known = known
+defined_known opens types unit (ty (basic which) is_const) known = known
+defined_known opens types unit (ty (enum_type number) is_const) known = known
+defined_known opens types unit (ty (pointer to) is_const) known = known
+defined_known opens types unit (ty (array element length) is_const) known = known
+defined_known opens types unit (ty (record_type number) is_const) known = known
 
 param_object_form : (form : CTyForm) → IsParamForm form → IsObjectForm form
 param_object_form void held = absurd held
@@ -103,12 +137,12 @@ result_complete types (ty (enum_type number) is_const) form some sized = refl
 result_complete types (ty (pointer to) is_const) form some sized = refl
 result_complete types (ty (record_type number) is_const) form some sized = record_complete types number is_const (not_not sized)
 
-and_not : (nothing refused : Bool) → (not nothing && refused) ≡ false → nothing ≡ false → refused ≡ false
-and_not true refused is some = absurd cc
-and_not false refused is some = is
+and_not : (nothing constant refused : Bool) → (not (nothing && constant) && refused) ≡ false → nothing ≡ false → refused ≡ false
+and_not true constant refused is some = absurd cc
+and_not false constant refused is some = is
 
 pub result_is : (types : CTypes) (result : CTy) → IsResultForm (form_of_type result) → result_incomplete types result ≡ false → is_void result ≡ false → IsComplete types result
-result_is types result form fine some = result_complete types result form some (and_not (is_void result) (is_incomplete types result) fine some)
+result_is types result form fine some = result_complete types result form some (and_not (is_void result) (not (is_const_type result)) (is_incomplete types result) fine some)
 
 param_result : (form : CTyForm) → IsParamForm form → IsResultForm form
 param_result void held = absurd held

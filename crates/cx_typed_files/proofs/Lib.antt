@@ -20,6 +20,7 @@ pub mod FileSteps
 pub mod FileUnfilled
 pub mod FunctionTypes
 pub mod Heads
+pub mod Ordered
 pub mod OwnParams
 pub mod OwnShapes
 pub mod ParamAccounts

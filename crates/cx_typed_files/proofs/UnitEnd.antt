@@ -3,7 +3,7 @@ use Rattle.std.proofs.Common.{◌≡◌, inl, inr, ℕ, ◌==◌, nat_le, Bool, 
 use Rattle.std.proofs.lemmas.Bool.Decides.{nat_tests}
 use Rattle.cx_core.specs.Trees.{CTyForm, array, form_of_type, CPuts, no_puts, CObject, COuter, CMention, CUnit}
 use Rattle.cx_core.specs.Typing.{object_with}
-use Rattle.cx_rules.specs.Declare.{thing_named, final_type, unit_of}
+use Rattle.cx_rules.specs.Declare.{thing_named, final_type, order_of, unit_of}
 use Rattle.cx_rules.specs.Scope.{CThing, CScope}
 use Rattle.cx_typed.proofs.Same.{number_is}
 use Rattle.cx_typed.specs.Scopes.{object_made}
@@ -65,6 +65,7 @@ unit_at scope = record {
   functions = scope.functions;
   externals = outers_of scope.things;
   mentions = map (final_mention scope.things) scope.mentions;
+  order = order_of scope;
 }
 
 pub unit_is : (scope : CScope) → unit_of scope ≡ unit_at scope

@@ -5,6 +5,7 @@ ghost use Rattle.cx_typed_files.specs.Covered.{MentionsAreCovered};
 ghost use Rattle.cx_typed_files.specs.Defining.{MentionsDefine};
 ghost use Rattle.cx_typed_files.specs.FileScope.{FileDeclarationsGo, UnitsBeginAtFileScope};
 ghost use Rattle.cx_typed_files.specs.FileUnits.{DefinitionsGo, ExternalsGo};
+ghost use Rattle.cx_typed_files.specs.Ordered.{OrderedThingsAreThere};
 ghost use Rattle.cx_typed_files.specs.UnbrokenUnits.{ReadUnitsAreTyped, UnbrokenUnitsAreTyped};
 
 /// Law: before the first declaration of a unit all that was declared is known, held and typed.
@@ -45,4 +46,9 @@ pub fn mentions_are_covered()
 /// Law: what a mention says that such a unit defines, it defines (ISO C99, 6.9, 6.9.2).
 pub fn mentions_define()
     ensures { MentionsDefine }
+{}
+
+/// Law: what such a unit orders by its first declarations is a function or an object that it defines or declares (ISO C99, 6.2.2).
+pub fn ordered_things_are_there()
+    ensures { OrderedThingsAreThere }
 {}

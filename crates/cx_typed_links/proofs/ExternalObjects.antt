@@ -1,5 +1,5 @@
 -- What a unit names with external linkage is found in the program: what defines it, or else what declares it first (ISO C99, 6.2.2p2).
-use Rattle.std.proofs.Common.{◌≡◌, ℕ, zero, suc, ◌==◌, Bool, true, false, if◌then◌else◌, List, [], ◌∷◌, ◌++◌, Option, None, Some, slice_get, is_some, refl, sym, ap, ◌∙◌, subst}
+use Rattle.std.proofs.Common.{arith, ◌≡◌, ℕ, zero, suc, ◌+◌, ◌==◌, Bool, true, false, if◌then◌else◌, List, [], ◌∷◌, ◌++◌, Option, None, Some, slice_get, is_some, refl, sym, ap, ◌∙◌, subst}
 use Rattle.std.specs.Prelude.{cond, IsSome}
 use Rattle.std.specs.List.{find, list_any}
 use Rattle.cx_core.specs.Linked.{is_external}
@@ -10,7 +10,7 @@ use Rattle.cx_renumber.specs.Numbers.{object_there}
 use Rattle.cx_typed_links.proofs.Compatible.{both, together_true}
 use Rattle.cx_typed_links.proofs.Objects.{named_in, external_number, external_place, name_by, named_thing, object_at_number, linked_objects}
 use Rattle.cx_typed_links.proofs.OwnObjects.{first_holds, any_in_first, any_in_second, any_given, own_of}
-use Rattle.cx_typed_links.proofs.Places.{first_is, any_found, number_itself}
+use Rattle.cx_typed_links.proofs.Places.{any_found, number_itself}
 use Rattle.cx_typed_links.specs.Laws.{AreTypedUnits}
 use Rattle.std.proofs.lemmas.Slice.Eq.{bytes_eq-Decides}
 
@@ -61,8 +61,7 @@ has_its_name : (name : List ℕ) (found : Option (List ℕ)) → found ≡ Some 
 has_its_name name None is = absurd cc
 has_its_name name (Some other) is = (let same : other ≡ name = cc (is) in (bytes_eq-Decides name other).1 (sym same))
 
-module _ (units : List CUnit) (typed : AreTypedUnits units) (name : List ℕ) (found first : CFound CObject) (found_is : object_of_name units name ≡ Some found)
-    (first_found : first_unit (declared_object name) 0 units ≡ Some first) where
+module _ (units : List CUnit) (typed : AreTypedUnits units) (name : List ℕ) (found : CFound CObject) (found_is : object_of_name units name ≡ Some found) where
   abbrev standing : CObject
   standing = object_there (numbers_of units found.home found.unit) found.thing
 
@@ -79,48 +78,55 @@ module _ (units : List CUnit) (typed : AreTypedUnits units) (name : List ℕ) (f
   if_holds true xs is = refl
   if_holds false xs is = absurd cc
 
-  -- the object of the name stands where the name is declared first
-  external_is : external_object units first.unit (Some name) ≡ standing ∷ []
+  -- the object of the name stands in its own unit
+  external_is : external_object units found.unit (Some name) ≡ standing ∷ []
   external_is =
-      if_holds (is_in first.unit (first_unit (declared_object name) 0 units)) (there units (object_of_name units name))
-      (ap (is_in first.unit) first_found ∙ number_itself first.unit)
+      if_holds (is_in found.unit (object_of_name units name)) (there units (object_of_name units name))
+      (ap (is_in found.unit) found_is ∙ number_itself found.unit)
       ∙ ap (there units) found_is
 
   part_passes : (known : CObject) (external : Bool) → external ≡ true → known.name ≡ Some name
-      → list_any has_place (if external then external_object units first.unit known.name else object_there (numbers_of units first.home first.unit) known ∷ []) ≡ true
+      → list_any has_place (if external then external_object units found.unit known.name else object_there (numbers_of units found.home found.unit) known ∷ []) ≡ true
   part_passes known false is named = absurd cc
   part_passes known true is named =
-      ap (λ other. list_any has_place (external_object units first.unit other)) named
+      ap (λ other. list_any has_place (external_object units found.unit other)) named
       ∙ ap (list_any has_place) external_is
       ∙ first_holds (has_place standing) false standing_passes
 
   abbrev part : CObject → List CObject
-  part known = if is_external known.linkage then external_object units first.unit known.name else object_there (numbers_of units first.home first.unit) known ∷ []
+  part known = if is_external known.linkage then external_object units found.unit known.name else object_there (numbers_of units found.home found.unit) known ∷ []
 
   parts_by : (known thing : CObject) (others : List CObject) (passes : Bool) → is_object_named name known ≡ passes
       → cond passes (Some known) (find (is_object_named name) others) ≡ Some thing
-      → (find (is_object_named name) others ≡ Some thing → list_any has_place (objects_from units first.home first.unit others) ≡ true)
-      → list_any has_place (part known ++ objects_from units first.home first.unit others) ≡ true
+      → (find (is_object_named name) others ≡ Some thing → list_any has_place (objects_from units found.home found.unit others) ≡ true)
+      → list_any has_place (part known ++ objects_from units found.home found.unit others) ≡ true
   parts_by known thing others true passes is later =
-      any_in_first has_place (λ _ _. []) (part known) (objects_from units first.home first.unit others)
+      any_in_first has_place (λ _ _. []) (part known) (objects_from units found.home found.unit others)
       (part_passes known (is_external known.linkage) (both passes).0 (name_by units typed name known.name (both passes).1))
   parts_by known thing others false passes is later =
-      any_in_second has_place (λ _ _. []) (part known) (objects_from units first.home first.unit others) (later is)
+      any_in_second has_place (λ _ _. []) (part known) (objects_from units found.home found.unit others) (later is)
 
   parts_pass : (objects : List CObject) (thing : CObject) → find (is_object_named name) objects ≡ Some thing
-      → list_any has_place (objects_from units first.home first.unit objects) ≡ true
+      → list_any has_place (objects_from units found.home found.unit objects) ≡ true
   parts_pass [] thing is = absurd cc
   parts_pass (known ∷ others) thing is =
       parts_by known thing others (is_object_named name known) refl is (λ there. parts_pass others thing there)
 
+  some_named : (thing : CObject) × (find (is_object_named name) found.home.objects ≡ Some thing)
+  some_named =
+      let named = named_thing units typed name found found_is in
+      some_of (find (is_object_named name) found.home.objects)
+      (found_too (λ other. other.object == found.thing.object) (is_object_named name) found.home.objects found.thing named.own.own
+      (together_true named.external (has_its_name name found.thing.name named.name_is)))
+
   some_standing : IsSome (object_with place (linked units).objects)
   some_standing =
-      let at = first_is (declared_object name) 0 units first first_found in
+      let same : 0 + found.unit ≡ found.unit = omega arith in
       any_found has_place (linked units).objects
       (subst (λ all. list_any has_place all ≡ true) (sym (linked_objects units typed))
-      (any_given has_place (λ home n. objects_from units home n home.objects) 0 units at.at first.home at.home_is
-      (subst (λ n. list_any has_place (objects_from units first.home n first.home.objects) ≡ true) at.unit_is
-      (parts_pass first.home.objects first.thing at.thing_is))))
+      (any_given has_place (λ home n. objects_from units home n home.objects) 0 units found.unit found.home (named_thing units typed name found found_is).own.unit_is
+      (subst (λ n. list_any has_place (objects_from units found.home n found.home.objects) ≡ true) (sym same)
+      (parts_pass found.home.objects some_named.0 some_named.1))))
 
   found_by : (other : Option CObject) → object_with place (linked units).objects ≡ other → IsSome other → object_with place (linked units).objects ≡ Some standing
   found_by None is some = absurd cc
@@ -155,5 +161,5 @@ external_object_found units typed unit one is number known is_known external nam
     record {
       found = found.0;
       found_is = found.1;
-      there = ap (λ n. object_with n (linked units).objects) place ∙ standing_found units typed name found.0 first.0 found.1 first.1;
+      there = ap (λ n. object_with n (linked units).objects) place ∙ standing_found units typed name found.0 found.1;
     }

@@ -1,6 +1,6 @@
 -- A constant expression of a unit, renumbered, is one of the program (ISO C99, 6.6).
 use Rattle.std.proofs.Common.{ℕ, List, Option}
-use Rattle.cx_core.specs.Trees.{CTy, CExpr, expr, CForm, whole, null, object, code, deref, member, address, convert, unary, binary, and, or, cond, CPuts, no_puts, more_puts, put, CProgram, CMention}
+use Rattle.cx_core.specs.Trees.{CTy, CExpr, expr, CForm, whole, null, object, code, deref, member, address, convert, unary, binary, and, or, cond, comma, CPuts, no_puts, more_puts, put, CProgram, CMention}
 use Rattle.cx_core.specs.Typing.{CHome, IsTyped, IsTypedForm, IsLvalue, IsLvalueForm, ArePuts, IsConstant, IsConstantForm, IsFixed, IsFixedForm, AreConstantPuts}
 use Rattle.cx_renumber.specs.Numbers.{CNumbers, expr_there, value_there, puts_there}
 use Rattle.cx_typed_links.specs.Homes.{home_here, NamesHold}
@@ -26,6 +26,7 @@ module _ (unit : ℕ) (numbers : CNumbers) (mentions : Option (List CMention)) (
       constant_form_goes type (or left right) typed held = (constant_goes left typed.0 held.0, constant_goes right typed.1 held.1)
       constant_form_goes type (cond test first second) typed held =
           (constant_goes test typed.0 held.0, constant_goes first typed.1 held.1, constant_goes second typed.2 held.2)
+      constant_form_goes type (comma first second) typed held = (constant_goes first typed.0 held.0, constant_goes second typed.1 held.1)
       constant_form_goes type form typed held = absurd held
 
       fixed_goes : (of : CExpr) → IsLvalue here of → IsFixed one of → IsFixed program (expr_there numbers of)

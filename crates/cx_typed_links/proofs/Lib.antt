@@ -29,6 +29,7 @@ pub mod NamesDiffer
 pub mod ObjectNumbers
 pub mod Objects
 pub mod Operators
+pub mod Ordered
 pub mod Outers
 pub mod OwnObjects
 pub mod Parts
@@ -40,6 +41,7 @@ pub mod SameSizes
 pub mod Sizes
 pub mod Statements
 pub mod Stays
+pub mod Texts
 pub mod Things
 pub mod Types
 pub mod UnitNames

@@ -9,7 +9,7 @@ use Rattle.cx_core.specs.declared.program.Linkage.TheVariants.{External, Interna
 use Rattle.cx_core.specs.Linked.{is_external, has_linkage, names_with}
 use Rattle.cx_core.specs.Trees.{CTy, CPuts, CTypes, CObject, CFun, COuter, CUnit}
 use Rattle.cx_core.specs.Typing.{object_with}
-use Rattle.cx_links.specs.Program.{CFound, counts_before, first_unit, is_object_named, declared_object, has_name, object_of_name, object_at, numbers_of, is_in, there, external_object, objects_from, linked}
+use Rattle.cx_links.specs.Program.{CFound, counts_before, is_object_named, has_name, object_of_name, object_at, numbers_of, is_in, there, external_object, objects_from, linked}
 use Rattle.cx_renumber.specs.Numbers.{object_there}
 use Rattle.cx_typed_links.proofs.Compatible.{both}
 use Rattle.cx_typed_links.proofs.Distinct.{not_same_back, keys_joined, all_made, units_differ}
@@ -126,9 +126,9 @@ module _ (units : List CUnit) (typed : AreTypedUnits units) where
 
   abbrev named_position : Option (List ℕ) → ℕ
   named_position None = 0
-  named_position (Some name) = unit_found (first_unit (declared_object name) 0 units)
+  named_position (Some name) = unit_found (object_of_name units name)
 
-  -- the unit that declares its name first, or its own unit
+  -- the unit of what stands for its name, or its own unit
   abbrev position : CObject → ℕ
   position known = if is_external known.linkage then named_position known.name else known.unit
 
@@ -180,7 +180,7 @@ module _ (units : List CUnit) (typed : AreTypedUnits units) where
     }
 
     external_given : (known : CObject) → is_external known.linkage ≡ true → (name : List ℕ) → known.name ≡ Some name
-        → is_in unit (first_unit (declared_object name) 0 units) ≡ true → (found : CFound CObject) → object_of_name units name ≡ Some found
+        → is_in unit (object_of_name units name) ≡ true → (found : CFound CObject) → object_of_name units name ≡ Some found
         → IsGiven unit known (object_there (numbers_of units found.home found.unit) found.thing)
     external_given known external name named first found found_is =
         let thing = named_thing units typed name found found_is in
@@ -188,7 +188,7 @@ module _ (units : List CUnit) (typed : AreTypedUnits units) where
           of = external_of units typed name found found_is;
           here =
               ap (λ (holds : Bool). if holds then named_position found.thing.name else found.thing.unit) thing.external
-              ∙ ap named_position thing.name_is ∙ unit_in unit (first_unit (declared_object name) 0 units) first;
+              ∙ ap named_position thing.name_is ∙ unit_in unit (object_of_name units name) first;
           external_is = thing.external ∙ sym external;
           named = λ still. (name, named, thing.name_is);
           own_is = λ not_external. absurd (let h : true ≡ false = sym external ∙ not_external in cc);
@@ -198,7 +198,7 @@ module _ (units : List CUnit) (typed : AreTypedUnits units) where
     part_by external known = if external then external_object units unit known.name else own_there known ∷ []
 
     there_given : (known : CObject) → is_external known.linkage ≡ true → (name : List ℕ) → known.name ≡ Some name
-        → is_in unit (first_unit (declared_object name) 0 units) ≡ true → (found : Option (CFound CObject)) → object_of_name units name ≡ found
+        → is_in unit (object_of_name units name) ≡ true → (found : Option (CFound CObject)) → object_of_name units name ≡ found
         → All (IsGiven unit known) (there units found) × IsDistinct eqb (map number_of (there units found))
     unfolding IsDistinct
     there_given known external name named first None found_is = (All-nil (IsGiven unit known), tt)
@@ -209,7 +209,7 @@ module _ (units : List CUnit) (typed : AreTypedUnits units) where
     )
 
     if_given : (known : CObject) → is_external known.linkage ≡ true → (name : List ℕ) → known.name ≡ Some name
-        → (test : Bool) → is_in unit (first_unit (declared_object name) 0 units) ≡ test
+        → (test : Bool) → is_in unit (object_of_name units name) ≡ test
         → All (IsGiven unit known) (if test then there units (object_of_name units name) else [])
         × IsDistinct eqb (map number_of (if test then there units (object_of_name units name) else []))
     unfolding IsDistinct
@@ -221,7 +221,7 @@ module _ (units : List CUnit) (typed : AreTypedUnits units) where
     unfolding IsDistinct
     named_given known external None named = (All-nil (IsGiven unit known), tt)
     named_given known external (Some name) named =
-        if_given known external name named (is_in unit (first_unit (declared_object name) 0 units)) refl
+        if_given known external name named (is_in unit (object_of_name units name)) refl
 
     part_given : (known : CObject) → IsKnown known → (external : Bool) → is_external known.linkage ≡ external
         → All (IsGiven unit known) (part_by external known) × IsDistinct eqb (map number_of (part_by external known))

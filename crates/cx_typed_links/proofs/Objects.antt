@@ -160,7 +160,7 @@ module _ (units : List CUnit) (typed : AreTypedUnits units) where
   external_objects_of : (unit : ℕ) (name : Option (List ℕ)) → All Of (external_object units unit name)
   external_objects_of unit None = All-nil Of
   external_objects_of unit (Some name) =
-      all_if (is_in unit (first_unit (declared_object name) 0 units)) (there units (object_of_name units name))
+      all_if (is_in unit (object_of_name units name)) (there units (object_of_name units name))
       (there_of name (object_of_name units name) refl)
 
   module _ (unit : ℕ) (one : CUnit) (is : slice_get units unit ≡ Some one) where

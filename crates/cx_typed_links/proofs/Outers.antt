@@ -34,7 +34,7 @@ names_of outers = names_of_outers has_linkage outers
 
 -- the names of a unit, without those of its objects and of the functions that it defines
 abbrev pub things_of : CTypes → List CObject → List CFun → List COuter → CProgram
-things_of types objects functions externals = record { types = types; objects = objects; functions = functions; externals = externals }
+things_of types objects functions externals = record { types = types; objects = objects; functions = functions; externals = externals; orders = [] }
 
 pub outers_are : (types : CTypes) (externals : List COuter) → names_with has_linkage (things_of types [] [] externals) ≡ names_of externals
 outers_are types [] = refl

@@ -15,6 +15,7 @@ use Rattle.cx_typed_links.proofs.Fixed.{constant_puts_go}
 use Rattle.cx_typed_links.proofs.Labels.{labels_go, is_block_goes}
 use Rattle.cx_typed_links.proofs.Sizes.{complete_there}
 use Rattle.cx_typed_links.proofs.Statements.{object_moved, block_object_goes, stmt_goes}
+use Rattle.cx_typed_links.proofs.Texts.{some_text_goes}
 use Rattle.cx_typed_links.proofs.Types.{form_of_there, unqualified_there, of_object_there, type_in_there}
 use Rattle.cx_typed_links.specs.Homes.{home_here, home_there, NamesHold}
 
@@ -63,6 +64,7 @@ module _ (unit : ℕ) (numbers : CNumbers) (mentions : Option (List CMention)) (
     no_linkage = held.no_linkage;
     static = some_puts known.puts held.static;
     array = text_type_goes known.type held.array;
+    holds = some_text_goes numbers known.type known.puts held.holds;
   }
 
   -- an object of the unit

@@ -3,6 +3,7 @@
 
 ghost use Rattle.cx_typed_links.specs.Laws.{ExpressionsStayTyped, NamesHoldInPrograms, ProgramThingsAreTyped, ProgramTypesAreAllowed, ProgramsAreNumbered, ThingsStayTyped, UnitTypesHold, UnitTypesStand, UnitsMakePrograms};
 ghost use Rattle.cx_typed_links.specs.Links.{ExternalsAreTyped, LinkedUnitsMakePrograms, UsesHoldWhereLinked};
+ghost use Rattle.cx_typed_links.specs.Ordered.{OrderedThingsStand, TypedUnitsStandInOrder};
 
 /// Law: the types of a program of typed units are types that C allows (ISO C99, 6.7.2.1).
 pub fn program_types_are_allowed()
@@ -64,4 +65,16 @@ pub fn externals_are_typed()
 /// Law: so typed units that break no rule together make a typed and linked program (ISO C99, 5.1.1.1).
 pub fn linked_units_make_programs()
     ensures { LinkedUnitsMakePrograms }
+{}
+
+/// Law: the objects of a program of typed units stand unit by unit, and the unit of each object and of each function is one of those that were
+/// linked (ISO C99, 6.2.2p2, 6.2.4).
+pub fn typed_units_stand_in_order()
+    ensures { TypedUnitsStandInOrder }
+{}
+
+/// Law: what a typed unit orders by its first declarations is there in the program, under its number there, but for a static function that the unit
+/// declares and doesn't define (ISO C99, 6.2.2).
+pub fn ordered_things_stand()
+    ensures { OrderedThingsStand }
 {}

@@ -6,7 +6,7 @@ use Rattle.cr_base.specs.declared.scalar.Scalar.{Scalar}
 use Rattle.cr_world.proofs.Allocated.{allocated_keeps, gives_keeps, gives_nothing_keeps}
 use Rattle.cr_world.specs.Held.{Held}
 use Rattle.cr_world.specs.Known.{Known, KnownFunction, known_named, Effect, gives, gives_nothing, ends_program, wants_block, fails, effect}
-use Rattle.cr_world.specs.Laws.{IsHeld}
+use Rattle.cr_world.specs.Laws.{HeapLives}
 use Rattle.cr_world.specs.World.{World, Terms, open_ended, trail_of, blocks_of, wrong, full, asks, astray, answer_at_end, answer_from, is_given, is_refused_by, is_of_store, after_allocation, granted_on}
 use Rattle.cx_core.specs.Trees.{CTy, CExpr, type_of, COuter, CFun, CProgram}
 use Rattle.cx_core.specs.Typing.{IsTyped}
@@ -38,49 +38,49 @@ use Rattle.cx_typed_runs.specs.States.{in_function, home_in, IsPurposeOf, StopsB
 
 -- they live, and the world in which a program ends is that of the call
 abbrev pub LeavesHeld : World → COutcome → Type 0
-LeavesHeld before (Ok (returns_value value after)) = IsHeld after.held
+LeavesHeld before (Ok (returns_value value after)) = HeapLives after.held
 LeavesHeld before (Ok (ends_with status after)) = after ≡ before
 LeavesHeld before (Err stop) = Unit {0}
 
-store_held : (world : World) (is_zero : Bool) (size : ℕ) (left : List ℤ) (refused test : Bool) → IsHeld world.held
+store_held : (world : World) (is_zero : Bool) (size : ℕ) (left : List ℤ) (refused test : Bool) → HeapLives world.held
     → LeavesHeld world (with_block (if test then after_allocation (not refused) is_zero size left world else Err astray))
 store_held world is_zero size left refused true is = allocated_keeps (not refused) is_zero size world.held is
 store_held world is_zero size left refused false is = tt
 
-granted_held : (world : World) (is_zero : Bool) (size : ℕ) (terms : Terms) (answers : List ℤ) → IsHeld world.held → LeavesHeld world (with_block (granted_on terms answers is_zero size world))
+granted_held : (world : World) (is_zero : Bool) (size : ℕ) (terms : Terms) (answers : List ℤ) → HeapLives world.held → LeavesHeld world (with_block (granted_on terms answers is_zero size world))
 granted_held world is_zero size open_ended [] is = allocated_keeps true is_zero size world.held is
 granted_held world is_zero size open_ended (answer ∷ left) is = allocated_keeps (is_given answer) is_zero size world.held is
 granted_held world is_zero size (trail_of limit) [] is = tt
 granted_held world is_zero size (trail_of limit) (answer ∷ left) is =
     store_held world is_zero size left (is_refused_by limit world.held.blocks size) (is_of_store (is_refused_by limit world.held.blocks size) answer) is
 
-effect_held : (place : Place) (world : World) (does : Known) (args : List Value) (one : Effect) → IsHeld world.held → effect does args world.held ≡ one → LeavesHeld world (by_effect place world one)
+effect_held : (place : Place) (world : World) (does : Known) (args : List Value) (one : Effect) → HeapLives world.held → effect does args world.held ≡ one → LeavesHeld world (by_effect place world one)
 effect_held place world does args (gives value held) is e = gives_keeps does args value world.held held is e
 effect_held place world does args (gives_nothing held) is e = gives_nothing_keeps does args world.held held is e
 effect_held place world does args (ends_program status) is e = refl
 effect_held place world does args (wants_block is_zero size) is e = granted_held world is_zero size world.terms world.answers is
 effect_held place world does args (fails fault) is e = tt
 
-known_held : (place : Place) (world : World) (does : Known) (args : Result (List Value) CWhy) → IsHeld world.held
+known_held : (place : Place) (world : World) (does : Known) (args : Result (List Value) CWhy) → HeapLives world.held
     → LeavesHeld world (and_then (wrong_at place args) (λ all. by_effect place world (effect does all world.held)))
 known_held place world does (Ok args) is = effect_held place world does args (effect does args world.held) is refl
 known_held place world does (Err why) is = tt
 
-answer_held : (world : World) (kind : Option Scalar) (call : Call) (terms : Terms) (answers : List ℤ) → world.terms ≡ terms → IsHeld world.held → LeavesHeld world (with_answer kind (answer_from answers call world))
+answer_held : (world : World) (kind : Option Scalar) (call : Call) (terms : Terms) (answers : List ℤ) → world.terms ≡ terms → HeapLives world.held → LeavesHeld world (with_answer kind (answer_from answers call world))
 answer_held world kind call open_ended [] e is = subst (λ terms. LeavesHeld world (with_answer kind (answer_at_end terms call world))) (sym e) is
 answer_held world kind call (trail_of limit) [] e is = subst (λ terms. LeavesHeld world (with_answer kind (answer_at_end terms call world))) (sym e) tt
 answer_held world kind call terms (answer ∷ left) e is = is
 
-opaque_held : (place : Place) (world : World) (kind : Option Scalar) (name : List ℕ) (args : Result (List Arg) CWhy) → IsHeld world.held
+opaque_held : (place : Place) (world : World) (kind : Option Scalar) (name : List ℕ) (args : Result (List Arg) CWhy) → HeapLives world.held
     → LeavesHeld world (and_then (wrong_at place args) (λ all. with_answer kind (answer_from world.answers (record { name = name; args = all }) world)))
 opaque_held place world kind name (Ok args) is = answer_held world kind (record { name = name; args = args }) world.terms world.answers refl is
 opaque_held place world kind name (Err why) is = tt
 
-table_held : (setting : CSetting) (called : CCalled) (callee : COuter) (world : World) (found : Option KnownFunction) → IsHeld world.held → LeavesHeld world (call_by_table setting called callee world found)
+table_held : (setting : CSetting) (called : CCalled) (callee : COuter) (world : World) (found : Option KnownFunction) → HeapLives world.held → LeavesHeld world (call_by_table setting called callee world found)
 table_held setting called callee world (Some known) is = known_held called.place world known.does (values_of called.args) is
 table_held setting called callee world None is = opaque_held called.place world (scalar_in_type setting called.type) callee.name (arguments setting (blocks_of world) called.args) is
 
-pub outside_held : (setting : CSetting) (called : CCalled) (callee : COuter) (world : World) → IsHeld world.held → LeavesHeld world (external_call setting called callee world)
+pub outside_held : (setting : CSetting) (called : CCalled) (callee : COuter) (world : World) → HeapLives world.held → LeavesHeld world (external_call setting called callee world)
 outside_held setting called callee world is = table_held setting called callee world (known_named callee.name) is
 
 -- ---- objects after a call

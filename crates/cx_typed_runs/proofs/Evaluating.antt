@@ -2,7 +2,7 @@
 use Rattle.std.proofs.Common.{◌≡◌, inl, inr, refl, sym, ap, ◌∙◌, subst, ℕ, zero, suc, ◌<◌, ◌%◌, Bool, true, false, List, [], ◌∷◌, ◌++◌, Option, Some, None, All, arith, append_assoc}
 use Rattle.std.specs.List.{Contains}
 use Rattle.cr_world.specs.Held.{Held}
-use Rattle.cr_world.specs.Laws.{IsHeld}
+use Rattle.cr_world.specs.Laws.{HeapLives}
 use Rattle.cr_world.specs.World.{World, blocks_of}
 use Rattle.cx_core.specs.Linked.{IsLinked, home_of}
 use Rattle.cr_base.specs.declared.layout.Spot.{Spot}
@@ -73,7 +73,7 @@ no_frame program unit type (chooses_by place site) fits = absurd fits
 pub record IsReady (program : CProgram) (running : CRunning) (state : CState) (world : World) (purpose : CPurpose) : Type 0 where
   pub linked : IsLinked program
   pub memory : IsTypedMemory program (blocks_of world)
-  pub held : IsHeld world.held
+  pub held : HeapLives world.held
   pub owned : AreOwned program world.held (own_frame purpose ++ (slots_of_callers state.callers ++ state.statics))
   pub callers : AreWaiting program running state.callers
   pub begun : AreBegun program [] state.statics

@@ -4,7 +4,7 @@ use Rattle.std.proofs.lemmas.List.{append-nil}
 use Rattle.std.proofs.lemmas.List.Elements.{All-contains_itself}
 use Rattle.std.specs.List.{Contains}
 use Rattle.cr_base.specs.declared.layout.Laid.{Laid}
-use Rattle.cr_world.specs.Laws.{IsHeld}
+use Rattle.cr_world.specs.Laws.{HeapLives}
 use Rattle.cr_world.specs.Held.{nothing_held, with_blocks, fresh_block, next_place, with_block}
 use Rattle.cr_world.specs.World.{World, Outside, Terms, blocks_of, with_memory, full, astray, limit_of, object_begun, begun_at}
 use Rattle.cx_core.specs.Linked.{IsLinked}
@@ -72,7 +72,7 @@ static_made program one (Some laid) linked among e some =
 record IsBefore (program : CProgram) (state : CState) (left : List CObject) : Type 0 where
   linked : IsLinked program
   memory : IsTypedMemory program (blocks_of state.world)
-  held : IsHeld state.world.held
+  held : HeapLives state.world.held
   owned : AreOwned program state.world.held state.statics
   callers : state.callers ≡ []
   all : AreStatics program left
@@ -98,7 +98,7 @@ static_begun program state one others it is (Err Memory) = record { memory = is.
 no_callers : (program : CProgram) (state : CState) → state.callers ≡ [] → AreOwned program state.world.held (slots_of_callers state.callers ++ state.statics) → AreOwned program state.world.held state.statics
 no_callers program state e owned = subst (λ callers. AreOwned program state.world.held (slots_of_callers callers ++ state.statics)) e owned
 
-pub static_typed : (program : CProgram) (state : CState) (one : CObject) (others : List CObject) → IsLinked program → IsTypedMemory program (blocks_of state.world) → IsHeld state.world.held
+pub static_typed : (program : CProgram) (state : CState) (one : CObject) (others : List CObject) → IsLinked program → IsTypedMemory program (blocks_of state.world) → HeapLives state.world.held
     → AreOwned program state.world.held (slots_of_callers state.callers ++ state.statics) → state.callers ≡ [] → AreStatics program (one ∷ others) → AreBegun program (one ∷ others) state.statics
     → IsTypedState program (after_static (setting_of program) state one others (static_begins (setting_of program) one state.world))
 static_typed program state one others linked memory held owned callers all begun =

@@ -2,7 +2,7 @@
 use Rattle.std.proofs.Common.{◌≡◌, inl, inr, refl, sym, ap, ◌∙◌, subst, ℕ, zero, suc, Bool, true, false, List, [], ◌∷◌, ◌++◌, Option, Some, None, IfSome, IsSome, find, cond, length, ◌<◌, arith}
 use Rattle.std.specs.List.{Contains}
 use Rattle.cr_base.specs.declared.refusal.Place.{Place}
-use Rattle.cr_world.specs.Laws.{IsHeld}
+use Rattle.cr_world.specs.Laws.{HeapLives}
 use Rattle.cr_world.specs.World.{blocks_of, wrong, full, asks, astray}
 use Rattle.cx_core.specs.declared.ty.Basic.TheVariants.{Int}
 use Rattle.cx_core.specs.Linked.{IsLinked, home_of, is_main, main_of, HasNoParams, IsMainType}
@@ -68,7 +68,7 @@ found_there test (first ∷ others) one e = by (test first) e (λ rest. found_th
     by true found rest = let same : first ≡ one = cc (found) in (zero, omega arith, same)
     by false found rest = contains_later first others one (rest found)
 
-main_typed : (program : CProgram) (state : CState) (found : Option CFun) → IsLinked program → main_of program ≡ found → IsTypedMemory program (blocks_of state.world) → IsHeld state.world.held
+main_typed : (program : CProgram) (state : CState) (found : Option CFun) → IsLinked program → main_of program ≡ found → IsTypedMemory program (blocks_of state.world) → HeapLives state.world.held
     → AreOwned program state.world.held (others_of state) → state.callers ≡ [] → AreBegun program [] state.statics → IsTypedState program (at_control state state.world (main_called found))
 main_typed program state None linked e memory held owned callers begun_is = cc (subst IsSome e linked.main_defined)
 main_typed program state (Some one) linked e memory held owned callers begun_is =
@@ -98,7 +98,7 @@ move_in all program one result state (leaves value site) around is = returning_t
 move_in all program one result state calls_main around is = absurd is
 move_in all program one result state (goes_nowhere place) around is = absurd is
 
-move_first : (program : CProgram) (unit : ℕ) (state : CState) (move : CMove) → IsLinked program → IsTypedMemory program (blocks_of state.world) → IsHeld state.world.held → HasAround program state (slots_of_move move) → state.callers ≡ []
+move_first : (program : CProgram) (unit : ℕ) (state : CState) (move : CMove) → IsLinked program → IsTypedMemory program (blocks_of state.world) → HeapLives state.world.held → HasAround program state (slots_of_move move) → state.callers ≡ []
     → AreBegun program [] state.statics → IsFirstMove program unit move → IsTypedState program (move_step (setting_of program) state move)
 move_first program unit state (values node purpose) linked memory held owned callers begun_is is = record {
   memory = memory;

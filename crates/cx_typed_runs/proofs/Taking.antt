@@ -9,7 +9,7 @@ use Rattle.cr_base.specs.declared.layout.Laid.{Laid}
 use Rattle.cr_base.specs.declared.refusal.Place.{Place}
 use Rattle.cr_base.specs.Layout.{most_bytes as most_laid}
 use Rattle.cr_world.specs.Held.{with_blocks, with_block, next_place, fresh_block}
-use Rattle.cr_world.specs.Laws.{IsHeld}
+use Rattle.cr_world.specs.Laws.{HeapLives}
 use Rattle.cr_world.specs.World.{World, blocks_of, with_memory, begun_at, object_begun, limit_of, full, astray}
 use Rattle.cx_core.specs.Layouts.{whole_extent, within_most, layouts_of}
 use Rattle.cx_core.specs.Linked.{IsLinked, IsTypedFunction, IsTypedObject, home_of}
@@ -49,7 +49,7 @@ use Rattle.cx_typed_runs.specs.States.{in_function, AreCallers, AreForParams, Is
 pub record IsAround (program : CProgram) (result : CTy) (state : CState) (world : World) (frame : Frame) : Type 0 where
   pub linked : IsLinked program
   pub memory : IsTypedMemory program (blocks_of world)
-  pub held : IsHeld world.held
+  pub held : HeapLives world.held
   pub owned : AreOwned program world.held (frame ++ others_of state)
   pub callers : AreCallers program result state.callers
   pub begun : AreBegun program [] state.statics

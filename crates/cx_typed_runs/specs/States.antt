@@ -4,7 +4,7 @@
 use Rattle.std.specs.Prelude.{◌≡◌, ◌≢◌, ◌⊎◌, ℕ, Bool, true, false, eqb, List, [], ◌∷◌, ◌++◌, map, Option, Some, None, IfSome, IsSome, All}
 use Rattle.std.specs.List.{Contains, IsDistinct}
 use Rattle.cr_base.specs.declared.layout.Spot.{Spot}
-use Rattle.cr_world.specs.Laws.{IsHeld}
+use Rattle.cr_world.specs.Laws.{HeapLives}
 use Rattle.cr_world.specs.World.{blocks_of, wrong, full, asks, astray}
 use Rattle.cx_core.specs.Compatible.{AreCompatible}
 use Rattle.cx_core.specs.Conversions.{IsPromoted, IsScalarType}
@@ -285,6 +285,6 @@ all_slots state = slots_of_control state.control ++ (slots_of_callers state.call
 -- the state of a run of a typed program
 pub record IsTypedState (program : CProgram) (state : CState) : Type 0 where
   pub memory : IsTypedMemory program (blocks_of state.world)
-  pub held : IsHeld state.world.held
+  pub held : HeapLives state.world.held
   pub owned : AreOwned program state.world.held (all_slots state)
   pub control : IsControl program state.statics state.callers state.control

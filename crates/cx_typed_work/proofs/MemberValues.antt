@@ -236,7 +236,7 @@ holder_no_scalar home type place of spot kind is kind_is =
     holder_is_record home.program.types (form_of_type (type_of of)) part.index part.one kind part.member_is kind_is
 
 typed_member : (home : CHome) (frame : Frame) (blocks : Blocks) (type : CTy) (place : Place) (of : CExpr) (spot : Spot) (value : CValue) → AreTypes home.program.types → IsTyped home (expr type place (member of spot)) → IsGiven home.program of value
-    → Comes (IsGivenBy home (expr type place (member of spot))) (member_value (setting_of home.program) frame blocks type spot value)
+    → Comes (IsGivenBy home (expr type place (member of spot))) (member_value (setting_of home.program) frame blocks type (type_of of) spot value)
 typed_member home frame blocks type place of spot (cells held from) types is (inl one) =
     comes_as (IsValueOfType home.program type) (IsGivenBy home (expr type place (member of spot))) _
     (member_by home.program type spot held from spot.width refl (value_member home type place of spot held types is one)) (λ value good. inr (is, inl good))
@@ -258,5 +258,5 @@ pub member_value_done : (home : CHome) (frame : Frame) (blocks : Blocks) (type :
 member_value_done home frame blocks type place of spot one scene is given =
     let node = expr type place (member of spot) in
     comes_and (λ (_ : Marks). Unit {0}) (IsDoneOf home node blocks) (united_operands (one ∷ [])) _ (operands_united (one ∷ [])) (λ marks _.
-    gives_comes home node marks blocks (member_value (setting_of home.program) frame blocks type spot one.value) scene.memory
+    gives_comes home node marks blocks (member_value (setting_of home.program) frame blocks type (type_of of) spot one.value) scene.memory
     (typed_member home frame blocks type place of spot one.value scene.linked.types is (value_given home of one.value is.1.0 given.given)))

@@ -82,6 +82,17 @@ row_aligned is_union pieces row is =
     let found = map_found (row_with is_union pieces) (laid_record is_union pieces) row is in
     subst (λ (r : CRow). 0 < r.laid.align) found.2 (laid_aligned is_union pieces (nat_le (laid_of is_union pieces).size most_bytes) found.0 found.1)
 
+laid_within : (is_union : Bool) (pieces : List Piece) (test : Bool) (laid : Laid) → nat_le (laid_of is_union pieces).size most_bytes ≡ test → (if test then Some (laid_of is_union pieces) else None) ≡ Some laid
+    → within_most laid ≡ Some laid
+laid_within is_union pieces true laid e is =
+    subst (λ (one : Laid). within_most one ≡ Some one) (some_same _ laid is) (ap (λ test. if test then Some (laid_of is_union pieces) else None) e)
+laid_within is_union pieces false laid e is = absurd cc
+
+row_within : (is_union : Bool) (pieces : List Piece) (row : CRow) → row_of_pieces is_union pieces ≡ Some row → within_most row.laid ≡ Some row.laid
+row_within is_union pieces row is =
+    let found = map_found (row_with is_union pieces) (laid_record is_union pieces) row is in
+    subst (λ (r : CRow). within_most r.laid ≡ Some r.laid) found.2 (laid_within is_union pieces (nat_le (laid_of is_union pieces).size most_bytes) found.0 refl found.1)
+
 -- a row of a pass, by its members
 record IsPassed (types : CTypes) (count number : ℕ) (row : CRow) : Type 0 where
   passed : ℕ
@@ -104,6 +115,12 @@ row_some_aligned : (types : CTypes) (number : ℕ) (row : CRow) → row_at (layo
 row_some_aligned types number row is =
     let found = row_passed types (completed_count types.records) number row (sym (ap (λ (all : CLayouts). row_at all number) (layouts_are types)) ∙ is) in
     row_aligned found.one.is_union found.pieces row found.row_by
+
+-- a structure or union that is laid out is complete
+pub row_sized : (types : CTypes) (number : ℕ) (is_const : Bool) (row : CRow) → row_at (layouts_of types) number ≡ Some row → extent (layouts_of types) (ty (record_type number) is_const) ≡ Some row.laid
+row_sized types number is_const row is =
+    let found = row_passed types (completed_count types.records) number row (sym (ap (λ (all : CLayouts). row_at all number) (layouts_are types)) ∙ is) in
+    ap (λ (o : Option CRow). option_and_then within_most (option_map (λ (row : CRow). row.laid) o)) is ∙ row_within found.one.is_union found.pieces row found.row_by
 
 array_aligned : (length : Option ℕ) (found : Option Laid) (laid : Laid) → ((inner : Laid) → found ≡ Some inner → 0 < inner.align) → array_extent length found ≡ Some laid → 0 < laid.align
 array_aligned None found laid inner is = absurd cc

@@ -1,7 +1,7 @@
 -- What the end of a unit makes of its scope (ISO C99, 6.9.2).
 use Rattle.std.specs.Prelude.{ℕ, suc, nat_le, ◌==◌, Bool, true, false, not, ◌&&◌, if◌then◌else◌, List, [], ◌∷◌, ◌++◌, map, length, find, Option, None, Some, is_some, is_none}
 use Rattle.cx_core.specs.declared.program.Linkage.TheVariants.{Nothing}
-use Rattle.cx_core.specs.Trees.{CTy, ty, array, CTyForm, form_of_type, CPuts, no_puts, CObject, COuter, CDoes, defines, CMention, CUnit}
+use Rattle.cx_core.specs.Trees.{CTy, ty, array, CTyForm, form_of_type, CPuts, no_puts, CObject, COuter, CKey, a_function, an_object, CDeclaredOrder, CDoes, defines, CMention, CUnit}
 use Rattle.cx_rules.specs.Declare.{final_type, thing_named}
 use Rattle.cx_rules.specs.Scope.{CMade, CScope, CThing}
 
@@ -111,19 +111,28 @@ final_mention_by one (Some thing) = if ends_with_one_element thing then record o
 abbrev pub final_mention : List CThing → CMention → CMention
 final_mention things one = if is_defining one.does then final_mention_by one (thing_named one.name things) else one
 
+-- ---- the order of declarations
+
+abbrev pub key_of : CThing → CKey
+key_of one = if one.is_function then a_function one.number else an_object one.number
+
+abbrev pub order_with : CScope → List CKey → CDeclaredOrder
+order_with scope things = record { things = things; completed = scope.completed }
+
 -- ---- the whole
 
-abbrev pub unit_with : CScope → List CObject → List COuter → List CMention → CUnit
-unit_with scope objects externals mentions = record {
+abbrev pub unit_with : CScope → List CObject → List COuter → List CMention → List CKey → CUnit
+unit_with scope objects externals mentions keys = record {
   types = scope.types;
   objects = objects;
   functions = scope.functions;
   externals = externals;
   mentions = mentions;
+  order = order_with scope keys;
 }
 
-abbrev pub unit_by : CScope → List COuter → List CMention → CUnit
-unit_by scope externals mentions = unit_with scope (objects_of scope.unit scope.things scope.objects scope.literals) externals mentions
+abbrev pub unit_by : CScope → List COuter → List CMention → List CKey → CUnit
+unit_by scope externals mentions keys = unit_with scope (objects_of scope.unit scope.things scope.objects scope.literals) externals mentions keys
 
-abbrev pub unit_behind : CScope → List COuter → CUnit
-unit_behind scope externals = unit_by scope externals (map (final_mention scope.things) scope.mentions)
+abbrev pub unit_behind : CScope → List COuter → List CKey → CUnit
+unit_behind scope externals keys = unit_by scope externals (map (final_mention scope.things) scope.mentions) keys

@@ -1,14 +1,14 @@
-//! The types of objects at the end of a unit (ISO C99, 6.9.2p2, p5).
+//! The types of objects at the end of a unit (ISO C99, 6.9.2p2, p5), and what has linkage in it.
 
 ghost use Rattle.std.specs.Prelude.{◌≡◌, None, Some, map, option_map, IfOk};
 ghost use Rattle.cx_core.specs.Trees.{ty, array};
-ghost use Rattle.cx_core.specs.Views.{view_outer, view_type};
+ghost use Rattle.cx_core.specs.Views.{view_key, view_outer, view_type};
 ghost use Rattle.cx_rules.specs.Declare.{final_type};
 ghost use Rattle.cx_scope.specs.Views.{view_thing};
 ghost use Rattle.cx_unit_ends.specs.Ends as ends;
 
 use cr_base::{Boxed, Items, Memory};
-use cx_core::{Outer, Ty, TyForm};
+use cx_core::{Key, Outer, Ty, TyForm};
 use cx_scope::Thing;
 use std::alloc::Global;
 
@@ -103,4 +103,25 @@ pub(crate) fn outers_of(alloc: Global, things: &[Thing]) -> Result<Items<Outer>,
         }
     }
     Ok(outers)
+}
+
+fn key_of(one: &Thing) -> Key
+    ensures { view_key result ≡ ends.key_of (view_thing one.now) }
+{
+    if one.is_function {
+        Key::Function(one.number)
+    } else {
+        Key::Object(one.number)
+    }
+}
+
+/// What has linkage, by its numbers, in the order of first declarations. Refused only for want of memory.
+pub(crate) fn keys_of(alloc: Global, things: &[Thing]) -> Result<Items<Key>, Memory>
+    ensures { IfOk result (λ made. map view_key made ≡ map ends.key_of (map view_thing things.now)) }
+{
+    let mut keys = Items::new(alloc);
+    for one in things {
+        keys.push(key_of(one))?;
+    }
+    Ok(keys)
 }

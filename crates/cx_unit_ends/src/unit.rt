@@ -2,16 +2,16 @@
 #![tactic(auto, unfolding(cx_scope::specs::Views::view_scope))]
 
 ghost use Rattle.std.specs.Prelude.{◌≡◌, [], map, IfOk, OnOk};
-ghost use Rattle.cx_core.specs.Views.{view_mention, view_object, view_outer, view_unit};
+ghost use Rattle.cx_core.specs.Views.{view_key, view_mention, view_object, view_outer, view_unit};
 ghost use Rattle.cx_rules.specs.Declare as declare;
 ghost use Rattle.cx_scope.specs.Views.{view_scope};
 ghost use Rattle.cx_unit_ends.specs.Ends as ends;
 
 use crate::mentions::final_mentions;
 use crate::order::all_objects;
-use crate::types::outers_of;
+use crate::types::{keys_of, outers_of};
 use cr_base::{Items, Memory};
-use cx_core::{CoreObject, CoreUnit, Mention, Outer};
+use cx_core::{CoreObject, CoreUnit, DeclaredOrder, Key, Mention, Outer};
 use cx_scope::{Objects, Scope};
 use std::mem;
 
@@ -42,8 +42,9 @@ fn unit_with(
     objects: Items<CoreObject>,
     externals: Items<Outer>,
     mentions: Items<Mention>,
+    keys: Items<Key>,
 ) -> CoreUnit
-    ensures { view_unit result ≡ ends.unit_with (view_scope scope) (map view_object objects) (map view_outer externals) (map view_mention mentions) }
+    ensures { view_unit result ≡ ends.unit_with (view_scope scope) (map view_object objects) (map view_outer externals) (map view_mention mentions) (map view_key keys) }
 {
     CoreUnit {
         types: scope.types,
@@ -51,29 +52,34 @@ fn unit_with(
         functions: scope.functions,
         externals,
         mentions,
+        order: DeclaredOrder {
+            things: keys,
+            completed: scope.completed,
+        },
     }
 }
 
-// The unit with these functions and mentions.
+// The unit with these functions and mentions, and what has linkage in this order.
 fn unit_by(
     scope: Scope,
     externals: Items<Outer>,
     mentions: Items<Mention>,
+    keys: Items<Key>,
 ) -> Result<CoreUnit, Memory>
-    ensures { IfOk result (λ made. view_unit made ≡ ends.unit_by (view_scope scope) (map view_outer externals) (map view_mention mentions)) }
+    ensures { IfOk result (λ made. view_unit made ≡ ends.unit_by (view_scope scope) (map view_outer externals) (map view_mention mentions) (map view_key keys)) }
 {
     let mut scope = scope;
     let objects = take_objects(&mut scope)?;
-    Ok(unit_with(scope, objects, externals, mentions))
+    Ok(unit_with(scope, objects, externals, mentions, keys))
 }
 
-// The unit with these functions.
-fn unit_behind(scope: Scope, externals: Items<Outer>) -> Result<CoreUnit, Memory>
-    ensures { IfOk result (λ made. view_unit made ≡ ends.unit_behind (view_scope scope) (map view_outer externals)) }
+// The unit with these functions, and what has linkage in this order.
+fn unit_behind(scope: Scope, externals: Items<Outer>, keys: Items<Key>) -> Result<CoreUnit, Memory>
+    ensures { IfOk result (λ made. view_unit made ≡ ends.unit_behind (view_scope scope) (map view_outer externals) (map view_key keys)) }
 {
     let mut scope = scope;
     let mentions = take_mentions(&mut scope)?;
-    unit_by(scope, externals, mentions)
+    unit_by(scope, externals, mentions, keys)
 }
 
 /// The typed unit of the scope at its end (ISO C99, 6.9). Refused only for want of memory.
@@ -81,5 +87,6 @@ pub fn unit_of(scope: Scope) -> Result<CoreUnit, Memory>
     ensures { IfOk result (λ made. view_unit made ≡ declare.unit_of (view_scope scope)) }
 {
     let externals = outers_of(scope.alloc, scope.things.as_slice())?;
-    unit_behind(scope, externals)
+    let keys = keys_of(scope.alloc, scope.things.as_slice())?;
+    unit_behind(scope, externals, keys)
 }

@@ -31,6 +31,7 @@ pub trait Host {
 
         ensures takes { (state self.new).takes ≡ (state self.old).takes }
         ensures later { (state self.old).faults ≤ (state self.new).faults }
+        ensures still { OnOk result ((state self.new).faults ≡ (state self.old).faults) }
 
         // The causes of the errors; want of memory has none.
         ensures failed { result ≡ Err HostFault.Failed

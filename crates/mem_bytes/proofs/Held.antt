@@ -59,7 +59,7 @@ held_value scalar (Code f) = held_pointer (Code f) tt
 
 -- ---- blocks
 
-held_part : (block : Block) (offset : ℕ) (cells : List Cell) → All IsHeld block.cells → All IsHeld cells → All IsHeld (with_part block offset cells).cells
+pub held_part : (block : Block) (offset : ℕ) (cells : List Cell) → All IsHeld block.cells → All IsHeld cells → All IsHeld (with_part block offset cells).cells
 held_part block offset cells old new =
     All-append IsHeld (take offset block.cells ++ cells) (drop (offset + length cells) block.cells)
     (All-append IsHeld (take offset block.cells) cells (All-take IsHeld offset block.cells old) new)
@@ -88,27 +88,27 @@ held_copy block source new offset from count old read e =
 -- ---- memories
 
 -- a live block of a memory with another block is that block, or was live before
-live_of_set : (memory : Blocks) (number other : ℕ) (new block : Block) → live_block (slice_set memory other (Some new)) number ≡ Some block → (live_block memory number ≡ Some block) ⊎ (new ≡ block)
+pub live_of_set : (memory : Blocks) (number other : ℕ) (new block : Block) → live_block (slice_set memory other (Some new)) number ≡ Some block → (live_block memory number ≡ Some block) ⊎ (new ≡ block)
 live_of_set [] number other new block e = inl e
 live_of_set (first ∷ others) zero zero new block e = inr cc
 live_of_set (first ∷ others) zero (suc other) new block e = inl e
 live_of_set (first ∷ others) (suc number) zero new block e = inl e
 live_of_set (first ∷ others) (suc number) (suc other) new block e = live_of_set others number other new block e
 
-live_of_kill : (memory : Blocks) (number other : ℕ) (block : Block) → live_block (slice_set memory other None) number ≡ Some block → live_block memory number ≡ Some block
+pub live_of_kill : (memory : Blocks) (number other : ℕ) (block : Block) → live_block (slice_set memory other None) number ≡ Some block → live_block memory number ≡ Some block
 live_of_kill [] number other block e = e
 live_of_kill (first ∷ others) zero zero block e = cc
 live_of_kill (first ∷ others) zero (suc other) block e = e
 live_of_kill (first ∷ others) (suc number) zero block e = e
 live_of_kill (first ∷ others) (suc number) (suc other) block e = live_of_kill others number other block e
 
-live_of_push : (memory : Blocks) (number : ℕ) (new block : Block) → live_block (memory ++ Some new ∷ []) number ≡ Some block → (live_block memory number ≡ Some block) ⊎ (new ≡ block)
+pub live_of_push : (memory : Blocks) (number : ℕ) (new block : Block) → live_block (memory ++ Some new ∷ []) number ≡ Some block → (live_block memory number ≡ Some block) ⊎ (new ≡ block)
 live_of_push [] zero new block e = inr cc
 live_of_push [] (suc number) new block e = cc
 live_of_push (first ∷ others) zero new block e = inl e
 live_of_push (first ∷ others) (suc number) new block e = live_of_push others number new block e
 
-held_set : (memory : Blocks) (other : ℕ) (new : Block) → HoldsCells memory → All IsHeld new.cells → HoldsCells (slice_set memory other (Some new))
+pub held_set : (memory : Blocks) (other : ℕ) (new : Block) → HoldsCells memory → All IsHeld new.cells → HoldsCells (slice_set memory other (Some new))
 held_set memory other new held cells number block live =
     ⊎_elim
     (λ (old : live_block memory number ≡ Some block). held number block old)
@@ -120,7 +120,7 @@ held_change memory after other step held keeps e =
     let c = changed memory after other step e in
     subst HoldsCells (sym c.made) (held_set memory other c.new held (keeps c.block c.new (held other c.block c.live) c.stepped))
 
-held_push : (memory : Blocks) (size align : ℕ) → HoldsCells memory → HoldsCells (memory ++ Some (new_block size align) ∷ [])
+pub held_push : (memory : Blocks) (size align : ℕ) → HoldsCells memory → HoldsCells (memory ++ Some (new_block size align) ∷ [])
 held_push memory size align held number block live =
     ⊎_elim
     (λ (old : live_block memory number ≡ Some block). held number block old)

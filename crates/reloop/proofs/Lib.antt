@@ -7,6 +7,7 @@ pub mod Marked
 pub mod Parting
 pub mod Planned
 pub mod Putting
+pub mod Rounds
 pub mod Searching
 pub mod Sets
 pub mod Shaped

@@ -29,11 +29,11 @@ use Rattle.rs_value.specs.Views.{typed_view}
 use Rattle.rs_scene.specs.Frames.{frame_begins, without_blocks}
 use Rattle.rs_scene.specs.Scenes.{held_local}
 use Rattle.rs_scene.specs.declared.scene.HeldLocal.{HeldLocal}
-use Rattle.rs_machine.specs.Does.{End, gives, stops, Stopped, no_units, went_wrong, Does}
+use Rattle.rs_machine.specs.Does.{End, gives, stops, Stopped, no_memory, no_units, went_wrong, Does}
 use Rattle.rs_machine.specs.States.{State, Kept, state}
 use Rattle.rs_machine.specs.Moves.{TookUnit}
 use Rattle.rs_machine.proofs.Pieces.{then_does, stops_first, same_does, Quiet}
-use Rattle.rs_machine.proofs.Rules.{pure_is, fails_does, true_does, false_does, local_does, TakesUnit, unit_does, no_unit_does}
+use Rattle.rs_machine.proofs.Rules.{memory_here, pure_is, fails_does, true_does, false_does, local_does, TakesUnit, unit_does, no_unit_does}
 use Rattle.rs_scene.proofs.Sequences.{behind_none, joined_does, no_more, one_more}
 
 -- ---- arguments
@@ -50,6 +50,14 @@ module _ (frame : Frame) where
   arg_stops done list others one {stop = stop} {first = first} {second = second} is does =
       subst (λ (items : List RExpr). Does (seq (run_exprs frame (exprs (map expr_view items))) (λ more. pure (done ++ more))) (stops stop) first second) (sym is)
       (stops_first _ (stops_first _ does))
+
+  -- memory was wanting for the value of an argument
+  pub arg_unheld : (before : List TypedValue) (value : TypedValue) (list others : List RExpr) (one : RExpr) {first second : State} → list ≡ one ∷ others →
+      Does (run_expr frame (expr_view one)) (gives (typed_view value)) first second →
+      Does (seq (run_exprs frame (exprs (map expr_view list))) (λ more. pure (map typed_view before ++ more))) (stops no_memory) first second
+  arg_unheld before value list others one {first = first} {second = second} is does =
+      subst (λ (items : List RExpr). Does (seq (run_exprs frame (exprs (map expr_view items))) (λ more. pure (map typed_view before ++ more))) (stops no_memory) first second) (sym is)
+      (stops_first _ (then_does _ does memory_here))
 
   pub args_go : (before after : List TypedValue) (value : TypedValue) (list others : List RExpr) (one : RExpr) {end : End (List Typed)} {first second third : State} →
       list ≡ one ∷ others → after ≡ before ++ value ∷ [] → Does (run_expr frame (expr_view one)) (gives (typed_view value)) first second →

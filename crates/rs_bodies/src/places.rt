@@ -55,7 +55,7 @@ fn deref<'t, S: Store, H: Host>(
     operand: &'t RExpr,
 ) -> Result<ValueSpot<'t>, Halt<'t>>
     requires { IsScene scene }
-    ensures { Does (seq (run_expr (frame_view scene.entry) (expr_view operand.now)) spot_of_pointer) (end_of spot_view result)
+    ensures { Does (seq (run_expr (frame_view scene.entry) (expr_view operand.now)) (spot_of_pointer (map module_view scene.entry.modules.now))) (end_of spot_view result)
         (state machine.old (S.memory store.old) (S.limit store.old) (H.state host.old)) (state machine.new (S.memory store.new) (S.limit store.new) (H.state host.new)) }
 {
     if room == 0 {
@@ -65,7 +65,7 @@ fn deref<'t, S: Store, H: Host>(
         Ok(pointer) => pointer,
         Err(halt) => return Err(halt),
     };
-    target_spot(pointer)
+    target_spot(store, scene.modules, pointer)
 }
 
 /// A field of a record.

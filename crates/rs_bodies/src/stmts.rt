@@ -233,7 +233,7 @@ fn store_in<'t, S: Store>(
     ensures { StoreDoes (seq (piece.store (spot_view spot.entry) (typed_view value.entry).value) goes_on) (end_of flow_view result)
         (S.memory store.old) (S.memory store.new) (S.limit store.old) (S.limit store.new) }
 {
-    match store_at(store, spot.ty, spot.at, value.value) {
+    match store_at(store, spot.is_based, spot.ty, spot.at, value.value) {
         Ok(()) => Ok(Flow::Normal),
         Err(halt) => Err(halt),
     }

@@ -1,5 +1,5 @@
 -- What the run of a whole crate came to, in the words of its contract.
-use Rattle.std.proofs.Common.{◌≡◌, ◌∙◌, refl, sym, ap, subst, arith, ℤ, ℕ, ◌+◌, ◌<◌, ◌≤◌, true, false, List, [], ◌++◌, Option, option_map, append-nil}
+use Rattle.std.proofs.Common.{◌≡◌, ◌∙◌, refl, sym, ap, subst, arith, ℤ, ℕ, suc, ◌+◌, ◌-◌, ◌<◌, ◌≤◌, true, false, List, [], ◌++◌, Option, option_map, append-nil}
 use Rattle.cr_base.specs.Count.{Rose}
 use Rattle.cr_runs.specs.Runs.{Ran, came, halted, bad, out, state_of}
 use Rattle.cr_world.specs.World.{World, Stop, wrong, full, asks, trail_of, first_world}
@@ -14,11 +14,12 @@ use Rattle.rs_mean.proofs.Unfolded.{main_unfolds}
 use Rattle.rs_text.specs.Tree.{ModuleTree, CrateTree}
 use Rattle.rs_machine.specs.Does.{Stopped, ended, went_wrong, no_units, store_full, refused, failed, no_memory, stops, Ending, ends_with, breaks_off, runs_out, ran_of, IsAt, IsOut, Breaks, DoesBy, Does}
 use Rattle.rs_machine.specs.States.{State, world_at, AreGiven, AreTaken}
-use Rattle.rs_exec.specs.Ends.{IsOutcome, start, RunsTo}
-use Rattle.rs_exec.specs.Exec.{outside_of, progress_within, world_within, IsProgress, IsLeast, TookSteps, AsksHost, HasFailed}
+use Rattle.rs_exec.specs.Ends.{IsOutcome, start, steps_told, RunsTo}
+use Rattle.rs_exec.specs.Exec.{outside_of, progress_within, world_within, IsProgress, IsLeast, TookBefore, TookSteps, AsksHost, HasFailed}
 use Rattle.rs_exec.specs.declared.outcome.ROutcome.{ROutcome}
 use Rattle.rs_exec.specs.declared.outcome.ROutcome.TheVariants.{Ended, Wrong, StepsUsed, StoreFull, HostRefused, HostFault}
 use Rattle.rs_exec.specs.declared.outcome.RRun.{RRun}
+use Rattle.rs_exec.proofs.Unasked.{asked_later}
 
 -- all that is said of a run
 pub record IsRun (whole : CrateTree) (steps : ℕ) (limit : Option Limit) (host later : HostState) (outcome : ROutcome) (trail : List ℤ) (taken : ℕ) : Type 0 where
@@ -108,6 +109,21 @@ module _ (whole : CrateTree) (steps : ℕ) (limit : Option Limit) (host : HostSt
         },
       )
 
+  -- at a call at which the host stopped it, which took a unit
+  before_call : (call : Call) (outcome : ROutcome) (taken : ℕ) → ending ≡ breaks_off (asks call) → steps ≡ taken + after.units → IsAt ending [] 0 →
+      (IsProgress outcome (seen_of (ran_of ending (world_at after breaks.between.calls []))).progress) →
+      TookBefore whole limit steps after.trail outcome (taken - 1)
+  before_call call outcome taken asking sum is comes =
+      let stops : ran_of {B = Unit {0}} ending (world_at after breaks.between.calls []) ≡ bad (asks call) (world_at after breaks.between.calls []) =
+      ap (λ (one : Ending). ran_of {B = Unit {0}} one (world_at after breaks.between.calls [])) asking in
+      let later = asked_later whole _ _ call breaks.between.taken (breaks.goes [] [] 0 is ∙ stops) in
+      let same : taken ≡ breaks.between.taken = omega (arith, sum, breaks.between.units) in
+      let again : suc (taken - 1) ≡ taken = omega (arith, same, later) in
+      let found = least outcome taken sum is comes in (
+        omega (arith, again, found.0),
+        subst (λ (n : ℕ). IsLeast whole limit after.trail outcome n) (sym again) found.1,
+      )
+
 -- ---- by the way in which it stopped
 
 module _ (whole : CrateTree) (steps : ℕ) (limit : Option Limit) (host : HostState) (after : State) (taken : ℕ) (sum : steps ≡ taken + after.units) where
@@ -115,7 +131,7 @@ module _ (whole : CrateTree) (steps : ℕ) (limit : Option Limit) (host : HostSt
   Main = run_main whole (bodies_of whole.modules)
 
   abbrev Is : ROutcome → Type 0
-  Is outcome = IsRun whole steps limit host after.host outcome after.trail taken
+  Is outcome = IsRun whole steps limit host after.host outcome after.trail (steps_told outcome taken)
 
   by_end : (status : ℤ) → Breaks Main (ends_with status) (start steps limit host) after → Is (Ended status)
   by_end status breaks = record {
@@ -169,7 +185,7 @@ module _ (whole : CrateTree) (steps : ℕ) (limit : Option Limit) (host : HostSt
   by_refusal name call named declined breaks = record {
     progress = (call, progress_is whole steps limit host after (breaks_off (asks call)) breaks refl, named);
     answers = trail_is whole steps limit host after (breaks_off (asks call)) breaks refl;
-    units = least whole steps limit host after (breaks_off (asks call)) breaks (HostRefused name) taken sum refl (call, refl, named);
+    units = before_call whole steps limit host after (breaks_off (asks call)) breaks call (HostRefused name) taken refl sum refl (call, refl, named);
     told = told_is whole steps limit host after (breaks_off (asks call)) breaks refl;
     given = given_is whole steps limit host after (breaks_off (asks call)) breaks refl;
     takes = takes_is whole steps limit host after (breaks_off (asks call)) breaks refl;
@@ -182,7 +198,7 @@ module _ (whole : CrateTree) (steps : ℕ) (limit : Option Limit) (host : HostSt
   by_fault call accepted rose breaks = record {
     progress = (call, progress_is whole steps limit host after (breaks_off (asks call)) breaks refl);
     answers = trail_is whole steps limit host after (breaks_off (asks call)) breaks refl;
-    units = least whole steps limit host after (breaks_off (asks call)) breaks HostFault taken sum refl (call, refl);
+    units = before_call whole steps limit host after (breaks_off (asks call)) breaks call HostFault taken refl sum refl (call, refl);
     told = told_is whole steps limit host after (breaks_off (asks call)) breaks refl;
     given = given_is whole steps limit host after (breaks_off (asks call)) breaks refl;
     takes = takes_is whole steps limit host after (breaks_off (asks call)) breaks refl;
@@ -191,7 +207,7 @@ module _ (whole : CrateTree) (steps : ℕ) (limit : Option Limit) (host : HostSt
     failed = rose;
   }
 
-  by_stop : (stop : Stopped) (outcome : ROutcome) → IsOutcome stop outcome → DoesBy Main (stops stop) (start steps limit host) after → Is outcome
+  pub by_stop : (stop : Stopped) (outcome : ROutcome) → IsOutcome stop outcome → DoesBy Main (stops stop) (start steps limit host) after → Is outcome
   by_stop (ended status) outcome is by = subst Is (sym is) (by_end status by)
   by_stop (went_wrong why) outcome is by = subst Is (sym is) (by_wrong why by)
   by_stop no_units outcome is by = subst Is (sym is) (by_units by.none by.stops)
@@ -206,7 +222,8 @@ pub is_run : (whole : CrateTree) (steps : ℕ) (limit : Option Limit) (host late
 is_run whole steps limit host later run runs =
     subst (λ (one : HostState). IsRun whole steps limit host one run.outcome run.trail run.steps) runs.last
     (subst (λ (trail : List ℤ). IsRun whole steps limit host runs.after.host run.outcome trail run.steps) (sym runs.trail)
-    (by_stop whole steps limit host runs.after run.steps runs.units runs.stop run.outcome runs.outcome runs.does.by))
+    (subst (λ (told : ℕ). IsRun whole steps limit host runs.after.host run.outcome runs.after.trail told) (sym runs.told)
+    (by_stop whole steps limit host runs.after runs.taken runs.units runs.stop run.outcome runs.outcome runs.does.by)))
 
 pub is_run_by : (modules others : List ModuleTree) (entry steps : ℕ) (limit : Option Limit) (host later : HostState) (run : RRun) → modules ≡ others →
     RunsTo (record { modules = modules; entry = entry }) steps limit host later run → IsRun (record { modules = others; entry = entry }) steps limit host later run.outcome run.trail run.steps

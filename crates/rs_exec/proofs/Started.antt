@@ -42,7 +42,7 @@ use Rattle.rs_machine.specs.Does.{End, gives, stops, Stopped, ended, went_wrong,
 use Rattle.rs_machine.specs.States.{Kept, State, state}
 use Rattle.rs_machine.proofs.Pieces.{then_does, stops_first}
 use Rattle.rs_machine.proofs.Rules.{pure_does, fails_does, ends_does, memory_does}
-use Rattle.rs_exec.specs.Ends.{IsOutcome, RunsTo}
+use Rattle.rs_exec.specs.Ends.{IsOutcome, RunsTo, steps_told}
 use Rattle.rs_exec.specs.declared.outcome.RRun.{RRun}
 use Rattle.rs_bodies.proofs.Turned.{Follows}
 
@@ -190,7 +190,7 @@ exits_by status no_units is = absurd is
 exits_by status (store_full need left) is = absurd is
 exits_by status (refused name) is = absurd is
 exits_by status failed is = absurd is
-exits_by status no_memory is = λ at. memory_does (ends status) at at
+exits_by status no_memory is = λ at. memory_does (ends status) at at refl
 
 -- ---- a whole run
 
@@ -206,11 +206,11 @@ pub if_ok : {P Q : RRun → Type 0} (result : Result RRun Memory) → ((run : RR
 if_ok (Ok run) implies is = implies run is
 if_ok (Err memory) implies is = is
 
-pub runs_to : (whole : CrateTree) (steps left : ℕ) (limit last : Option Limit) (host later : HostState) (kept after : Kept) (blocks new : Blocks) (stop : Stopped) (run : RRun) →
+pub runs_to : (whole : CrateTree) (steps left taken : ℕ) (limit last : Option Limit) (host later : HostState) (kept after : Kept) (blocks new : Blocks) (stop : Stopped) (run : RRun) →
     kept ≡ record { trail = []; heap = []; units = steps } → blocks ≡ [] → IsOutcome stop run.outcome →
     Does (run_main whole (bodies_of whole.modules)) (stops stop) (state kept blocks limit host) (state after new last later) →
-    run.trail ≡ after.trail → left ≡ after.units → steps ≡ run.steps + left → RunsTo whole steps limit host later run
-runs_to whole steps left limit last host later kept after blocks new stop run kept_is none outcome does trail left_is sum = record {
+    run.trail ≡ after.trail → left ≡ after.units → run.steps ≡ steps_told run.outcome taken → steps ≡ taken + left → RunsTo whole steps limit host later run
+runs_to whole steps left taken limit last host later kept after blocks new stop run kept_is none outcome does trail left_is told sum = record {
   stop = stop;
   outcome = outcome;
   after = state after new last later;
@@ -218,6 +218,8 @@ runs_to whole steps left limit last host later kept after blocks new stop run ke
       subst (λ (list : Blocks). Does (run_main whole (bodies_of whole.modules)) (stops stop) (state (record { trail = []; heap = []; units = steps }) list limit host) (state after new last later)) none
       (subst (λ (one : Kept). Does (run_main whole (bodies_of whole.modules)) (stops stop) (state one blocks limit host) (state after new last later)) kept_is does);
   trail = trail;
+  taken = taken;
   units = omega (arith, sum, left_is);
+  told = told;
   last = refl;
 }

@@ -1,5 +1,5 @@
 -- How a run of a whole crate ended, as its engine holds it.
-use Rattle.std.specs.Prelude.{◌≡◌, ℕ, ◌+◌, [], Option}
+use Rattle.std.specs.Prelude.{◌≡◌, ℕ, ◌+◌, ◌-◌, [], Option}
 use Rattle.cr_world.specs.Held.{nothing_held}
 use Rattle.ext_calls.specs.Host.{HostState}
 use Rattle.mem_bytes.specs.Counted.{Limit}
@@ -22,6 +22,15 @@ IsOutcome (refused name) outcome = outcome ≡ HostRefused name
 IsOutcome failed outcome = outcome ≡ HostFault
 IsOutcome no_memory outcome = ⊥
 
+-- the units that are told of so many that were taken: without that of a call at which the host stopped the run
+abbrev pub steps_told : ROutcome → (taken : ℕ) → ℕ
+steps_told (Ended status) taken = taken
+steps_told (Wrong why) taken = taken
+steps_told StepsUsed taken = taken
+steps_told (StoreFull need left) taken = taken
+steps_told (HostRefused name) taken = taken - 1
+steps_told HostFault taken = taken - 1
+
 -- before the program begins
 abbrev pub start : ℕ → Option Limit → HostState → State
 start steps limit host = record { held = nothing_held; trail = []; units = steps; limit = limit; host = host }
@@ -33,5 +42,7 @@ pub record RunsTo (whole : CrateTree) (steps : ℕ) (limit : Option Limit) (host
   pub after : State
   pub does : Does (run_main whole (bodies_of whole.modules)) (stops stop) (start steps limit host) after
   pub trail : run.trail ≡ after.trail
-  pub units : steps ≡ run.steps + after.units
+  pub taken : ℕ
+  pub units : steps ≡ taken + after.units
+  pub told : run.steps ≡ steps_told run.outcome taken
   pub last : after.host ≡ later

@@ -34,7 +34,8 @@ fn store_literal<'t, S: Store>(
 {
     let byte = RTy::Integer(IntegerTy::I8);
     let number = Value::Whole(converted_to(IntegerTy::I8, *literal));
-    store_at(store, &byte, Value::Object(Ptr { block, offset }), number)
+    let at = Value::Object(Ptr { block, offset });
+    store_at(store, true, &byte, at, number)
 }
 
 // Literals are stored side by side, from the first byte of a block on.

@@ -1,5 +1,5 @@
 ghost use Rattle.std.specs.Prelude.{◌≡◌, IfOk};
-ghost use Rattle.rs_exec.specs.Ends.{IsOutcome};
+ghost use Rattle.rs_exec.specs.Ends.{IsOutcome, steps_told};
 ghost use Rattle.rs_machine.specs.Does.{stopped_by};
 
 use cr_base::{Items, Memory, Name};
@@ -31,7 +31,7 @@ pub struct RRun {
     /// The answers that the run took, in order: of each call of a function whose effect isn't known what
     /// the host answered, and of each allocation 0 where the store refused the block and 1 otherwise.
     pub trail: Items<i64>,
-    /// How many units of the budget it took.
+    /// How many units of the budget it took; where the host stopped it at a call, before that call.
     pub steps: u64,
 }
 
@@ -40,6 +40,19 @@ fn refused(alloc: Global, name: &[u8]) -> Result<ROutcome, Memory>
 {
     let name = Vec::from_slice(alloc, name)?;
     Ok(ROutcome::HostRefused(Name::of(name)))
+}
+
+/// The units that are told of so many that were taken.
+pub(crate) fn steps_told(outcome: &ROutcome, taken: u64) -> u64
+    ensures { result ≡ steps_told outcome.now taken }
+{
+    match outcome {
+        ROutcome::Ended(_)
+        | ROutcome::Wrong(_)
+        | ROutcome::StepsUsed
+        | ROutcome::StoreFull { .. } => taken,
+        ROutcome::HostRefused(_) | ROutcome::HostFault => taken.saturating_sub(1),
+    }
 }
 
 /// Why a run went no further, as its outcome; want of memory has none.

@@ -1,15 +1,15 @@
 //! The run of a crate.
 
-ghost use Rattle.std.specs.Prelude.{◌≡◌, ◌≤◌, ◌++◌, [], true, IfOk, map, option_map};
+ghost use Rattle.std.specs.Prelude.{◌≡◌, ◌≤◌, ◌++◌, [], true, IfOk, OnErr, map, option_map};
 ghost use Rattle.rs_exec.specs.Ends.{RunsTo};
-ghost use Rattle.rs_exec.specs.Exec.{AsksHost, HasFailed, IsProgress, TookSteps, progress_within, world_within};
+ghost use Rattle.rs_exec.specs.Exec.{AsksHost, HasFailed, IsProgress, IsShort, TookSteps, progress_within, world_within};
 ghost use Rattle.rs_machine.specs.States.{AreGiven, AreTaken};
 ghost use Rattle.rs_mean.specs.Typing.{well_typed};
 ghost use Rattle.rs_text.specs.Valid.{valid_crate};
 ghost use Rattle.rs_scene.specs.Scenes.{IsScene};
 ghost use Rattle.rs_tree.specs.Views.{crate_view, module_view};
 
-use crate::outcome::{RRun, outcome_of};
+use crate::outcome::{RRun, outcome_of, steps_told};
 use crate::program::main_run;
 use cr_base::Memory;
 use ext_calls::Host;
@@ -33,7 +33,8 @@ fn run_scene<'t, S: Store, H: Host>(
 ) -> Result<RRun, Memory>
     requires scene { IsScene scene }
     requires empty { S.memory store.old ≡ [] }
-    ensures { IfOk result (λ run. RunsTo (record { modules = map module_view scene.entry.modules.now; entry = number }) steps (S.limit store.old) (H.state host.old) (H.state host.new) run) }
+    ensures run { IfOk result (λ run. RunsTo (record { modules = map module_view scene.entry.modules.now; entry = number }) steps (S.limit store.old) (H.state host.old) (H.state host.new) run) }
+    ensures short { OnErr result (IsShort (record { modules = map module_view scene.entry.modules.now; entry = number }) (S.limit store.old) steps (H.state host.old) (H.state host.new)) }
 {
     let mut machine = Machine::new(alloc, steps);
     let halt = main_run(&mut machine, store, host, scene, MOST_ROOM, number);
@@ -42,10 +43,11 @@ fn run_scene<'t, S: Store, H: Host>(
         Ok(outcome) => outcome,
         Err(_) => return Err(Memory),
     };
+    let told = steps_told(&outcome, steps - left);
     Ok(RRun {
         outcome,
         trail: machine.into_trail(),
-        steps: steps - left,
+        steps: told,
     })
 }
 
@@ -79,7 +81,7 @@ pub fn run_rust<S: Store, H: Host>(
     ensures trail { IfOk result (λ run.
         (world_within (crate_view whole.now) (S.limit store.old) run.trail steps).answers ≡ []) }
 
-    // The units that it took.
+    // The units that it took, and where the host stopped it at a call, those before that call.
     ensures taken { IfOk result (λ run. TookSteps (crate_view whole.now) (S.limit store.old) steps run.trail run.outcome run.steps) }
 
     // The calls that it made, with the answers of the host.
@@ -96,6 +98,9 @@ pub fn run_rust<S: Store, H: Host>(
     ensures asks { IfOk result (λ run. AsksHost (H.state host.old) run.outcome
         (progress_within (crate_view whole.now) (S.limit store.old) run.trail steps)) }
     ensures failed { IfOk result (λ run. HasFailed (H.state host.old) (H.state host.new) run.outcome) }
+
+    // Where memory is wanting, the host was asked for what the run asks within some of the units.
+    ensures short { OnErr result (IsShort (crate_view whole.now) (S.limit store.old) steps (H.state host.old) (H.state host.new)) }
 {
     let modules = whole.modules.as_slice();
     let statics = match statics_of(alloc, modules) {

@@ -1,5 +1,5 @@
 -- What operators find of values, as steps.
-use Rattle.std.proofs.Common.{◌≡◌, sym, subst, Result, Ok, Err}
+use Rattle.std.proofs.Common.{refl, ◌≡◌, sym, subst, Result, Ok, Err}
 use Rattle.rs_mean.specs.declared.cause.Cause.{Cause}
 use Rattle.rs_mean.specs.World.{or_fails}
 use Rattle.rs_value.specs.Finds.{Finds}
@@ -17,4 +17,4 @@ none_found view found (trouble.Wrong why) stop finds is = λ at.
     subst (λ (one : Stopped). Does (or_fails found) (stops one) at at) (sym is)
     (subst (λ (one : Result _ Cause). Does (or_fails one) (stops (went_wrong why)) at at) (sym finds) (fails_does why at))
 none_found view found trouble.Memory stop finds is = λ at.
-    subst (λ (one : Stopped). Does (or_fails found) (stops one) at at) (sym is) (memory_does (or_fails found) at at)
+    subst (λ (one : Stopped). Does (or_fails found) (stops one) at at) (sym is) (memory_does (or_fails found) at at refl)

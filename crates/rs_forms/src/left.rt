@@ -101,7 +101,7 @@ fn store_left<'t, S: Store>(store: &mut S, spot: ValueSpot<'t>, value: TypedValu
     ensures { (frame : Frame) → IsLeft frame (seq (piece.store (spot_view spot.entry) (typed_view value.entry).value) goes_on) result
         (S.memory store.old) (S.memory store.new) (S.limit store.old) (S.limit store.new) }
 {
-    match store_at(store, spot.ty, spot.at, value.value) {
+    match store_at(store, spot.is_based, spot.ty, spot.at, value.value) {
         Ok(()) => Left::Nothing,
         Err(halt) => Left::Halted(halt),
     }

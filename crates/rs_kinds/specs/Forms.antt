@@ -5,8 +5,8 @@ use Rattle.rs_mean.specs.Lookups.{Signature}
 use Rattle.rs_mean.specs.Typing.{Kind, Scope, args_fit, given_kind, is_code, is_function_of, is_of_type, is_target, only_if, own_function_at, type_stands}
 
 -- the address of a place
-abbrev pub address_kind : List ModuleTree → Option Ty → Option Kind
-address_kind modules found = option_and_then (λ ty. only_if (is_target modules ty) (Pointer ty)) found
+abbrev pub address_kind : Option Ty → Option Kind
+address_kind found = option_and_then (λ ty. only_if (is_target ty) (Pointer ty)) found
 
 -- a function pointer as one of another type
 abbrev pub transmute_kind : List ModuleTree → Ty → Ty → Option Kind → Option Kind
@@ -15,7 +15,8 @@ transmute_kind modules from to kind =
 
 -- the address of a function
 abbrev pub function_kind : List ModuleTree → List ℕ → List ℕ → Tys → OptionTy → Option Kind
-function_kind modules m x params result = only_if (is_function_of params result (own_function_at modules m x)) (Code params result)
+function_kind modules m x params result =
+    only_if (type_stands modules (Code params result) && is_function_of params result (own_function_at modules m x)) (Code params result)
 
 -- what a call gives
 abbrev pub call_kind : Scope → Option Signature → Exprs → Option Kind

@@ -56,7 +56,7 @@ pub(crate) fn kind_of<'t>(scope: HeldScope<'t>, expr: &'t RExpr) -> Option<HeldK
         RExpr::CallBy(operand, args) => {
             call_kind(scope, pointed_types(kind_of(scope, operand.get())), args)
         }
-        RExpr::AddressOf(place) => address_kind(scope.modules, place_type(scope, place.get())),
+        RExpr::AddressOf(place) => address_kind(place_type(scope, place.get())),
         RExpr::NullPointer(ty) => null_pointer_kind(scope.modules, ty.get()),
         RExpr::SomeFunction(path, params, given) => {
             function_kind(scope.modules, path, params, given)
@@ -94,12 +94,10 @@ fn kind_of_two<'t>(scope: HeldScope<'t>, expr: &'t RExpr) -> Option<HeldKind<'t>
             both_integers(kind_of(scope, operand.get()), kind_of(scope, arg.get()))
         }
         RExpr::Offset(operand, arg) => offset_kind(
-            scope.modules,
             kind_of(scope, operand.get()),
             kind_of(scope, arg.get()),
         ),
         RExpr::OffsetFrom(operand, arg) => apart_kind(
-            scope.modules,
             kind_of(scope, operand.get()),
             kind_of(scope, arg.get()),
         ),

@@ -16,7 +16,9 @@ use crate::kind::{HeldKind, common, is_of_pointer, kept, kind_of_type};
 use crate::operands::{casts, is_integer_of, is_of_type};
 use crate::same::same_results;
 use crate::signature::are_types_of;
-use crate::stands::{is_scalar_type, is_target, pointer_stands, type_stands};
+use crate::stands::{
+    is_scalar_type, is_target, params_stand, pointer_stands, result_stands, type_stands,
+};
 use cr_base::{Boxed, Items, Name};
 use rs_layout::{field_type_at, own_function_at};
 use rs_tree::{IntegerTy, Module, RPath, RTy};
@@ -32,12 +34,11 @@ pub(crate) fn read_kind(ty: Option<&RTy>) -> Option<HeldKind<'_>>
 }
 
 /// The address of a place of a type.
-pub(crate) fn address_kind<'t>(modules: &[Module], ty: Option<&'t RTy>) -> Option<HeldKind<'t>>
-    requires { ModulesAreAligned (map module_view modules.now) }
-    ensures { option_map kind_view result ≡ forms.address_kind (map module_view modules.now) (option_map ty_view (option_copied ty.entry)) }
+pub(crate) fn address_kind<'t>(ty: Option<&'t RTy>) -> Option<HeldKind<'t>>
+    ensures { option_map kind_view result ≡ forms.address_kind (option_map ty_view (option_copied ty.entry)) }
 {
     match ty {
-        Some(ty) => kept(is_target(modules, ty), HeldKind::Pointer(ty)),
+        Some(ty) => kept(is_target(ty), HeldKind::Pointer(ty)),
         None => None,
     }
 }
@@ -52,16 +53,14 @@ pub(crate) fn null_pointer_kind<'t>(modules: &[Module], ty: &'t RTy) -> Option<H
 
 /// `offset`.
 pub(crate) fn offset_kind<'t>(
-    modules: &[Module],
     pointer: Option<HeldKind<'t>>,
     count: Option<HeldKind<'_>>,
 ) -> Option<HeldKind<'t>>
-    requires { ModulesAreAligned (map module_view modules.now) }
-    ensures { option_map kind_view result ≡ typing.offset_kind (map module_view modules.now) (own_type (option_map kind_view pointer.entry)) (option_map kind_view count.entry) }
+    ensures { option_map kind_view result ≡ typing.offset_kind (own_type (option_map kind_view pointer.entry)) (option_map kind_view count.entry) }
 {
     match pointer {
         Some(HeldKind::Pointer(target)) => kept(
-            is_target(modules, target) && is_integer_of(IntegerTy::Isize, count),
+            is_target(target) && is_integer_of(IntegerTy::Isize, count),
             HeldKind::Pointer(target),
         ),
         _ => None,
@@ -79,16 +78,14 @@ fn is_pointer_to(target: &RTy, kind: Option<HeldKind<'_>>) -> bool
 
 /// `offset_from`.
 pub(crate) fn apart_kind<'t>(
-    modules: &[Module],
     pointer: Option<HeldKind<'_>>,
     other: Option<HeldKind<'_>>,
 ) -> Option<HeldKind<'t>>
-    requires { ModulesAreAligned (map module_view modules.now) }
-    ensures { option_map kind_view result ≡ typing.apart_kind (map module_view modules.now) (own_type (option_map kind_view pointer.entry)) (option_map kind_view other.entry) }
+    ensures { option_map kind_view result ≡ typing.apart_kind (own_type (option_map kind_view pointer.entry)) (option_map kind_view other.entry) }
 {
     match pointer {
         Some(HeldKind::Pointer(target)) => kept(
-            is_target(modules, target) && is_pointer_to(target, other),
+            is_target(target) && is_pointer_to(target, other),
             HeldKind::Integer(IntegerTy::Isize),
         ),
         _ => None,
@@ -153,17 +150,20 @@ fn is_function_of(
     }
 }
 
-/// The address of a function with a body that has just these types.
+/// The address of a function with a body that has just these types, which stand.
 pub(crate) fn function_kind<'t>(
     modules: &[Module],
     path: &RPath,
     params: &'t Items<RTy>,
     given: &'t Option<Boxed<RTy>>,
 ) -> Option<HeldKind<'t>>
+    requires { ModulesAreAligned (map module_view modules.now) }
     ensures { option_map kind_view result ≡ forms.function_kind (map module_view modules.now) path.now.home path.now.name (tys (map ty_view params.now)) (option_ty (option_map ty_view given.now)) }
 {
     kept(
-        is_function_of(modules, path, params, given),
+        params_stand(modules, params)
+            && result_stands(modules, given)
+            && is_function_of(modules, path, params, given),
         HeldKind::Code(params, given),
     )
 }
@@ -174,7 +174,6 @@ pub(crate) fn field_type<'t>(
     name: &Name,
     ty: Option<&RTy>,
 ) -> Option<&'t RTy>
-    requires { ModulesAreAligned (map module_view modules.now) }
     ensures { option_map ty_view (option_copied result) ≡ typing.field_type (map module_view modules.now) name.now (option_map ty_view (option_copied ty.entry)) }
 {
     match ty {

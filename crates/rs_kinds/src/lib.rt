@@ -14,5 +14,5 @@ mod stmts;
 
 pub use same::{is_integer_of, same_results, same_type};
 pub use scope::{HeldScope, Labels};
-pub use stands::{is_scalar_type, object_stands, params_stand, result_stands, type_stands};
+pub use stands::{is_scalar_type, params_stand, result_stands, type_stands};
 pub use stmts::stmts_typed;

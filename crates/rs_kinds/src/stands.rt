@@ -1,9 +1,10 @@
 //! Types that stand in a crate.
 
-ghost use Rattle.std.specs.Prelude.{◌≡◌, ◌&&◌, map, option_map, is_some};
+ghost use Rattle.std.specs.Prelude.{◌≡◌, ◌&&◌, ◌||◌, map, option_map, is_none, is_some};
 ghost use Rattle.rs_mean.specs.Layout as layout;
 ghost use Rattle.rs_mean.specs.Scalars.{is_scalar};
-ghost use Rattle.rs_mean.specs.Typing.{is_length, object_stands, params_stand, result_stands, type_stands};
+ghost use Rattle.rs_mean.specs.Typing as typing;
+ghost use Rattle.rs_mean.specs.Typing.{is_length, params_stand, result_stands, type_stands};
 ghost use Rattle.rs_text.specs.Tree as tree;
 ghost use Rattle.rs_text.specs.Tree.{tys, option_ty};
 ghost use Rattle.rs_text.specs.Valid.{is_void};
@@ -35,15 +36,24 @@ pub fn is_scalar_type(ty: &RTy) -> bool
     )
 }
 
-/// Whether values of a type have a size that isn't too large: the target of a pointer that is moved.
-pub(crate) fn is_target(modules: &[Module], ty: &RTy) -> bool
-    requires { ModulesAreAligned (map module_view modules.now) }
-    ensures { result ≡ is_some (layout.laid_of (map module_view modules.now) (ty_view ty.now)) }
+/// Whether a type is one of objects: the target of a pointer that is moved, or of an address.
+pub(crate) fn is_target(ty: &RTy) -> bool
+    ensures { result ≡ typing.is_target (ty_view ty.now) }
 {
-    laid_of(modules, ty).is_some()
+    !is_void(ty)
 }
 
-/// Whether a type stands in a crate: its records exist, and its arrays have lengths and aren't too large.
+// Whether an array isn't too large, where its elements are laid out.
+fn array_fits(modules: &[Module], element: &RTy, array: &RTy) -> bool
+    requires { ModulesAreAligned (map module_view modules.now) }
+    ensures { result ≡ (is_none (layout.laid_of (map module_view modules.now) (ty_view element.now))
+        || is_some (layout.laid_of (map module_view modules.now) (ty_view array.now))) }
+{
+    laid_of(modules, element).is_none() || laid_of(modules, array).is_some()
+}
+
+/// Whether a type stands in a crate: its records exist, and its arrays have lengths and aren't too large,
+/// where their elements are laid out.
 #[cycle(stands)]
 pub fn type_stands(modules: &[Module], ty: &RTy) -> bool
     requires { ModulesAreAligned (map module_view modules.now) }
@@ -54,7 +64,9 @@ pub fn type_stands(modules: &[Module], ty: &RTy) -> bool
         RTy::Void => false,
         RTy::Pointer(target) => is_void(target.get()) || type_stands(modules, target.get()),
         RTy::Array(element, size) => {
-            type_stands(modules, element.get()) && is_length(*size) && is_target(modules, ty)
+            type_stands(modules, element.get())
+                && is_length(*size)
+                && array_fits(modules, element.get(), ty)
         }
         RTy::Code(params, given) => params_stand(modules, params) && result_stands(modules, given),
         RTy::Record(path) => record_at(modules, path).is_some(),
@@ -85,14 +97,6 @@ pub fn result_stands(modules: &[Module], given: &Option<Boxed<RTy>>) -> bool
         None => true,
         Some(ty) => is_scalar_type(ty.get()) && type_stands(modules, ty.get()),
     }
-}
-
-/// Whether a type is one of objects, which aren't too large.
-pub fn object_stands(modules: &[Module], ty: &RTy) -> bool
-    requires { ModulesAreAligned (map module_view modules.now) }
-    ensures { result ≡ object_stands (map module_view modules.now) (ty_view ty.now) }
-{
-    type_stands(modules, ty) && is_target(modules, ty)
 }
 
 /// Whether the type of a pointer to a value of this type stands.

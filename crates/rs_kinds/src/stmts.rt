@@ -13,7 +13,7 @@ ghost use Rattle.rs_tree.specs.Views.{ty_view, expr_view, place_view, stmt_view,
 ghost use Rattle.rs_kinds.specs.Calls.{fits_call};
 ghost use Rattle.rs_kinds.specs.Kinds.{kind_view};
 ghost use Rattle.rs_layout.specs.Layouts.{ModulesAreAligned};
-ghost use Rattle.rs_kinds.specs.Scopes.{scope_view};
+ghost use Rattle.rs_kinds.specs.Scopes.{body_view, scope_view};
 ghost use Rattle.rs_kinds.specs.Signatures.{signature_view};
 
 use crate::exprs::{args_fit, kind_of, place_type};
@@ -80,7 +80,7 @@ fn is_to_bytes(kind: Option<HeldKind<'_>>) -> bool
 
 fn gives_type(scope: HeldScope<'_>, value: &Option<Boxed<RExpr>>) -> bool
     requires { ModulesAreAligned (map module_view scope.modules.now) }
-    ensures { result ≡ gives_type (scope_view scope.entry) (scope_view scope.entry).result (option_map expr_view value.now) }
+    ensures { result ≡ gives_type (scope_view scope.entry) (body_view scope.entry).result (option_map expr_view value.now) }
 {
     match (scope.given, value) {
         (None, None) => true,
@@ -123,7 +123,7 @@ fn differs_from(value: Int, others: &[Arm]) -> bool
 #[cycle(stmts)]
 pub(crate) fn stmt_typed(scope: HeldScope<'_>, stmt: &RStmt) -> bool
     requires { ModulesAreAligned (map module_view scope.modules.now) }
-    ensures { result ≡ stmt_typed (scope_view scope.entry) (stmt_view stmt.now) }
+    ensures { result ≡ stmt_typed (body_view scope.entry) (stmt_view stmt.now) }
 {
     match stmt {
         RStmt::Assign(place, value) => assigns(scope, place.get(), value.get()),
@@ -159,7 +159,7 @@ pub(crate) fn stmt_typed(scope: HeldScope<'_>, stmt: &RStmt) -> bool
 #[cycle(stmts)]
 fn stmts_within(scope: HeldScope<'_>, name: &Name, is_loop: bool, body: &Items<RStmt>) -> bool
     requires { ModulesAreAligned (map module_view scope.modules.now) }
-    ensures { result ≡ stmts_typed (typing.with_label name.now is_loop (scope_view scope.entry)) (stmts (map stmt_view body.now)) }
+    ensures { result ≡ stmts_typed (typing.with_label name.now is_loop (body_view scope.entry)) (stmts (map stmt_view body.now)) }
 {
     let labels = Labels::Within {
         name,
@@ -177,7 +177,7 @@ fn stmts_within(scope: HeldScope<'_>, name: &Name, is_loop: bool, body: &Items<R
 #[cycle(stmts)]
 pub fn stmts_typed(scope: HeldScope<'_>, list: &Items<RStmt>) -> bool
     requires { ModulesAreAligned (map module_view scope.modules.now) }
-    ensures { result ≡ stmts_typed (scope_view scope.entry) (stmts (map stmt_view list.now)) }
+    ensures { result ≡ stmts_typed (body_view scope.entry) (stmts (map stmt_view list.now)) }
 {
     for stmt in list.as_slice() {
         if !stmt_typed(scope, stmt) {
@@ -191,7 +191,7 @@ pub fn stmts_typed(scope: HeldScope<'_>, list: &Items<RStmt>) -> bool
 #[cycle(stmts)]
 fn arms_typed(scope: HeldScope<'_>, kind: Option<HeldKind<'_>>, cases: &Items<Arm>) -> bool
     requires { ModulesAreAligned (map module_view scope.modules.now) }
-    ensures { result ≡ arms_typed (scope_view scope.entry) (own_type (option_map kind_view kind.entry)) (arms (map arm_view cases.now)) }
+    ensures { result ≡ arms_typed (body_view scope.entry) (own_type (option_map kind_view kind.entry)) (arms (map arm_view cases.now)) }
 {
     let mut left = cases.as_slice();
     for arm in cases.as_slice() {

@@ -1,6 +1,6 @@
 -- What the code finds is what the definitions of layouts say.
 use Rattle.std.proofs.Common.{◌≡◌, refl, sym, ap, ◌∙◌, subst, arith, ℕ, ◌*◌, ◌<◌, nat_le, Bool, true, false, not, List, [], ◌∷◌, Option, Some, None, IfSome, IsSome, if◌then◌else◌}
-use Rattle.std.specs.Option.{option_and_then, option_map}
+use Rattle.std.specs.Option.{option_and_then}
 use Rattle.std.specs.Prelude.{bytes_eq}
 use Rattle.std.proofs.lemmas.Bool.Decides.{nat_tests}
 use Rattle.cr_base.specs.Layout.{most_bytes, after, no_front, laid}
@@ -9,8 +9,8 @@ use Rattle.cr_base.specs.declared.layout.Laid.{Laid}
 use Rattle.cr_base.proofs.Layouts.{stays_too_large}
 use Rattle.rs_text.specs.Tree.{Ty, Integer, Boolean, Void, Pointer, Array, Code, Record, FieldTree, RecordTree, ItemTree, RecordItem, StaticItem, ExternItem, FunctionItem}
 use Rattle.rs_tree.specs.declared.ty.RPath.{RPath}
-use Rattle.rs_mean.specs.Layout.{laid_with, laid_among, record_laid, repeated, within_most, piece_of, behind, front_after, raised_by, FieldPlace, placed, field_behind}
-use Rattle.rs_layout.specs.Layouts.{record_of, array_laid, plain_laid, FoundRecord, first_found, found_among, by_front, front_behind, fronts, finished, field_type_among, IsAligned, AreAligned}
+use Rattle.rs_mean.specs.Layout.{laid_with, laid_among, record_laid, repeated, within_most, piece_of, behind, front_after, raised_by}
+use Rattle.rs_layout.specs.Layouts.{record_of, array_laid, plain_laid, FoundRecord, first_found, found_among, by_front, front_behind, fronts, finished, IsAligned, AreAligned}
 
 -- ---- types
 
@@ -215,47 +215,7 @@ pub record_some : (layout : Ty → Option Laid) (one : RecordTree) (front : Fron
     finished one.align front ≡ record_laid layout one
 record_some layout one front is = ap (closed one.align) is ∙ sym (laid_by_fronts layout one)
 
--- ---- the type of a field
-
-abbrev type_in : Option FieldPlace → Option Ty
-type_in place = option_map (λ field. field.ty) place
-
-place_by : (layout : Ty → Option Laid) (f : List ℕ) (field : FieldTree) (fields : List FieldTree) (b : Bool) →
-    type_in (field_behind layout f None fields) ≡ None →
-    type_in (if b then option_and_then (λ taken. placed (layout field.ty) taken field) None else field_behind layout f None fields) ≡ None
-place_by layout f field fields true others = refl
-place_by layout f field fields false others = others
-
-behind_none : (one : Option Laid) → behind one None ≡ None
-behind_none None = refl
-behind_none (Some one) = refl
-
--- behind a field without a layout no field has a place
-no_place : (layout : Ty → Option Laid) (f : List ℕ) (fields : List FieldTree) → type_in (field_behind layout f None fields) ≡ None
-no_place layout f [] = refl
-no_place layout f (field ∷ fields) =
-    ap (λ front. type_in (if bytes_eq field.name f then option_and_then (λ taken. placed (layout field.ty) taken field) None else field_behind layout f front fields))
-    (behind_none (layout field.ty))
-    ∙ place_by layout f field fields (bytes_eq field.name f) (no_place layout f fields)
-
-type_by : (layout : Ty → Option Laid) (f : List ℕ) (front : Front) (field : FieldTree) (fields : List FieldTree) (one : Option Laid) (b : Bool) →
-    ((next : Front) → type_in (field_behind layout f (Some next) fields) ≡ field_type_among layout f fields) →
-    type_in (if b then placed one front field else field_behind layout f (behind one (Some front)) fields)
-    ≡ option_and_then (λ laid. if b then Some field.ty else field_type_among layout f fields) one
-type_by layout f front field fields None true others = refl
-type_by layout f front field fields None false others = no_place layout f fields
-type_by layout f front field fields (Some one) true others = refl
-type_by layout f front field fields (Some one) false others = others (after front (piece_of one))
-
-type_among : (layout : Ty → Option Laid) (f : List ℕ) (fields : List FieldTree) (front : Front) →
-    type_in (field_behind layout f (Some front) fields) ≡ field_type_among layout f fields
-type_among layout f [] front = refl
-type_among layout f (field ∷ fields) front =
-    type_by layout f front field fields (layout field.ty) (bytes_eq field.name f) (type_among layout f fields)
-
-pub field_type_is : (layout : Ty → Option Laid) (f : List ℕ) (one : RecordTree) →
-    field_type_among layout f one.fields ≡ type_in (field_behind layout f (Some (no_front one.is_union)) one.fields)
-field_type_is layout f one = sym (type_among layout f one.fields (no_front one.is_union))
+-- ---- the fields of a record
 
 closed_some : (align : Option ℕ) (front : Option Front) → IsSome (closed align front) → IsSome front
 closed_some align None some = absurd cc

@@ -1,8 +1,9 @@
 -- In a crate that is well typed each record is laid out.
-use Rattle.std.proofs.Common.{◌≡◌, refl, sym, ap, ◌∙◌, subst, ℕ, ◌+◌, Bool, true, false, ◌&&◌, List, [], ◌∷◌, ◌++◌, append_assoc, map, reverse, Option, Some, None, is_none, is_some, IsSome, bytes_eq, if◌then◌else◌}
+use Rattle.std.proofs.Common.{◌≡◌, refl, sym, ap, ◌∙◌, subst, ℕ, ◌+◌, Bool, true, false, ◌&&◌, ◌||◌, List, [], ◌∷◌, ◌++◌, append_assoc, map, reverse, Option, Some, None, is_none, is_some, IsSome, bytes_eq, if◌then◌else◌}
 use Rattle.std.specs.Cmp.Lexicographic.{same_text}
 use Rattle.std.proofs.lemmas.Bool.{and_parts}
 use Rattle.std.proofs.lemmas.List.{reverse-append}
+use Rattle.cr_base.specs.declared.layout.Laid.{Laid}
 use Rattle.rs_text.specs.Tree.{Ty, Integer, Boolean, Void, Pointer, Array, Code, Record, RecordTree, ItemTree, RecordItem, StaticItem, ExternItem, FunctionItem, ModuleTree, CrateTree}
 use Rattle.rs_text.specs.Valid.{all_differ}
 use Rattle.rs_mean.specs.Lookups.{items_in, record_among, record_at}
@@ -145,13 +146,22 @@ path_laid whole typed m x some =
     among_laid m x (reverse (items_in whole.modules m)) (modules_laid whole.modules whole.modules 0 typed m)
     (subst (λ items. IsSome (found_among x items)) (onto_reverse (items_in whole.modules m)) (found_onto x (items_in whole.modules m) [] some))
 
+-- an array whose elements are laid out isn't too large
+array_laid : (element whole : Option Laid) → IsSome element → (is_none element || is_some whole) ≡ true → IsSome whole
+array_laid None whole some fits = absurd cc
+array_laid (Some one) None some fits = absurd cc
+array_laid (Some one) (Some all) some fits = refl
+
 -- a type that meets the cases is laid out
 pub stands_laid : (whole : CrateTree) → well_typed whole ≡ true → (ty : Ty) → type_stands whole.modules ty ≡ true → IsSome (laid_of whole.modules ty)
 stands_laid whole typed (Integer ty) stands = refl
 stands_laid whole typed Boolean stands = refl
 stands_laid whole typed Void stands = absurd cc
 stands_laid whole typed (Pointer target) stands = refl
-stands_laid whole typed (Array element size) stands = (and_parts _ (is_some (laid_of whole.modules (Array element size))) stands).1
+stands_laid whole typed (Array element size) stands =
+    let parts = and_parts _ (is_none (laid_of whole.modules element) || is_some (laid_of whole.modules (Array element size))) stands in
+    array_laid (laid_of whole.modules element) (laid_of whole.modules (Array element size))
+    (stands_laid whole typed element (and_parts (type_stands whole.modules element) _ parts.0).0) parts.1
 stands_laid whole typed (Code params result) stands = refl
 stands_laid whole typed (Record m x) stands = path_laid whole typed m x stands
 

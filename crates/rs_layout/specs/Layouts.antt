@@ -87,12 +87,6 @@ fronts layout front (field ∷ fields) =
 abbrev pub finished : Option ℕ → Front → Option Laid
 finished align front = within_most (laid (raised_by align front))
 
--- the type of the field of a name among fields that are laid out
-abbrev pub field_type_among : (Ty → Option Laid) → List ℕ → List FieldTree → Option Ty
-field_type_among layout f [] = None
-field_type_among layout f (field ∷ fields) =
-    option_and_then (λ one. if bytes_eq field.name f then Some field.ty else field_type_among layout f fields) (layout field.ty)
-
 -- where the field with a number begins among fields that aren't too large, in bytes
 abbrev pub byte_numbered : (Ty → Option Laid) → Front → List FieldTree → ℕ → Option ℕ
 byte_numbered layout front [] f = None

@@ -3,16 +3,16 @@
 ghost use Rattle.std.specs.Prelude.{◌≡◌, ◌<◌, ◌/◌, true, Some, map, reverse, length, IfSome, IsNone, ◌↔◌, option_map};
 ghost use Rattle.std.specs.Option.{option_copied};
 ghost use Rattle.cr_base.specs.Layout.{no_front, spot};
-ghost use Rattle.rs_mean.specs.Layout.{even, within_most, repeated, laid_among, laid_at, laid_of, record_laid, raised_by, field_at, piece_of};
+ghost use Rattle.rs_mean.specs.Layout.{even, within_most, repeated, laid_among, laid_at, laid_of, record_laid, raised_by, piece_of};
 ghost use Rattle.rs_mean.specs.Scalars.{width_of};
 ghost use Rattle.rs_mean.specs.Typing.{well_typed};
 ghost use Rattle.rs_text.specs.Tree as tree;
 ghost use Rattle.rs_text.specs.Valid.{valid_crate};
 ghost use Rattle.rs_tree.specs.Views.{crate_view, field_view, item_view, module_view, record_view, ty_view};
-ghost use Rattle.rs_layout.specs.Layouts.{record_of, array_laid, plain_laid, record_named, found_view, found_among, by_front, front_behind, fronts, finished, IsFine, IsFineFront, IsAligned, AreAligned, ModulesAreAligned, field_type_among, byte_numbered};
+ghost use Rattle.rs_layout.specs.Layouts.{record_of, array_laid, plain_laid, record_named, found_view, found_among, by_front, front_behind, fronts, finished, IsFine, IsFineFront, IsAligned, AreAligned, ModulesAreAligned, byte_numbered};
 ghost use Rattle.rs_layout.specs.LayoutsNumbered.{record_numbered, field_numbered, field_byte, named_byte, is_type_in};
 
-use crate::lookup::{items_in, record_at};
+use crate::lookup::items_in;
 use cr_base::{Front, Laid, MOST_BYTES, Name, Piece};
 use rs_tree::{Crate, Field, IntegerTy, Item, Module, RPath, RTy, Record};
 
@@ -254,7 +254,8 @@ pub fn record_in_front(home: &Name, earlier: &[Item], one: &Record) -> Option<La
 
 // ---- the records of a crate
 
-fn laid_at(modules: &[Module], path: &RPath) -> Option<Laid>
+/// How the record that a path names is laid out.
+pub fn laid_at(modules: &[Module], path: &RPath) -> Option<Laid>
     requires { ModulesAreAligned (map module_view modules.now) }
     ensures laid { result ≡ laid_at (map module_view modules.now) path.now.home path.now.name }
     ensures fine { IfSome result IsFine }
@@ -273,33 +274,6 @@ pub fn laid_of(modules: &[Module], ty: &RTy) -> Option<Laid>
     };
     match laid_at(modules, path) {
         Some(base) => array_laid(ty, base),
-        None => None,
-    }
-}
-
-// The type of the field of a name among fields that are laid out.
-fn field_type_among<'t>(modules: &[Module], fields: &'t [Field], name: &Name) -> Option<&'t RTy>
-    requires { ModulesAreAligned (map module_view modules.now) }
-    ensures { option_map ty_view (option_copied result) ≡ field_type_among (laid_of (map module_view modules.now)) name.now (map field_view fields.now) }
-{
-    for field in fields {
-        let Some(_) = laid_of(modules, field.ty.get()) else {
-            return None;
-        };
-        if field.name.bytes() == name.bytes() {
-            return Some(field.ty.get());
-        }
-    }
-    None
-}
-
-/// The type of the field of a name in the record that a path names, where it has a place.
-pub fn field_type_at<'t>(modules: &'t [Module], path: &RPath, name: &Name) -> Option<&'t RTy>
-    requires { ModulesAreAligned (map module_view modules.now) }
-    ensures { option_map ty_view (option_copied result) ≡ option_map (λ field. field.ty) (field_at (map module_view modules.now) path.now.home path.now.name name.now) }
-{
-    match record_at(modules, path) {
-        Some(one) => field_type_among(modules, one.fields.as_slice(), name),
         None => None,
     }
 }

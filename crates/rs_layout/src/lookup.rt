@@ -1,14 +1,15 @@
 //! The items that paths name (the Rust Reference, "Paths" and "Items").
 
-ghost use Rattle.std.specs.Prelude.{◌≡◌, map, option_map};
+ghost use Rattle.std.specs.Prelude.{◌≡◌, Some, map, option_map};
 ghost use Rattle.std.specs.Option.{option_copied};
 ghost use Rattle.rs_mean.specs.Lookups as named;
+ghost use Rattle.rs_mean.specs.Typing as typing;
 ghost use Rattle.rs_mean.specs.Typing.{home_type, own_function_at};
-ghost use Rattle.rs_tree.specs.Views.{ty_view, item_view, local_view, module_view, outer_view, function_view, record_view, static_view};
+ghost use Rattle.rs_tree.specs.Views.{ty_view, field_view, item_view, local_view, module_view, outer_view, function_view, record_view, static_view};
 ghost use Rattle.rs_layout.specs.Found.{callee_in, callee_in_items, callee_view, function_among, function_at, function_with_name, outer_named, record_with, static_among, static_at, static_with};
 
 use cr_base::Name;
-use rs_tree::{Function, Item, Local, Module, Outer, RPath, RTy, Record, Static};
+use rs_tree::{Field, Function, Item, Local, Module, Outer, RPath, RTy, Record, Static};
 
 // ---- modules
 
@@ -74,6 +75,35 @@ pub fn local_named<'t>(locals: &'t [Local], name: &Name) -> Option<&'t RTy>
         }
     }
     None
+}
+
+// ---- fields
+
+fn field_type_among<'t>(fields: &'t [Field], name: &Name) -> Option<&'t RTy>
+    ensures { option_map ty_view (option_copied result) ≡ typing.field_type_among name.now (map field_view fields.now) }
+{
+    for field in fields {
+        if field.name.bytes() == name.bytes() {
+            return Some(field.ty.get());
+        }
+    }
+    None
+}
+
+fn field_type_in<'t>(one: &'t Record, name: &Name) -> Option<&'t RTy>
+    ensures { option_map ty_view (option_copied result) ≡ typing.field_type_in name.now (Some (record_view one.now)) }
+{
+    field_type_among(one.fields.as_slice(), name)
+}
+
+/// The type of the field of a name in the record that a path names.
+pub fn field_type_at<'t>(modules: &'t [Module], path: &RPath, name: &Name) -> Option<&'t RTy>
+    ensures { option_map ty_view (option_copied result) ≡ typing.field_type_in name.now (named.record_at (map module_view modules.now) path.now.home path.now.name) }
+{
+    match record_at(modules, path) {
+        Some(one) => field_type_in(one, name),
+        None => None,
+    }
 }
 
 // ---- static objects

@@ -16,7 +16,7 @@ use Rattle.mem_bytes.specs.declared.value.Value.TheVariants.{Null, Object}
 use Rattle.rs_mean.specs.declared.cause.Cause.{Cause}
 use Rattle.rs_mean.specs.World.{Run, tells, grants, after_got}
 use Rattle.rs_machine.specs.Blocks.{Begins, place_of}
-use Rattle.rs_machine.specs.Does.{gives, stops, refused, failed, Comes, Does, breaks_off}
+use Rattle.rs_machine.specs.Does.{gives, stops, refused, failed, no_memory, AreAsked, LastIsAsked, Comes, Wants, Does, breaks_off}
 use Rattle.rs_machine.specs.States.{Kept, State, state, world_at, AreGiven, AreTaken}
 use Rattle.rs_machine.specs.Steps.{MachineDoes}
 use Rattle.rs_machine.proofs.Pieces.{Quiet, breaks_quiet}
@@ -36,8 +36,8 @@ pub record Took (answer : ℤ) (calls : List Made) (before after : State) : Type
 
 took_comes : {B : Type 0} (piece : Run B) (value : B) (answer : ℤ) (calls : List Made) (before after : State) → Took answer calls before after →
     ((made : List Made) (ahead : List ℤ) (left : ℕ) → piece (world_at before made (answer ∷ ahead)) left ≡ came value (world_at after (made ++ calls) ahead) left) →
-    Comes piece value before after
-took_comes piece value answer calls before after took goes = record {
+    AreAsked piece before 0 calls → Comes piece value before after
+took_comes piece value answer calls before after took goes asked = record {
   between = record {
     answers = answer ∷ [];
     calls = calls;
@@ -55,11 +55,29 @@ took_comes piece value answer calls before after took goes = record {
       let none : 0 + left ≡ left = omega arith in
       ap (λ (n : ℕ). piece (world_at before made (answer ∷ ahead)) n) none ∙ goes made ahead left;
   short = λ made ahead fewer less. absurd (omega (arith, less));
+  asked = asked;
 }
 
 -- ---- calls
 
+none_told : (told : Option (List Made)) → told ≡ option_map (λ made. made ++ []) told
+none_told None = refl
+none_told (Some made) = ap Some (sym (append-nil made))
+
 module _ (kept : Kept) (blocks : Blocks) (limit : Option Limit) (before after : HostState) (call : Call) where
+  -- the host has answered the call that the piece asks for
+  told_last : (answer : ℤ) (most : ℕ) → LastIsAsked (tells call) (state kept blocks limit before) most (record { call = call; answer = answer } ∷ [])
+  unfolding tells
+  told_last answer most = record {
+    others = [];
+    last = record { call = call; answer = answer };
+    are = refl;
+    answers = [];
+    units = 0;
+    within = omega arith;
+    asked = λ made. (refl, sym (append-nil made));
+  }
+
   pub tells_gives : (answer : ℤ) (new : Kept) → new ≡ record kept { trail = kept.trail ++ answer ∷ [] } →
       AddsCall call answer before after → IsGiven answer before → after.left ≡ option_map (drop 1) before.left → after.takes ≡ before.takes →
       before.faults ≤ after.faults → (before.takes call ≡ true) →
@@ -78,7 +96,7 @@ module _ (kept : Kept) (blocks : Blocks) (limit : Option Limit) (before after : 
               limit = refl;
               takes = takes;
               later = later;
-            }) (λ calls ahead left. refl);
+            }) (λ calls ahead left. refl) (inr (told_last answer 0));
       })
 
   quiet_host : after.made ≡ before.made → after.left ≡ before.left → after.takes ≡ before.takes → before.faults ≤ after.faults →
@@ -121,6 +139,33 @@ module _ (kept : Kept) (blocks : Blocks) (limit : Option Limit) (before after : 
     };
   }
 
+  -- memory was wanting before the host answered, and behind that
+  pub tells_wants : (new : Kept) → KeepsAnswers before after → after.takes ≡ before.takes →
+      Does (tells call) (stops no_memory) (state kept blocks limit before) (state new blocks limit after)
+  tells_wants new keeps takes = record {
+    by = record {
+      calls = [];
+      told = keeps.made ∙ none_told before.made;
+      given = keeps.left;
+      taken_by = tt;
+      takes = takes;
+      asked = inl refl;
+    };
+  }
+
+  pub tells_unnoted : (answer : ℤ) (new : Kept) → AddsCall call answer before after → IsGiven answer before → after.left ≡ option_map (drop 1) before.left →
+      after.takes ≡ before.takes → (before.takes call ≡ true) → Does (tells call) (stops no_memory) (state kept blocks limit before) (state new blocks limit after)
+  tells_unnoted answer new made given used takes taken = record {
+    by = record {
+      calls = record { call = call; answer = answer } ∷ [];
+      told = made;
+      given = (given, used);
+      taken_by = (taken, tt);
+      takes = takes;
+      asked = inr (told_last answer kept.units);
+    };
+  }
+
 -- a call that was answered is one that the host takes
 pub was_taken : (takes : Bool) (answer : ℤ) (before : HostState) (call : Call) → takes ≡ before.takes call → (before.takes call ≡ false → IsDeclined (Ok answer)) → before.takes call ≡ true
 was_taken true answer before call is declined = sym is
@@ -146,10 +191,6 @@ was_refused (Some limit) blocks why size align is = by_test (is_refused limit bl
     by_test : (test : Bool) (other : StoreFault) (one : Blocks) (why : StoreFault) → (if test then Err other else Ok one) ≡ Err why → test ≡ true
     by_test true other one why is = refl
     by_test false other one why is = absurd cc
-
-none_told : (told : Option (List Made)) → told ≡ option_map (λ made. made ++ []) told
-none_told None = refl
-none_told (Some made) = ap Some (sym (append-nil made))
 
 -- what an allocation comes to
 abbrev granted_at : Value → Blocks → List ℕ → Option Limit → List Made → List ℤ → ℕ → Ran (Stop Cause) World Value
@@ -186,7 +227,7 @@ module _ (is_zero : Bool) (size : ℕ) (old : Kept) (before after : Blocks) (lim
             ∙ ap (λ (blocks : Blocks). granted_at (Object (place_of (length before))) blocks (length before ∷ old.heap) limit made ahead left) (sym begins.1)
             ∙ ap (λ (n : ℕ). granted_at (Object (place_of n)) after (n ∷ old.heap) limit made ahead left) (sym begins.0)
             ∙ ap (λ (one : Option Limit). granted_at (Object (place_of block)) after (block ∷ old.heap) one made ahead left) (sym same)
-            ∙ ap (λ (calls : List Made). granted_at (Object (place_of block)) after (block ∷ old.heap) later calls ahead left) (sym (append-nil made)));
+            ∙ ap (λ (calls : List Made). granted_at (Object (place_of block)) after (block ∷ old.heap) later calls ahead left) (sym (append-nil made))) (inl refl);
       })
 
   pub grants_null : (need rest : ℕ) (new : Kept) → Begins (Err (Full need rest)) is_zero size 16 limit before after →
@@ -203,5 +244,5 @@ module _ (is_zero : Bool) (size : ℕ) (old : Kept) (before after : Blocks) (lim
             (was_refused limit before (Full need rest) size 16 full.0)
             ∙ ap (λ (blocks : Blocks). granted_at Null blocks old.heap limit made ahead left) (sym full.1)
             ∙ ap (λ (one : Option Limit). granted_at Null after old.heap one made ahead left) (sym same)
-            ∙ ap (λ (calls : List Made). granted_at Null after old.heap later calls ahead left) (sym (append-nil made)));
+            ∙ ap (λ (calls : List Made). granted_at Null after old.heap later calls ahead left) (sym (append-nil made))) (inl refl);
       })

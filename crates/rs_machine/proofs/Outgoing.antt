@@ -43,7 +43,7 @@ looked_fails step why at is = subst (λ (found : Result _ Cause). Does (looks st
 pub looked_stops : {A B : Type 0} (view : A → B) (step : Held → Result B Cause) (why : Trouble) (stop : Stopped) (at : State) →
     Finds {A = A} view (Err why) (step at.held) → stop ≡ stopped_of why → Does (looks step) (stops stop) at at
 looked_stops view step (trouble.Wrong why) stop at finds is = subst (λ (one : Stopped). Does (looks step) (stops one) at at) (sym is) (looked_fails step why at finds)
-looked_stops view step trouble.Memory stop at finds is = subst (λ (one : Stopped). Does (looks step) (stops one) at at) (sym is) (memory_does (looks step) at at)
+looked_stops view step trouble.Memory stop at finds is = subst (λ (one : Stopped). Does (looks step) (stops one) at at) (sym is) (memory_does (looks step) at at refl)
 
 pub answer_at : (ty other : Option Ty) (one answer : ℤ) {end : End (Option Typed)} {at : State} → other ≡ ty → answer ≡ one →
     Does (answer_as other answer) end at at → Does (answer_as ty one) end at at
@@ -93,7 +93,7 @@ module _ (old new : Kept) (before after : Blocks) (limit later : Option Limit) (
 
   ends_at : (result : Option Ty) (stop : Stopped) (status : ℤ) (at : State) → EndsBy stop status → Does (takes_effect result (ends_program status)) (stops stop) at at
   ends_at result (ended one) status at is = subst (λ (n : ℤ). Does (takes_effect result (ends_program status)) (stops (ended n)) at at) (sym is) (ends_does status at)
-  ends_at result no_memory status at is = memory_does _ at at
+  ends_at result no_memory status at is = memory_does _ at at refl
   ends_at result (went_wrong why) status at is = absurd is
   ends_at result no_units status at is = absurd is
   ends_at result (store_full need left) status at is = absurd is
@@ -129,7 +129,7 @@ module _ (old new : Kept) (before after : Blocks) (limit later : Option Limit) (
       subst (λ (one : Stopped). Does (takes_effect result effect) (stops one) (state old before limit host) (state new after later host)) (sym is)
       (stays_at (takes_effect result effect) (stops (went_wrong why)) effects.1 (wrong_at result effect why (state old before limit host) effects.0))
   effect_stops result effect trouble.Memory stop effects is =
-      subst (λ (one : Stopped). Does (takes_effect result effect) (stops one) (state old before limit host) (state new after later host)) (sym is) (memory_does _ _ _)
+      subst (λ (one : Stopped). Does (takes_effect result effect) (stops one) (state old before limit host) (state new after later host)) (sym is) (memory_does _ _ _ refl)
 
 -- a call of a function of the library is its effect on what is held
 pub known_does : (one : KnownFunction) (result : Option Ty) (args : List Typed) {end : End (Option Typed)} {before after : State} →
@@ -171,7 +171,7 @@ copy_stops from to count before after limit later (trouble.Wrong why) stop same 
     local_fails _ why (quiet_state kept kept.heap before after limit later host same)
     (ap (λ (blocks : Blocks). record { blocks = blocks; heap = kept.heap }) goes.1) (goes.0 kept.heap))
 copy_stops from to count before after limit later trouble.Memory stop same goes is =
-    subst (λ (one : Stopped). StoreDoes (copies from to count) (stops one) before after limit later) (sym is) (λ kept host. memory_does _ _ _)
+    subst (λ (one : Stopped). StoreDoes (copies from to count) (stops one) before after limit later) (sym is) (λ kept host. memory_does _ _ _ refl)
 
 abbrev as_fault : Cause → Result (Did (Unit {0})) Cause
 as_fault cause = Err cause

@@ -2,7 +2,7 @@
 use Rattle.std.proofs.Common.{◌≡◌, ◌∙◌, refl, sym, ap, subst, arith, ℕ, zero, suc, ◌+◌, ◌<◌, ◌≤◌, ◌⊎◌, inl, inr, ℤ, Bool, List, [], ◌∷◌, ◌++◌, drop, Option, Some, None, option_map, append_assoc, append-nil}
 use Rattle.cr_base.specs.Count.{Rose}
 use Rattle.cr_runs.specs.Runs.{Ran, came, halted, bad, out, bind}
-use Rattle.cr_world.specs.World.{World, Stop}
+use Rattle.cr_world.specs.World.{World, Stop, wrong, full, asks, astray}
 use Rattle.ext_calls.specs.declared.call.Call.{Call}
 use Rattle.ext_calls.specs.declared.call.Made.{Made}
 use Rattle.ext_calls.specs.Host.{HostState}
@@ -10,7 +10,7 @@ use Rattle.mem_bytes.specs.Counted.{Limit}
 use Rattle.mem_bytes.specs.Memory.{Blocks}
 use Rattle.rs_mean.specs.declared.cause.Cause.{Cause}
 use Rattle.rs_mean.specs.World.{Run, seq}
-use Rattle.rs_machine.specs.Does.{Stopped, ended, went_wrong, no_units, store_full, refused, failed, no_memory, End, gives, stops, IsOut, Comes, Ending, ends_with, breaks_off, runs_out, ran_of, IsAt, Breaks, DoesBy, Does}
+use Rattle.rs_machine.specs.Does.{Stopped, ended, went_wrong, no_units, store_full, refused, failed, no_memory, End, gives, stops, IsAsking, LastIsAsked, AreAsked, IsOut, Comes, Wants, Ending, ends_with, breaks_off, runs_out, ran_of, IsAt, Breaks, DoesBy, Does}
 use Rattle.rs_machine.specs.States.{Kept, State, state, world_at, AreGiven, AreTaken, Between}
 
 -- ---- what came between
@@ -98,6 +98,29 @@ ran_bind (ends_with status) world next = refl
 ran_bind (breaks_off why) world next = refl
 ran_bind runs_out world next = refl
 
+-- what asks for an answer does so whatever is behind it
+asking_bind : {A B : Type 0} (call : Call) (made : List Made) (found : Ran (Stop Cause) World A) (next : A → Run B) → IsAsking call made found → IsAsking call made (bind found next)
+asking_bind call made (came value world left) next is = absurd is
+asking_bind call made (halted status world) next is = absurd is
+asking_bind call made (out world) next is = absurd is
+asking_bind call made (bad (wrong why) world) next is = absurd is
+asking_bind call made (bad (full need left) world) next is = absurd is
+asking_bind call made (bad astray world) next is = absurd is
+asking_bind call made (bad (asks one) world) next is = is
+
+asked_first : {A B : Type 0} (first : Run A) (next : A → Run B) (one : State) (most more : ℕ) (calls : List Made) → most ≤ more → AreAsked first one most calls → AreAsked (seq first next) one more calls
+unfolding seq
+asked_first first next one most more calls less (inl none) = inl none
+asked_first first next one most more calls less (inr is) = inr (record {
+  others = is.others;
+  last = is.last;
+  are = is.are;
+  answers = is.answers;
+  units = is.units;
+  within = omega (arith, less, is.within);
+  asked = λ made. asking_bind is.last.call (made ++ is.others) (first (world_at one made is.answers) is.units) next (is.asked made);
+})
+
 -- a number is below another, or so much more
 below_or : (n k : ℕ) → (n < k) ⊎ ((more : ℕ) × (n ≡ k + more))
 below_or n zero = inr (n, omega arith)
@@ -106,6 +129,27 @@ below_or (suc n) (suc k) = elim (below_or n k) [
   | inl less ↦ inl (omega (arith, less))
   | inr more ↦ inr (more.0, omega (arith, more.1))
 ]
+
+module _ (A B : Type 0) (first : Run A) (next : A → Run B) (value : A) (one two : State) (comes : Comes first value one two) where
+  -- the calls of the second piece are asked for behind those of the first
+  asked_then : (most more : ℕ) (calls : List Made) → comes.between.taken + most ≤ more → AreAsked (next value) two most calls →
+      AreAsked (seq first next) one more (comes.between.calls ++ calls)
+  unfolding seq
+  asked_then most more calls less (inl none) =
+      asked_first first next one comes.between.taken more (comes.between.calls ++ calls) (omega (arith, less))
+      (subst (λ (all : List Made). AreAsked first one comes.between.taken all) (sym (ap (λ (list : List Made). comes.between.calls ++ list) none ∙ append-nil comes.between.calls)) comes.asked)
+  asked_then most more calls less (inr is) = inr (record {
+    others = comes.between.calls ++ is.others;
+    last = is.last;
+    are = ap (λ (list : List Made). comes.between.calls ++ list) is.are ∙ sym (append_assoc comes.between.calls is.others (is.last ∷ []));
+    answers = comes.between.answers ++ is.answers;
+    units = comes.between.taken + is.units;
+    within = omega (arith, less, is.within);
+    asked = λ made.
+        subst (λ (ran : Ran (Stop Cause) World A). IsAsking is.last.call (made ++ (comes.between.calls ++ is.others)) (bind ran next)) (sym (comes.goes made is.answers is.units))
+        (subst (λ (all : List Made). IsAsking is.last.call all (next value (world_at two (made ++ comes.between.calls) is.answers) is.units)) (append_assoc made comes.between.calls is.others)
+        (is.asked (made ++ comes.between.calls)));
+  })
 
 module _ (A B : Type 0) (first : Run A) (next : A → Run B) (value : A) (one two three : State) (comes : Comes first value one two) (between : Between two three) where
   answers_joined : (ahead : List ℤ) → comes.between.answers ++ between.answers ++ ahead ≡ comes.between.answers ++ (between.answers ++ ahead)
@@ -151,6 +195,7 @@ comes_then {A = A} {B = B} first next value found one two three comes then = rec
   goes = λ made ahead left.
       goes_then A B first next value one two three comes then.between (λ world left. came found world left) (λ ahead left. Unit {0}) (λ made ahead left _. then.goes made ahead left) made ahead left tt;
   short = short_then A B first next value one two three comes then.between then.short;
+  asked = asked_then A B first next value one two comes then.between.taken (comes.between.taken + then.between.taken) then.between.calls (omega arith) then.asked;
 }
 
 breaks_then : {A B : Type 0} (first : Run A) (next : A → Run B) (value : A) (ending : Ending) (one two three : State) →
@@ -189,7 +234,15 @@ does_then first next value (stops failed) one two three comes then = record {
   rose = let rose = then.rose in let later = comes.between.later in rose_more one.host.faults two.host.faults three.host.faults later rose;
   stops = breaks_then first next value _ one two three comes then.stops;
 }
-does_then first next value (stops no_memory) one two three comes then = tt
+does_then {A = A} {B = B} first next value (stops no_memory) one two three comes then =
+    record {
+      calls = comes.between.calls ++ then.calls;
+      told = then.told ∙ ap (λ (told : Option (List Made)). option_map (λ made. made ++ then.calls) told) comes.between.told ∙ both_told comes.between.calls then.calls one.host.made;
+      given = both_given comes.between.calls then.calls one.host.left two.host.left three.host.left comes.between.given then.given;
+      taken_by = both_taken comes.between.calls then.calls one.host.takes two.host.takes comes.between.takes comes.between.taken_by then.taken_by;
+      takes = then.takes ∙ comes.between.takes;
+      asked = asked_then A B first next value one two comes two.units one.units then.calls (omega (arith, comes.between.units)) then.asked;
+    }
 
 does_first : {A B : Type 0} (first : Run A) (next : A → Run B) (stop : Stopped) (one two : State) → DoesBy first (stops stop) one two → DoesBy (seq first next) (stops stop) one two
 does_first first next (ended status) one two by = breaks_first first next _ one two by
@@ -199,7 +252,8 @@ does_first first next (store_full need left) one two by = breaks_first first nex
 does_first first next (refused name) one two by =
     record { call = by.call; named = by.named; declined = by.declined; stops = breaks_first first next _ one two by.stops }
 does_first first next failed one two by = record { call = by.call; taken = by.taken; rose = by.rose; stops = breaks_first first next _ one two by.stops }
-does_first first next no_memory one two by = tt
+does_first first next no_memory one two by =
+    record { calls = by.calls; told = by.told; given = by.given; taken_by = by.taken_by; takes = by.takes; asked = asked_first first next one one.units one.units by.calls (omega arith) by.asked }
 
 -- the second piece where the first came to its end
 pub then_does : {A B : Type 0} {first : Run A} (next : A → Run B) {value : A} {end : End B} {one two three : State} →
@@ -233,6 +287,7 @@ module _ {B : Type 0} (piece : Run B) (before after : State) (quiet : Quiet befo
         ap (λ (n : ℕ). piece (world_at before made ahead) n) (none_taken left) ∙ goes made ahead left
         ∙ ap (λ (calls : List Made). came value (world_at after calls ahead) left) (sym (append-nil made));
     short = λ made ahead fewer less. absurd (omega (arith, less));
+    asked = inl refl;
   }
 
   pub breaks_quiet : (ending : Ending) →

@@ -1,9 +1,10 @@
 -- What an engine does of the ways to make a piece.
-use Rattle.std.proofs.Common.{◌≡◌, ◌∙◌, refl, sym, ap, subst, arith, ℕ, zero, suc, ◌+◌, ℤ, Bool, true, false, List, [], ◌++◌, Option, Some, None, option_map, Result, Ok, Err, append-nil}
+use Rattle.std.proofs.Common.{◌≡◌, ◌∙◌, refl, sym, ap, subst, arith, ℕ, zero, suc, ◌+◌, inl, ℤ, Bool, true, false, List, [], ◌++◌, Option, Some, None, option_map, Result, Ok, Err, append-nil}
 use Rattle.cr_runs.specs.Runs.{came, bad, tick}
 use Rattle.cr_world.specs.Held.{Held}
 use Rattle.cr_world.specs.World.{World, wrong, trail_of}
 use Rattle.ext_calls.specs.declared.call.Made.{Made}
+use Rattle.ext_calls.specs.Host.{HostState}
 use Rattle.mem_bytes.specs.Counted.{Limit}
 use Rattle.rs_mean.specs.declared.cause.Cause.{Cause}
 use Rattle.rs_mean.specs.World.{Run, pure, fails, ends, seq, takes_unit, either, Did, after_step, local, looks, or_fails}
@@ -28,8 +29,25 @@ pub ends_does : {B : Type 0} (status : ℤ) (at : State) → Does {B = B} (ends 
 unfolding ends
 ends_does status at = record { by = breaks_quiet (ends status) at at (quiet_itself at) (ends_with status) (λ made ahead left is. refl) }
 
-pub memory_does : {B : Type 0} (piece : Run B) (before after : State) → Does piece (stops no_memory) before after
-memory_does piece before after = record { by = tt }
+none_told : (told : Option (List Made)) → told ≡ option_map (λ made. made ++ []) told
+none_told None = refl
+none_told (Some made) = ap Some (sym (append-nil made))
+
+-- memory was wanting, and the host took no part
+pub memory_does : {B : Type 0} (piece : Run B) (before after : State) → after.host ≡ before.host → Does piece (stops no_memory) before after
+memory_does piece before after same = record {
+  by = record {
+    calls = [];
+    told = ap (λ (at : HostState). at.made) same ∙ none_told before.host.made;
+    given = ap (λ (at : HostState). at.left) same;
+    taken_by = tt;
+    takes = ap (λ (at : HostState). at.takes) same;
+    asked = inl refl;
+  };
+}
+
+pub memory_here : {B : Type 0} {piece : Run B} {at : State} → Does piece (stops no_memory) at at
+memory_here {piece = piece} {at = at} = memory_does piece at at refl
 
 -- ---- choices
 
@@ -68,10 +86,6 @@ unfolding seq takes_unit pure
 unit_alone next world zero = refl
 unit_alone next world (suc units) = refl
 
-none_told : (told : Option (List Made)) → told ≡ option_map (λ made. made ++ []) told
-none_told None = refl
-none_told (Some made) = ap Some (sym (append-nil made))
-
 unit_comes : (before after : State) → TakesUnit before after → Comes {B = Unit {0}} (takes_unit (pure tt)) tt before after
 unfolding takes_unit pure
 unit_comes before after takes = record {
@@ -96,6 +110,7 @@ unit_comes before after takes = record {
       ∙ ap (λ (calls : List Made). came tt (world_at after calls ahead) left) (sym (append-nil made));
   short = λ made ahead fewer less. let none : fewer ≡ 0 = omega (arith, less) in
       subst (λ (n : ℕ). IsOut (tick (world_at before made ahead) (came tt (world_at before made ahead)) n)) (sym none) tt;
+  asked = inl refl;
 }
 
 pub unit_does : {B : Type 0} (next : Run B) {end : End B} {before middle after : State} → TakesUnit before middle → Does next end middle after →

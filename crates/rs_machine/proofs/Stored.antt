@@ -1,16 +1,18 @@
 -- Loads, stores and new blocks.
-use Rattle.std.proofs.Common.{◌≡◌, ◌∙◌, refl, sym, ap, subst, arith, ℤ, ℕ, ◌+◌, nat_le, Bool, true, false, List, [], ◌∷◌, ◌++◌, length, drop, replicate, slice_get, slice_set, unwrap_or, Option, Some, None, Result, Ok, Err, append-nil, if◌then◌else◌}
+use Rattle.std.proofs.Common.{◌≡◌, ◌∙◌, refl, sym, ap, subst, arith, ℤ, ℕ, ◌+◌, nat_le, Bool, true, false, List, [], ◌∷◌, ◌++◌, length, drop, replicate, slice_get, slice_set, unwrap_or, Option, Some, None, option_map, Result, Ok, Err, append-nil, if◌then◌else◌}
 use Rattle.std.proofs.lemmas.Bool.Decides.{nat_tests}
 use Rattle.std.proofs.lemmas.List.{length-replicate, drop_all}
 use Rattle.cr_runs.specs.Runs.{Ran, came, bad}
 use Rattle.cr_world.specs.Held.{fresh_block, zero_block, with_block}
 use Rattle.cr_world.specs.World.{World, Stop, full, trail_of, begun_at}
 use Rattle.ext_calls.specs.declared.call.Made.{Made}
-use Rattle.mem_bytes.specs.Access.{after_fill, and_then, live_read, block_with_fill}
+use Rattle.mem_bytes.specs.Access.{after_fill, after_put, and_then, is_aligned, live_read, block_with_fill, block_with_value}
+use Rattle.mem_bytes.specs.Coding.{scalar_size}
 use Rattle.mem_bytes.specs.declared.cell.Cell.{Cell}
 use Rattle.mem_bytes.specs.Counted.{Limit, after_alloc, is_refused, with_new_block}
-use Rattle.mem_bytes.specs.Memory.{live_block, Block, Blocks, new_block, byte_cell, unset_cell}
+use Rattle.mem_bytes.specs.Memory.{live_block, Block, Blocks, new_block, byte_cell, unset_cell, size_of, state_of}
 use Rattle.mem_bytes.specs.declared.fault.Fault.{Fault}
+use Rattle.mem_bytes.specs.declared.fault.Fault.TheVariants.{Dead, Outside, Misaligned, Unset, BadBool, MixedPointer}
 use Rattle.mem_bytes.specs.declared.fault.StoreFault.{StoreFault}
 use Rattle.mem_bytes.specs.declared.fault.StoreFault.TheVariants.{Full, Memory}
 use Rattle.mem_bytes.specs.declared.value.Ptr.{Ptr}
@@ -18,12 +20,13 @@ use Rattle.mem_bytes.specs.declared.value.Value.{Value}
 use Rattle.rs_mean.specs.declared.cause.Cause.{Cause}
 use Rattle.rs_mean.specs.declared.cause.Cause.TheVariants.{WrongCall}
 use Rattle.cr_base.specs.declared.layout.Laid.{Laid}
-use Rattle.rs_mean.specs.Calls.{Spot, load, store, begins_laid}
+use Rattle.cr_base.specs.declared.scalar.Scalar.{Scalar}
+use Rattle.rs_mean.specs.Calls.{Spot, on_base, load, store, begins_laid}
 use Rattle.rs_mean.specs.Values.{Typed}
 use Rattle.rs_mean.specs.World.{begins, after_got}
 use Rattle.rs_value.specs.declared.trouble.Trouble.{Trouble}
 use Rattle.rs_value.specs.declared.trouble.Trouble.TheVariants as trouble
-use Rattle.rs_machine.specs.Accesses.{loaded, stored, Changes}
+use Rattle.rs_machine.specs.Accesses.{loaded, stored, unbased, unbased_in, Changes}
 use Rattle.rs_machine.specs.Blocks.{place_of, Begins}
 use Rattle.rs_machine.specs.Does.{stopped_of, stopped_by_store, Stopped, went_wrong, store_full, End, gives, stops, found_end, Does, breaks_off}
 use Rattle.rs_machine.specs.States.{Kept, State, state, world_at}
@@ -61,7 +64,43 @@ store_stops before after limit later place value (trouble.Wrong why) stop same c
     subst (λ (one : Stopped). StoreDoes (store place value) (stops one) before after limit later) (sym is)
     (store_fails before after limit later place value why same changes.0 changes.1)
 store_stops before after limit later place value trouble.Memory stop same changes is =
-    subst (λ (one : Stopped). StoreDoes (store place value) (stops one) before after limit later) (sym is) (λ kept host. memory_does _ _ _)
+    subst (λ (one : Stopped). StoreDoes (store place value) (stops one) before after limit later) (sym is) (λ kept host. memory_does _ _ _ refl)
+
+-- what is told of a block says what a store finds in it, whose base isn't aligned
+put_in : (offset : ℕ) (scalar : Scalar) (value : Value) (block : Block) (fits aligned : Bool) → nat_le (offset + scalar_size scalar) (size_of block) ≡ fits →
+    is_aligned scalar block offset ≡ aligned → on_base {A = Block} false (block_with_value block offset scalar value)
+    ≡ Err (if nat_le (offset + scalar_size scalar) (size_of block) then Misaligned else Outside)
+put_in offset scalar value block true true fits is = rw (fits, is) refl
+put_in offset scalar value block true false fits is = rw (fits, is) refl
+put_in offset scalar value block false aligned fits is = rw fits refl
+
+-- a change of a live block that is at fault
+on_change : {A : Type 0} (found : Result Block Fault) (next : Block → A) (why : Fault) → on_base false found ≡ Err why →
+    on_base false (and_then found (λ block. Ok (next block))) ≡ Err why
+on_change (Ok block) next Misaligned is = refl
+on_change (Ok block) next Dead is = absurd cc
+on_change (Ok block) next Outside is = absurd cc
+on_change (Ok block) next Unset is = absurd cc
+on_change (Ok block) next BadBool is = absurd cc
+on_change (Ok block) next MixedPointer is = absurd cc
+on_change (Err Dead) next why is = cc
+on_change (Err Outside) next why is = cc
+on_change (Err Misaligned) next why is = cc
+on_change (Err Unset) next why is = cc
+on_change (Err BadBool) next why is = cc
+on_change (Err MixedPointer) next why is = cc
+
+put_of : (blocks : Blocks) (at : Ptr) (scalar : Scalar) (value : Value) (got : Option (Option Block)) →
+    on_base false (and_then (live_read (unwrap_or got None) (λ block. block_with_value block at.offset scalar value)) (λ block. Ok (slice_set blocks at.block (Some block))))
+    ≡ Err (unbased_in at.offset (scalar_size scalar) (option_map state_of got))
+put_of blocks at scalar value None = refl
+put_of blocks at scalar value (Some None) = refl
+put_of blocks at scalar value (Some (Some block)) =
+    on_change (block_with_value block at.offset scalar value) (λ one. slice_set blocks at.block (Some one)) _ (put_in at.offset scalar value block _ _ refl refl)
+
+-- a store at a place whose base isn't aligned
+pub unbased_put : (blocks : Blocks) (at : Ptr) (scalar : Scalar) (value : Value) → on_base false (after_put blocks at scalar value) ≡ Err (unbased blocks at scalar)
+unbased_put blocks at scalar value = put_of blocks at scalar value (slice_get blocks at.block)
 
 -- ---- new blocks
 
@@ -162,7 +201,7 @@ pub not_begun : (size align : ℕ) (before after : Blocks) (limit later : Option
 not_begun size align before after limit later (Full need rest) stop same begun is =
     subst (λ (one : Stopped). StoreDoes (begins size align) (stops one) before after limit later) (sym is) (begins_full size align before after limit later need rest same begun.0 begun.1)
 not_begun size align before after limit later Memory stop same begun is =
-    subst (λ (one : Stopped). StoreDoes (begins size align) (stops one) before after limit later) (sym is) (λ kept host. memory_does _ _ _)
+    subst (λ (one : Stopped). StoreDoes (begins size align) (stops one) before after limit later) (sym is) (λ kept host. memory_does _ _ _ refl)
 
 pub zero_fresh : (is_zero : Bool) (size align : ℕ) (before after : Blocks) → is_zero ≡ true → after ≡ with_block (zero_block size align) before →
     after ≡ with_block (fresh_block is_zero size align) before

@@ -1,5 +1,5 @@
 -- What an engine does of a piece of a run.
-use Rattle.std.specs.Prelude.{◌≡◌, ℕ, ◌+◌, ◌<◌, ℤ, true, false, List, [], ◌++◌, Result, Ok, Err}
+use Rattle.std.specs.Prelude.{◌≡◌, ◌⊎◌, ℕ, ◌+◌, ◌<◌, ◌≤◌, ℤ, true, false, List, [], ◌∷◌, ◌++◌, option_map, Result, Ok, Err}
 use Rattle.cr_base.specs.Count.{Rose}
 use Rattle.cr_runs.specs.Runs.{Ran, came, halted, bad, out}
 use Rattle.cr_world.specs.World.{World, Stop, wrong, full, asks, astray}
@@ -13,7 +13,7 @@ use Rattle.mem_bytes.specs.declared.fault.StoreFault.{StoreFault}
 use Rattle.mem_bytes.specs.declared.fault.StoreFault.TheVariants as fault
 use Rattle.rs_value.specs.declared.trouble.Trouble.{Trouble}
 use Rattle.rs_value.specs.declared.trouble.Trouble.TheVariants as trouble
-use Rattle.rs_machine.specs.States.{State, Between, world_at}
+use Rattle.rs_machine.specs.States.{AreGiven, AreTaken, State, Between, world_at}
 
 -- ---- ends
 
@@ -59,6 +59,32 @@ abbrev pub found_end : {B : Type 0} → Result B Cause → End B
 found_end (Ok value) = gives value
 found_end (Err why) = stops (went_wrong why)
 
+-- ---- the calls that were answered
+
+-- behind these calls, a run asks for the answer of one more
+abbrev pub IsAsking : {A : Type 0} → Call → List Made → Ran (Stop Cause) World A → Type 0
+IsAsking call made (came value world left) = ⊥
+IsAsking call made (halted status world) = ⊥
+IsAsking call made (out world) = ⊥
+IsAsking call made (bad (wrong why) world) = ⊥
+IsAsking call made (bad (full need left) world) = ⊥
+IsAsking call made (bad astray world) = ⊥
+IsAsking call made (bad (asks one) world) = (one ≡ call) × (world.made ≡ made)
+
+-- of some calls, the last is the one for whose answer the piece asks behind the others, with the answers that were taken until then
+pub record LastIsAsked {B : Type 0} (piece : Run B) (before : State) (most : ℕ) (calls : List Made) : Type 0 where
+  pub others : List Made
+  pub last : Made
+  pub are : calls ≡ others ++ last ∷ []
+  pub answers : List ℤ
+  pub units : ℕ
+  pub within : units ≤ most
+  pub asked : (made : List Made) → IsAsking last.call (made ++ others) (piece (world_at before made answers) units)
+
+-- calls are those that the piece makes, within so many units, up to the last
+abbrev pub AreAsked : {B : Type 0} → Run B → State → (most : ℕ) → List Made → Type 0
+AreAsked piece before most calls = (calls ≡ []) ⊎ LastIsAsked piece before most calls
+
 -- ---- a piece that came to an end
 
 -- within fewer units than it took the piece asks for one more
@@ -74,6 +100,7 @@ pub record Comes {B : Type 0} (piece : Run B) (value : B) (before after : State)
       piece (world_at before made (between.answers ++ ahead)) (between.taken + left) ≡ came value (world_at after (made ++ between.calls) ahead) left
   pub short : (made : List Made) (ahead : List ℤ) (fewer : ℕ) → fewer < between.taken →
       IsOut (piece (world_at before made (between.answers ++ ahead)) fewer)
+  pub asked : AreAsked piece before between.taken between.calls
 
 -- ---- a piece in which the run stopped
 
@@ -122,6 +149,15 @@ pub record Fails {B : Type 0} (piece : Run B) (before after : State) : Type 0 wh
   pub rose : Rose before.host.faults after.host.faults
   pub stops : Breaks piece (breaks_off (asks call)) before after
 
+-- memory was wanting: the calls that the host answered until then are those that the piece makes, up to the last, within the units that were left
+pub record Wants {B : Type 0} (piece : Run B) (before after : State) : Type 0 where
+  pub calls : List Made
+  pub told : after.host.made ≡ option_map (λ made. made ++ calls) before.host.made
+  pub given : AreGiven calls before.host.left after.host.left
+  pub taken_by : AreTaken before.host.takes calls
+  pub takes : after.host.takes ≡ before.host.takes
+  pub asked : AreAsked piece before before.units calls
+
 abbrev pub DoesBy : {B : Type 0} → Run B → End B → State → State → Type 0
 DoesBy piece (gives value) before after = Comes piece value before after
 DoesBy piece (stops (ended status)) before after = Breaks piece (ends_with status) before after
@@ -131,7 +167,7 @@ DoesBy piece (stops (store_full need left)) before after = Breaks piece (breaks_
 DoesBy piece (stops (refused name)) before after = IsRefused piece name before after
 DoesBy piece (stops failed) before after = Fails piece before after
 -- want of memory may come in the place of any end
-DoesBy piece (stops no_memory) before after = Unit {0}
+DoesBy piece (stops no_memory) before after = Wants piece before after
 
 -- what the engine did of a piece, from one state to another, with this end
 pub record Does {B : Type 0} (piece : Run B) (end : End B) (before after : State) : Type 0 where

@@ -3,15 +3,15 @@
 ghost use Rattle.std.specs.Prelude.{◌≡◌, IsTrue, IfSome, option_map};
 ghost use Rattle.mem_bytes.specs.Coding.{IsScalar, IsValueOf};
 ghost use Rattle.mem_bytes.specs.Memory.{Blocks};
-ghost use Rattle.rs_machine.specs.Accesses.{Changes, loaded, loaded_at, stored, stored_at};
-ghost use Rattle.rs_mean.specs.Calls.{spot};
+ghost use Rattle.rs_machine.specs.Accesses.{Changes, loaded, stored, unbased, unbased_in};
+ghost use Rattle.rs_mean.specs.Calls.{based, loaded_at, on_base, stored_at};
 ghost use Rattle.rs_mean.specs.Scalars.{scalar_of};
 ghost use Rattle.rs_mean.specs.World.{cause_of};
 ghost use Rattle.rs_tree.specs.Views.{ty_view};
 ghost use Rattle.rs_value.specs.Views.{seen_as, spot_view, typed_view};
 
 use cr_base::{Scalar, fits};
-use mem_bytes::{Fault, Store, Value};
+use mem_bytes::{BlockState, Fault, Ptr, Store, Value, scalar_size};
 use rs_mean::Cause;
 use rs_tree::RTy;
 use rs_value::{Trouble, TypedValue, ValueSpot, integer_scalar, value_ty};
@@ -45,13 +45,28 @@ pub(crate) fn scalar_of(ty: &RTy) -> Option<Scalar>
     }
 }
 
+// What a load finds at a place whose base is aligned or isn't.
 #[inline(always)]
-fn loaded_at<S: Store>(store: &S, scalar: Scalar, at: Value) -> Result<Value, Cause>
+fn on_base(is_based: bool, found: Result<Value, Fault>) -> Result<Value, Fault>
+    ensures { result ≡ on_base is_based found }
+{
+    if is_based {
+        return found;
+    }
+    match found {
+        Err(Fault::Dead) => Err(Fault::Dead),
+        Err(Fault::Outside) => Err(Fault::Outside),
+        _ => Err(Fault::Misaligned),
+    }
+}
+
+#[inline(always)]
+fn loaded_at<S: Store>(store: &S, is_based: bool, scalar: Scalar, at: Value) -> Result<Value, Cause>
     requires { IsScalar scalar }
-    ensures { result ≡ loaded_at (S.memory store.now) scalar at }
+    ensures { result ≡ loaded_at (S.memory store.now) is_based scalar at }
 {
     match at {
-        Value::Object(at) => match store.load(at, scalar) {
+        Value::Object(at) => match on_base(is_based, store.load(at, scalar)) {
             Ok(value) => Ok(value),
             Err(fault) => Err(cause_of(fault)),
         },
@@ -69,7 +84,7 @@ pub(crate) fn loaded<'t, S: Store>(store: &S, place: ValueSpot<'t>) -> Result<Ty
     let Some(scalar) = scalar_of(place.ty) else {
         return Err(Cause::WrongCall);
     };
-    match loaded_at(store, scalar, place.at) {
+    match loaded_at(store, place.is_based, scalar, place.at) {
         Ok(value) => Ok(TypedValue {
             ty: value_ty(place.ty),
             value,
@@ -98,10 +113,46 @@ fn is_value_of(scalar: Scalar, value: Value) -> bool
     }
 }
 
-#[inline(always)]
-fn put_at<S: Store>(store: &mut S, scalar: Scalar, at: Value, value: Value) -> Result<(), Trouble>
+// What a store finds at a place whose base isn't aligned, by what is told of the block.
+fn unbased_in(offset: u64, size: u64, state: Option<BlockState>) -> Fault
+    ensures { result ≡ unbased_in offset size state }
+{
+    let Some(state) = state else {
+        return Fault::Dead;
+    };
+    if !state.live {
+        return Fault::Dead;
+    }
+    match offset.checked_add(size) {
+        Some(end) => {
+            if end <= state.size {
+                Fault::Misaligned
+            } else {
+                Fault::Outside
+            }
+        }
+        None => Fault::Outside,
+    }
+}
+
+#[inline(never)]
+fn unbased<S: Store>(store: &S, at: Ptr, scalar: Scalar) -> Fault
     requires { IsScalar scalar }
-    ensures blocks { Changes result (S.memory store.old) (S.memory store.new) (stored_at (S.memory store.old) scalar at value) }
+    ensures { result ≡ unbased (S.memory store.now) at scalar }
+{
+    unbased_in(at.offset, scalar_size(scalar) as u64, store.state(at.block))
+}
+
+#[inline(always)]
+fn put_at<S: Store>(
+    store: &mut S,
+    is_based: bool,
+    scalar: Scalar,
+    at: Value,
+    value: Value,
+) -> Result<(), Trouble>
+    requires { IsScalar scalar }
+    ensures blocks { Changes result (S.memory store.old) (S.memory store.new) (stored_at (S.memory store.old) is_based scalar at value) }
     ensures limit { S.limit store.new ≡ S.limit store.old }
 {
     let at = match at {
@@ -110,6 +161,9 @@ fn put_at<S: Store>(store: &mut S, scalar: Scalar, at: Value, value: Value) -> R
         Value::Whole(_) => return Err(Trouble::Wrong(Cause::WrongCall)),
         Value::Code(_) => return Err(Trouble::Wrong(Cause::WrongCall)),
     };
+    if !is_based {
+        return Err(Trouble::Wrong(cause_of(unbased(store, at, scalar))));
+    }
     if !is_value_of(scalar, value) {
         return Err(Trouble::Memory);
     }
@@ -121,12 +175,18 @@ fn put_at<S: Store>(store: &mut S, scalar: Scalar, at: Value, value: Value) -> R
 
 /// Stores a value at a place.
 #[inline(always)]
-pub(crate) fn put<S: Store>(store: &mut S, ty: &RTy, at: Value, value: Value) -> Result<(), Trouble>
-    ensures blocks { Changes result (S.memory store.old) (S.memory store.new) (stored (S.memory store.old) (spot (ty_view ty.now) at) value) }
+pub(crate) fn put<S: Store>(
+    store: &mut S,
+    is_based: bool,
+    ty: &RTy,
+    at: Value,
+    value: Value,
+) -> Result<(), Trouble>
+    ensures blocks { Changes result (S.memory store.old) (S.memory store.new) (stored (S.memory store.old) (based is_based (ty_view ty.now) at) value) }
     ensures limit { S.limit store.new ≡ S.limit store.old }
 {
     match scalar_of(ty) {
-        Some(scalar) => put_at(store, scalar, at, value),
+        Some(scalar) => put_at(store, is_based, scalar, at, value),
         None => Err(Trouble::Wrong(Cause::WrongCall)),
     }
 }

@@ -4,7 +4,8 @@
 ghost use Rattle.std.specs.Prelude.{◌≡◌, ◌++◌, map, Ok};
 ghost use Rattle.cr_world.specs.Texts.{text_at, text_of};
 ghost use Rattle.mem_bytes.specs.Access.{cell_at};
-ghost use Rattle.rs_machine.specs.Accesses.{argued, argument_by, arguments_of, byte_in, event_in};
+ghost use Rattle.rs_machine.specs.Accesses.{byte_in};
+ghost use Rattle.rs_mean.specs.Calls.{argued, argument_by, arguments_of, event_in};
 ghost use Rattle.rs_mean.specs.World.{cause_of, cause_of_held, or_cause, then_try};
 ghost use Rattle.rs_text.specs.Tree as tree;
 ghost use Rattle.rs_tree.specs.Views.{ty_view};

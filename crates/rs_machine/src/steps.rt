@@ -29,18 +29,19 @@ pub fn load<'t, S: Store>(store: &S, place: ValueSpot<'t>) -> Result<TypedValue<
     }
 }
 
-/// Stores a value at a place.
+/// Stores a value at a place, whose base is aligned or isn't.
 #[inline(always)]
 pub fn store_at<'t, S: Store>(
     store: &mut S,
+    is_based: bool,
     ty: &RTy,
     at: Value,
     value: Value,
 ) -> Result<(), Halt<'t>>
-    ensures { StoreDoes (piece.store (piece.spot (ty_view ty.now) at) value) (end_of (λ _. tt) result)
+    ensures { StoreDoes (piece.store (piece.based is_based (ty_view ty.now) at) value) (end_of (λ _. tt) result)
         (S.memory store.old) (S.memory store.new) (S.limit store.old) (S.limit store.new) }
 {
-    match put(store, ty, at, value) {
+    match put(store, is_based, ty, at, value) {
         Ok(()) => Ok(()),
         Err(trouble) => Err(halt_of(trouble)),
     }

@@ -1,6 +1,8 @@
 pub mod Bounded
+mod ExampleBases
 mod ExampleCases
 mod ExampleForms
+mod ExampleItems
 mod ExampleMoreForms
 mod ExampleOperatorCases
 mod ExamplePlaceCases

@@ -115,27 +115,28 @@ module _
     on_home None = on_fails _ cause.WrongCall
     on_home (Some home) = on_pure _ _
 
-    on_pointer : (ty : Ty) (at : Value) → L Spot (spot_by_type ty at) (spot_by_type ty at)
-    on_pointer (Pointer target) at = on_pure _ _
-    on_pointer (Integer ty) at = on_fails _ cause.WrongCall
-    on_pointer Boolean at = on_fails _ cause.WrongCall
-    on_pointer Void at = on_fails _ cause.WrongCall
-    on_pointer (Array element size) at = on_fails _ cause.WrongCall
-    on_pointer (Code params result) at = on_fails _ cause.WrongCall
-    on_pointer (Record m x) at = on_fails _ cause.WrongCall
+    on_pointer : (modules : List ModuleTree) (ty : Ty) (at : Value) → L Spot (spot_by_type modules ty at) (spot_by_type modules ty at)
+    on_pointer modules (Pointer target) at = on_local _ _
+    on_pointer modules (Integer ty) at = on_fails _ cause.WrongCall
+    on_pointer modules Boolean at = on_fails _ cause.WrongCall
+    on_pointer modules Void at = on_fails _ cause.WrongCall
+    on_pointer modules (Array element size) at = on_fails _ cause.WrongCall
+    on_pointer modules (Code params result) at = on_fails _ cause.WrongCall
+    on_pointer modules (Record m x) at = on_fails _ cause.WrongCall
 
-    on_field : (at : Value) (field : Option FieldPlace) → L Spot (field_spot at field) (field_spot at field)
-    on_field at None = on_fails _ cause.WrongCall
-    on_field at (Some field) = on_local _ _
+    on_field : (is_based : Bool) (at : Value) (field : Option FieldPlace) → L Spot (field_spot is_based at field) (field_spot is_based at field)
+    on_field is_based at None = on_fails _ cause.WrongCall
+    on_field is_based at (Some field) = on_local _ _
 
-    on_field_type : (modules : List ModuleTree) (f : List ℕ) (at : Value) (ty : Ty) → L Spot (field_by_type modules f at ty) (field_by_type modules f at ty)
-    on_field_type modules f at (Record m x) = on_field at (field_at modules m x f)
-    on_field_type modules f at (Integer ty) = on_fails _ cause.WrongCall
-    on_field_type modules f at Boolean = on_fails _ cause.WrongCall
-    on_field_type modules f at Void = on_fails _ cause.WrongCall
-    on_field_type modules f at (Array element size) = on_fails _ cause.WrongCall
-    on_field_type modules f at (Code params result) = on_fails _ cause.WrongCall
-    on_field_type modules f at (Pointer target) = on_fails _ cause.WrongCall
+    on_field_type : (modules : List ModuleTree) (f : List ℕ) (is_based : Bool) (at : Value) (ty : Ty) →
+        L Spot (field_by_type modules f is_based at ty) (field_by_type modules f is_based at ty)
+    on_field_type modules f is_based at (Record m x) = on_field is_based at (field_at modules m x f)
+    on_field_type modules f is_based at (Integer ty) = on_fails _ cause.WrongCall
+    on_field_type modules f is_based at Boolean = on_fails _ cause.WrongCall
+    on_field_type modules f is_based at Void = on_fails _ cause.WrongCall
+    on_field_type modules f is_based at (Array element size) = on_fails _ cause.WrongCall
+    on_field_type modules f is_based at (Code params result) = on_fails _ cause.WrongCall
+    on_field_type modules f is_based at (Pointer target) = on_fails _ cause.WrongCall
 
     -- ---- calls
 
@@ -195,8 +196,8 @@ module _
           pub on_place : (p : Place) → L Spot (run_place one p) (run_place two p)
           on_place (Local x) = on_home (local_home x locals)
           on_place (Static m x) = on_home (static_home modules m x)
-          on_place (Deref e) = on_seq _ _ _ _ _ _ (on_expr e) (λ value. on_pointer value.ty value.value)
-          on_place (Field p f) = on_seq _ _ _ _ _ _ (on_place p) (λ whole. on_field_type modules f whole.at whole.ty)
+          on_place (Deref e) = on_seq _ _ _ _ _ _ (on_expr e) (λ value. on_pointer modules value.ty value.value)
+          on_place (Field p f) = on_seq _ _ _ _ _ _ (on_place p) (λ whole. on_field_type modules f whole.is_based whole.at whole.ty)
 
           pub on_expr : (e : Expr) → L Typed (run_expr one e) (run_expr two e)
           on_expr (Literal value ty) = on_pure _ _

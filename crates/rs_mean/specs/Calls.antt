@@ -11,8 +11,10 @@ use Rattle.cr_world.specs.Texts.{text_of}
 use Rattle.ext_calls.specs.declared.call.Arg.{Arg}
 use Rattle.ext_calls.specs.declared.call.Arg.TheVariants.{Whole as Number, Text}
 use Rattle.ext_calls.specs.declared.call.Call.{Call}
-use Rattle.mem_bytes.specs.Access.{value_at, after_put}
-use Rattle.mem_bytes.specs.Memory.{Blocks}
+use Rattle.mem_bytes.specs.Access.{value_at, after_put, is_record_aligned}
+use Rattle.mem_bytes.specs.Memory.{Block, Blocks, live_block}
+use Rattle.mem_bytes.specs.declared.fault.Fault.{Fault}
+use Rattle.mem_bytes.specs.declared.fault.Fault.TheVariants as fault
 use Rattle.mem_bytes.specs.declared.value.Ptr.{Ptr}
 use Rattle.mem_bytes.specs.declared.value.Value.{Value}
 use Rattle.mem_bytes.specs.declared.value.Value.TheVariants.{Whole, Null, Object, Code as Function}
@@ -28,49 +30,72 @@ use Rattle.rs_mean.specs.World.{Run, pure, fails, ends, seq, local, looks, Did, 
 
 -- ---- places
 
--- a place: a pointer, which may be null, to a value of a type
+-- a place: a pointer, which may be null, to a value of a type, and whether its base is aligned, which is what the last `*` on the way to
+-- it points to (the Rust Reference, "Behavior considered undefined": places that are based on a misaligned pointer)
 pub record Spot : Type 0 where
   pub ty : Ty
   pub at : Value
+  pub is_based : Bool
 
+abbrev pub based : Bool → Ty → Value → Spot
+based is_based ty at = record { ty = ty; at = at; is_based = is_based }
+
+-- a place whose base is aligned, or that has none
 abbrev pub spot : Ty → Value → Spot
-spot ty at = record { ty = ty; at = at }
+spot ty at = based true ty at
 
-abbrev loaded_at : Blocks → Scalar → Value → Result Value Cause
-loaded_at blocks scalar (Object at) = or_cause cause_of (value_at blocks at scalar)
-loaded_at blocks scalar Null = Err cause.Outside
-loaded_at blocks scalar (Whole number) = Err cause.WrongCall
-loaded_at blocks scalar (Function number) = Err cause.WrongCall
+abbrev pub in_block : ℕ → ℕ → Option Block → Bool
+in_block align offset None = true
+in_block align offset (Some block) = is_record_aligned align block offset
 
-abbrev loaded_as : Blocks → Option Scalar → Value → Result Value Cause
-loaded_as blocks (Some scalar) at = loaded_at blocks scalar at
-loaded_as blocks None at = Err cause.WrongCall
+-- a value of a layout may stand where a pointer points to, by its alignment; where there is no live object the access itself is at fault
+abbrev pub may_stand : Blocks → Option Laid → Value → Bool
+may_stand blocks (Some laid) (Object at) = in_block laid.align at.offset (live_block blocks at.block)
+may_stand blocks laid at = true
 
-abbrev with_type : Ty → Result Value Cause → Result Typed Cause
+-- what an access finds, whose place has a base that is aligned or isn't: a base that isn't is found where a place that isn't aligned itself
+-- would be, behind a dead object and a place outside of it
+abbrev pub on_base : {A : Type 0} → (is_based : Bool) → Result A Fault → Result A Fault
+on_base true found = found
+on_base false (Err fault.Dead) = Err fault.Dead
+on_base false (Err fault.Outside) = Err fault.Outside
+on_base false _ = Err fault.Misaligned
+
+abbrev pub loaded_at : Blocks → (is_based : Bool) → Scalar → Value → Result Value Cause
+loaded_at blocks is_based scalar (Object at) = or_cause cause_of (on_base is_based (value_at blocks at scalar))
+loaded_at blocks is_based scalar Null = Err cause.Outside
+loaded_at blocks is_based scalar (Whole number) = Err cause.WrongCall
+loaded_at blocks is_based scalar (Function number) = Err cause.WrongCall
+
+abbrev pub loaded_as : Blocks → (is_based : Bool) → Option Scalar → Value → Result Value Cause
+loaded_as blocks is_based (Some scalar) at = loaded_at blocks is_based scalar at
+loaded_as blocks is_based None at = Err cause.WrongCall
+
+abbrev pub with_type : Ty → Result Value Cause → Result Typed Cause
 with_type ty (Ok value) = Ok (typed ty value)
 with_type ty (Err why) = Err why
 
 -- the value that a place holds
 abbrev pub load : Spot → Run Typed
-load place = looks (λ held. with_type place.ty (loaded_as held.blocks (scalar_of place.ty) place.at))
+load place = looks (λ held. with_type place.ty (loaded_as held.blocks place.is_based (scalar_of place.ty) place.at))
 
-abbrev in_memory : {A : Type 0} → A → Held → Result Blocks Cause → Result (Did A) Cause
+abbrev pub in_memory : {A : Type 0} → A → Held → Result Blocks Cause → Result (Did A) Cause
 in_memory value held (Ok blocks) = Ok (record { value = value; held = with_blocks blocks held })
 in_memory value held (Err why) = Err why
 
-abbrev stored_at : Blocks → Scalar → Value → Value → Result Blocks Cause
-stored_at blocks scalar (Object at) value = or_cause cause_of (after_put blocks at scalar value)
-stored_at blocks scalar Null value = Err cause.Outside
-stored_at blocks scalar (Whole number) value = Err cause.WrongCall
-stored_at blocks scalar (Function number) value = Err cause.WrongCall
+abbrev pub stored_at : Blocks → (is_based : Bool) → Scalar → Value → Value → Result Blocks Cause
+stored_at blocks is_based scalar (Object at) value = or_cause cause_of (on_base is_based (after_put blocks at scalar value))
+stored_at blocks is_based scalar Null value = Err cause.Outside
+stored_at blocks is_based scalar (Whole number) value = Err cause.WrongCall
+stored_at blocks is_based scalar (Function number) value = Err cause.WrongCall
 
-abbrev stored_as : Blocks → Option Scalar → Value → Value → Result Blocks Cause
-stored_as blocks (Some scalar) at value = stored_at blocks scalar at value
-stored_as blocks None at value = Err cause.WrongCall
+abbrev pub stored_as : Blocks → (is_based : Bool) → Option Scalar → Value → Value → Result Blocks Cause
+stored_as blocks is_based (Some scalar) at value = stored_at blocks is_based scalar at value
+stored_as blocks is_based None at value = Err cause.WrongCall
 
 -- a value is stored at a place
 abbrev pub store : Spot → Value → Run (Unit {0})
-store place value = local (λ held. in_memory tt held (stored_as held.blocks (scalar_of place.ty) place.at value))
+store place value = local (λ held. in_memory tt held (stored_as held.blocks place.is_based (scalar_of place.ty) place.at value))
 
 -- ---- lives of parameters, locals and static objects
 
@@ -82,7 +107,7 @@ begins_laid None = fails cause.WrongCall
 abbrev pub begins_object : List ModuleTree → Ty → Run Ptr
 begins_object modules ty = begins_laid (laid_of modules ty)
 
-abbrev local_block : LocalTree → Ptr → LocalBlock
+abbrev pub local_block : LocalTree → Ptr → LocalBlock
 local_block one at = record { name = one.name; ty = one.ty; block = at.block }
 
 -- parameters begin, from the left, each with its argument
@@ -101,7 +126,7 @@ begin_locals modules (one ∷ locals) =
     seq (begins_object modules one.ty) (λ at.
     seq (begin_locals modules locals) (λ others. pure (local_block one at ∷ others)))
 
-abbrev without_blocks : List LocalBlock → Blocks → Blocks
+abbrev pub without_blocks : List LocalBlock → Blocks → Blocks
 without_blocks [] blocks = blocks
 without_blocks (one ∷ others) blocks = without_blocks others (without_block one.block blocks)
 
@@ -136,12 +161,12 @@ accepts [] variadic (arg ∷ args) = variadic
 accepts (ty ∷ tys) variadic [] = false
 accepts (ty ∷ tys) variadic (arg ∷ args) = alike ty arg.ty && accepts tys variadic args
 
-abbrev value_in : Typed → Value
+abbrev pub value_in : Typed → Value
 value_in arg = arg.value
 
 -- ---- known functions
 
-abbrev given : Option Ty → Value → Option Typed
+abbrev pub given : Option Ty → Value → Option Typed
 given None value = None
 given (Some ty) value = Some (typed ty value)
 
@@ -166,29 +191,29 @@ known_call one result args =
 
 -- ---- other external functions
 
-abbrev argued : Scalar → Value → Result Arg Cause
+abbrev pub argued : Scalar → Value → Result Arg Cause
 argued scalar (Whole number) = Ok (Number scalar number)
 argued scalar value = Err cause.WrongCall
 
-abbrev as_text : Result (List ℕ) Cause → Result Arg Cause
+abbrev pub as_text : Result (List ℕ) Cause → Result Arg Cause
 as_text (Ok text) = Ok (Text text)
 as_text (Err why) = Err why
 
-abbrev argument_by : Blocks → Ty → Value → Result Arg Cause
+abbrev pub argument_by : Blocks → Ty → Value → Result Arg Cause
 argument_by blocks (Integer ty) value = argued (integer_scalar ty) value
 argument_by blocks Boolean value = argued scalar.Truth value
 argument_by blocks (Pointer target) value = as_text (or_cause cause_of_held (text_of blocks value))
 argument_by blocks _ value = Err cause.WrongCall
 
 -- the arguments as the outside sees them, from the left: a number with its type, a pointer as the text that stands there
-abbrev arguments_of : Blocks → List Typed → Result (List Arg) Cause
+abbrev pub arguments_of : Blocks → List Typed → Result (List Arg) Cause
 arguments_of blocks [] = Ok []
 arguments_of blocks (arg ∷ args) =
     then_try (argument_by blocks arg.ty arg.value) (λ first.
     then_try (arguments_of blocks args) (λ others. Ok (first ∷ others)))
 
 -- the event of a call
-abbrev event_in : List ℕ → Result (List Arg) Cause → Result Call Cause
+abbrev pub event_in : List ℕ → Result (List Arg) Cause → Result Call Cause
 event_in name (Ok args) = Ok (record { name = name; args = args })
 event_in name (Err why) = Err why
 
@@ -215,14 +240,14 @@ outer_call fun args = outer_by (known_named (symbol_of fun)) fun args
 
 -- ---- copies
 
-abbrev copies_as : Effect → Result (Did (Unit {0})) Cause
+abbrev pub copies_as : Effect → Result (Did (Unit {0})) Cause
 copies_as (gives value held) = Ok (record { value = tt; held = held })
 copies_as (gives_nothing held) = Ok (record { value = tt; held = held })
 copies_as (ends_program status) = Err cause.WrongCall
 copies_as (wants_block is_zero size) = Err cause.WrongCall
 copies_as (effect_fails why) = Err (cause_of_held why)
 
-abbrev copy_of : Value → Value → Value → Held → Result (Did (Unit {0})) Cause
+abbrev pub copy_of : Value → Value → Value → Held → Result (Did (Unit {0})) Cause
 copy_of from to (Whole (pos count)) held = copies_as (copying true to from count held)
 copy_of from to _ held = Err cause.WrongCall
 

@@ -9,7 +9,7 @@ use Rattle.rs_text.specs.Tree.{Ty, RecordTree, StaticTree, OuterTree, LocalTree,
 abbrev pub module_named : List ℕ → List ModuleTree → Option ModuleTree
 module_named m modules = find (λ unit. bytes_eq unit.name m) modules
 
-abbrev items_of : Option ModuleTree → List ItemTree
+abbrev pub items_of : Option ModuleTree → List ItemTree
 items_of None = []
 items_of (Some unit) = unit.items
 
@@ -19,13 +19,13 @@ items_in modules m = items_of (module_named m modules)
 
 -- ---- records
 
-abbrev record_with : List ℕ → ItemTree → Option RecordTree
+abbrev pub record_with : List ℕ → ItemTree → Option RecordTree
 record_with x (RecordItem one) = if bytes_eq one.name x then Some one else None
 record_with x (StaticItem object) = None
 record_with x (ExternItem outers) = None
 record_with x (FunctionItem fun) = None
 
-abbrev first_record : Option RecordTree → Option RecordTree → Option RecordTree
+abbrev pub first_record : Option RecordTree → Option RecordTree → Option RecordTree
 first_record (Some one) others = Some one
 first_record None others = others
 
@@ -108,7 +108,7 @@ abbrev pub signature_of : Callee → Signature
 signature_of (outer fun) = record { params = fun.params; variadic = fun.variadic; result = fun.result }
 signature_of (own fun) = own_signature fun
 
-abbrev symbol_or : List ℕ → Option (List ℕ) → List ℕ
+abbrev pub symbol_or : List ℕ → Option (List ℕ) → List ℕ
 symbol_or name None = bare_name name
 symbol_or name (Some symbol) = symbol
 
@@ -158,7 +158,7 @@ pub record LocalBlock : Type 0 where
   pub ty : Ty
   pub block : ℕ
 
-abbrev home_of : LocalBlock → Home
+abbrev pub home_of : LocalBlock → Home
 home_of local = record { block = local.block; ty = local.ty }
 
 -- the block of the parameter or local of a name

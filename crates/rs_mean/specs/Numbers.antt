@@ -26,19 +26,19 @@ wrapped_in ty value = wrapped (integer_scalar ty) value
 
 -- ---- `/` and `%`, which go towards zero
 
-abbrev quotient : IntegerTy → ℤ → ℤ → Result ℤ Cause
+abbrev pub quotient : IntegerTy → ℤ → ℤ → Result ℤ Cause
 quotient ty left right = if int_eq right (pos 0) then Err Divisor else checked Divisor ty (int_div left right)
 
-abbrev remainder_by : ℤ → ℤ → Result ℤ Cause → Result ℤ Cause
+abbrev pub remainder_by : ℤ → ℤ → Result ℤ Cause → Result ℤ Cause
 remainder_by left right (Ok quotient) = Ok (int_rem left right)
 remainder_by left right (Err why) = Err why
 
 -- ---- shifts: of a signed number to the right, its sign comes in
 
-abbrev shifted_left : IntegerTy → ℤ → ℕ → ℤ
+abbrev pub shifted_left : IntegerTy → ℤ → ℕ → ℤ
 shifted_left ty value count = wrapped_in ty (value *ℤ pos (2 ^ count))
 
-abbrev shifted_right : IntegerTy → ℤ → ℕ → ℤ
+abbrev pub shifted_right : IntegerTy → ℤ → ℕ → ℤ
 shifted_right ty (pos n) count = pos (n / 2 ^ count)
 shifted_right ty (negsuc n) count = negsuc (n / 2 ^ count)
 
@@ -49,7 +49,7 @@ shifted shift ty value (negsuc n) = Err Shift
 
 -- ---- bits of two's complement
 
-abbrev combined : (ℕ → ℕ → ℕ) → IntegerTy → ℤ → ℤ → ℤ
+abbrev pub combined : (ℕ → ℕ → ℕ) → IntegerTy → ℤ → ℤ → ℤ
 combined combine ty left right =
     wrapped_in ty (pos (combine (residue left (modulus (integer_scalar ty))) (residue right (modulus (integer_scalar ty)))))
 

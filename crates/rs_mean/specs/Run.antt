@@ -5,14 +5,15 @@ use Rattle.std.specs.Ordering.{int_eq}
 use Rattle.cr_runs.specs.Runs.{Ran, came, halted, bad, out}
 use Rattle.cr_world.specs.World.{World, Outside, Terms, open_ended, Stop, first_world, events_of}
 use Rattle.ext_calls.specs.declared.call.Call.{Call}
+use Rattle.mem_bytes.specs.Memory.{Blocks}
 use Rattle.mem_bytes.specs.Pointers.{moved}
 use Rattle.mem_bytes.specs.declared.value.Value.{Value}
 use Rattle.mem_bytes.specs.declared.value.Value.TheVariants.{Whole, Null, Object, Code as Function}
 use Rattle.rs_text.specs.Tree.{Ty, Integer, Pointer, Code, Record, Tys, no_tys, more_tys, OptionTy, no_ty, some_ty, Place, Local, Static, Deref, Field, Expr, Literal, Truth, NoFunction, Read, Call as CallTree, CallBy, Wrapped, WrappingNeg, Offset, OffsetFrom, IsNull, IsNone, AddressOf, NullPointer, SomeFunction, Transmute, Neg, Not, Cast, Binary, And, Or, Choose, Exprs, no_exprs, more_exprs, Stmt, Assign, Eval, CopyBytes, If, Loop, Block, Break, Continue, Match, Return, Stmts, no_stmts, more_stmts, LiteralArm, Arms, no_arms, more_arms, FunctionTree, ModuleTree, CrateTree}
 use Rattle.rs_mean.specs.declared.cause.Cause.{Cause}
 use Rattle.rs_mean.specs.declared.cause.Cause.TheVariants.{WrongCall, NoneCall}
-use Rattle.rs_mean.specs.Calls.{Spot, spot, load, store, begin_params, begin_locals, end_locals, begin_statics, accepts, outer_call, copies}
-use Rattle.rs_mean.specs.Layout.{FieldPlace, laid_of, field_at}
+use Rattle.rs_mean.specs.Calls.{Spot, based, spot, may_stand, load, store, begin_params, begin_locals, end_locals, begin_statics, accepts, outer_call, copies}
+use Rattle.rs_mean.specs.Layout.{FieldPlace, laid_at, laid_of, field_at}
 use Rattle.rs_mean.specs.Lookups.{Callee, outer, own, callee_at, callee_among, Signature, signature_of, own_signature, function_number, function_with, Home, static_home, statics_of, LocalBlock, local_home}
 use Rattle.rs_mean.specs.Scalars.{alike}
 use Rattle.rs_mean.specs.Values.{Typed, typed, truth, binary_of, wrapping_of, neg_of, wrapping_neg_of, not_of, cast_of, transmuted, is_null_of, is_none_of, offset_of, offset_from_of, test_of}
@@ -35,30 +36,35 @@ abbrev pub spot_of_home : Option Home → Run Spot
 spot_of_home None = fails WrongCall
 spot_of_home (Some home) = pure (spot home.ty (Object (record { block = home.block; offset = 0 })))
 
-abbrev pub spot_by_type : Ty → Value → Run Spot
-spot_by_type (Pointer target) at = pure (spot target at)
-spot_by_type _ at = fails WrongCall
+-- whether what a pointer points to is aligned for its type, where that has fields; an access to a scalar asks for its own alignment
+abbrev pub is_base : List ModuleTree → Blocks → Ty → Value → Bool
+is_base modules blocks (Record m x) at = may_stand blocks (laid_at modules m x) at
+is_base modules blocks _ at = true
+
+abbrev pub spot_by_type : List ModuleTree → Ty → Value → Run Spot
+spot_by_type modules (Pointer target) at = looks (λ held. Ok (based (is_base modules held.blocks target at) target at))
+spot_by_type modules _ at = fails WrongCall
 
 -- what a pointer points to
-abbrev pub spot_of_pointer : Typed → Run Spot
-spot_of_pointer pointer = spot_by_type pointer.ty pointer.value
+abbrev pub spot_of_pointer : List ModuleTree → Typed → Run Spot
+spot_of_pointer modules pointer = spot_by_type modules pointer.ty pointer.value
 
-abbrev moved_to : Ty → Result Value Cause → Result Spot Cause
-moved_to ty (Ok at) = Ok (spot ty at)
-moved_to ty (Err why) = Err why
+abbrev pub moved_to : (is_based : Bool) → Ty → Result Value Cause → Result Spot Cause
+moved_to is_based ty (Ok at) = Ok (based is_based ty at)
+moved_to is_based ty (Err why) = Err why
 
-abbrev pub field_spot : Value → Option FieldPlace → Run Spot
-field_spot at None = fails WrongCall
-field_spot at (Some field) =
-    looks (λ held. moved_to field.ty (or_cause cause_of_pointer (moved held.blocks at (pos field.byte))))
+abbrev pub field_spot : (is_based : Bool) → Value → Option FieldPlace → Run Spot
+field_spot is_based at None = fails WrongCall
+field_spot is_based at (Some field) =
+    looks (λ held. moved_to is_based field.ty (or_cause cause_of_pointer (moved held.blocks at (pos field.byte))))
 
-abbrev pub field_by_type : List ModuleTree → List ℕ → Value → Ty → Run Spot
-field_by_type modules f at (Record m x) = field_spot at (field_at modules m x f)
-field_by_type modules f at _ = fails WrongCall
+abbrev pub field_by_type : List ModuleTree → List ℕ → (is_based : Bool) → Value → Ty → Run Spot
+field_by_type modules f is_based at (Record m x) = field_spot is_based at (field_at modules m x f)
+field_by_type modules f is_based at _ = fails WrongCall
 
--- the field of a name: its place is inside the object, or at its end
+-- the field of a name: its place is inside the object, or at its end, and has the base of the whole
 abbrev pub spot_of_field : List ModuleTree → List ℕ → Spot → Run Spot
-spot_of_field modules f whole = field_by_type modules f whole.at whole.ty
+spot_of_field modules f whole = field_by_type modules f whole.is_based whole.at whole.ty
 
 -- ---- calls
 
@@ -80,13 +86,13 @@ call_at modules bodies m x args = call_found bodies args (callee_at modules m x)
 
 -- ---- calls by pointer
 
-abbrev results_alike : Option Ty → OptionTy → Bool
+abbrev pub results_alike : Option Ty → OptionTy → Bool
 results_alike None no_ty = true
 results_alike (Some one) (some_ty other) = alike one other
 results_alike None (some_ty other) = false
 results_alike (Some one) no_ty = false
 
-abbrev params_alike : List Ty → Tys → Bool
+abbrev pub params_alike : List Ty → Tys → Bool
 params_alike [] no_tys = true
 params_alike (one ∷ others) (more_tys first rest) = alike one first && params_alike others rest
 params_alike [] (more_tys first rest) = false
@@ -148,7 +154,7 @@ abbrev mutual
   pub run_place : Frame → Place → Run Spot
   run_place frame (Local x) = spot_of_home (local_home x frame.locals)
   run_place frame (Static m x) = spot_of_home (static_home frame.modules m x)
-  run_place frame (Deref e) = seq (run_expr frame e) spot_of_pointer
+  run_place frame (Deref e) = seq (run_expr frame e) (spot_of_pointer frame.modules)
   run_place frame (Field p f) = seq (run_place frame p) (spot_of_field frame.modules f)
 
   pub run_expr : Frame → Expr → Run Typed
@@ -223,7 +229,7 @@ run_dropped frame (CallTree m x args) =
 run_dropped frame (CallBy e args) = seq (run_call_by frame e args) goes_on
 run_dropped frame e = seq (run_expr frame e) goes_on
 
-abbrev is_label : List ℕ → Option (List ℕ) → Bool
+abbrev pub is_label : List ℕ → Option (List ℕ) → Bool
 is_label label None = false
 is_label label (Some name) = bytes_eq name label
 
@@ -248,7 +254,7 @@ then_on rest (breaks label) = pure (breaks label)
 then_on rest (continues label) = pure (continues label)
 then_on rest (returned value) = pure (returned value)
 
-abbrev is_number : ℤ → Value → Bool
+abbrev pub is_number : ℤ → Value → Bool
 is_number number (Whole value) = int_eq value number
 is_number number _ = false
 

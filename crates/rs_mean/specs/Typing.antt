@@ -1,5 +1,5 @@
 -- Which crates of the subset are well typed (the Rust Reference, "Type system", "Items" and "Statements and expressions").
-use Rattle.std.specs.Prelude.{ℕ, ◌+◌, Bool, true, false, not, ◌&&◌, ◌||◌, nat_le, List, [], ◌∷◌, ◌++◌, map, flat_map, Option, Some, None, is_some, is_none, option_map, option_and_then, bytes_eq, codes, ℤ, if◌then◌else◌}
+use Rattle.std.specs.Prelude.{ℕ, ◌+◌, Bool, true, false, not, ◌&&◌, ◌||◌, nat_le, List, [], ◌∷◌, ◌++◌, map, flat_map, Option, Some, None, is_some, is_none, option_map, option_and_then, find, bytes_eq, codes, ℤ, if◌then◌else◌}
 use Rattle.std.specs.List.{list_all, list_any}
 use Rattle.std.specs.Ordering.{int_eq}
 use Rattle.cr_base.specs.Layout.{most_bytes}
@@ -12,8 +12,8 @@ use Rattle.rs_text.specs.declared.operator.Operator.TheVariants.{Add, Sub, Mul, 
 use Rattle.rs_text.specs.Names.{is_among}
 use Rattle.rs_text.specs.Tree.{Ty, Integer, Boolean, Void, Pointer, Array, Code, Record, Tys, no_tys, more_tys, OptionTy, no_ty, some_ty, Place, Local, Static, Deref, Field, Expr, Literal, Truth, NoFunction, Read, Call, CallBy, Wrapped, WrappingNeg, Offset, OffsetFrom, IsNull, IsNone, AddressOf, NullPointer, SomeFunction, Transmute, Neg, Not, Cast, Binary, And, Or, Choose, Exprs, no_exprs, more_exprs, Stmt, Assign, Eval, CopyBytes, If, Loop, Block, Break, Continue, Match, Return, Stmts, no_stmts, more_stmts, LiteralArm, Arms, no_arms, more_arms, FieldTree, RecordTree, StaticTree, OuterTree, LocalTree, FunctionTree, ItemTree, RecordItem, StaticItem, ExternItem, FunctionItem, ModuleTree, CrateTree, tys, option_ty}
 use Rattle.rs_text.specs.Valid.{all_differ, is_void}
-use Rattle.rs_mean.specs.Layout.{laid_with, laid_among, record_laid, laid_of, field_at}
-use Rattle.rs_mean.specs.Lookups.{record_at, callee_at, Signature, signature_of, own_signature, symbol_of, function_number, function_with, static_home, Home, local_type}
+use Rattle.rs_mean.specs.Layout.{laid_with, laid_among, record_laid, laid_of}
+use Rattle.rs_mean.specs.Lookups.{record_at, outer, callee_at, Signature, signature_of, own_signature, symbol_of, function_number, function_with, static_home, Home, local_type}
 use Rattle.rs_mean.specs.Scalars.{is_scalar, is_integer, is_boolean, is_signed_integer, same_integer, fits_integer, same_type, same_types, same_results}
 
 -- ---- types
@@ -29,15 +29,15 @@ abbrev pub is_length : ℕ → Bool
 is_length size = nat_le 1 size && nat_le size most_bytes
 
 abbrev mutual
-  -- the records that a type names exist, its arrays have lengths and aren't too large; the types of a function's parameters and of its
-  -- result are scalar
+  -- the records that a type names exist, its arrays have lengths and aren't too large, where their elements are laid out; the types of a
+  -- function's parameters and of its result are scalar. That a record can be laid out is asked of its item alone
   pub type_stands : List ModuleTree → Ty → Bool
   type_stands modules (Integer ty) = true
   type_stands modules Boolean = true
   type_stands modules Void = false
   type_stands modules (Pointer target) = is_void target || type_stands modules target
   type_stands modules (Array element size) =
-      type_stands modules element && is_length size && is_some (laid_of modules (Array element size))
+      type_stands modules element && is_length size && (is_none (laid_of modules element) || is_some (laid_of modules (Array element size)))
   type_stands modules (Code params result) = params_stand modules params && result_stands modules result
   type_stands modules (Record m x) = is_some (record_at modules m x)
 
@@ -49,13 +49,9 @@ abbrev mutual
   result_stands modules no_ty = true
   result_stands modules (some_ty ty) = is_scalar ty && type_stands modules ty
 
--- a type of objects, which aren't too large
-abbrev pub object_stands : List ModuleTree → Ty → Bool
-object_stands modules ty = type_stands modules ty && is_some (laid_of modules ty)
-
--- the target of a pointer that is moved, or of an address
-abbrev pub is_target : List ModuleTree → Ty → Bool
-is_target modules target = is_some (laid_of modules target)
+-- the target of a pointer that is moved, or of an address: a type of objects
+abbrev pub is_target : Ty → Bool
+is_target target = not (is_void target)
 
 -- ---- what the names of a body stand for
 
@@ -64,10 +60,16 @@ pub record LabelScope : Type 0 where
   pub name : List ℕ
   pub is_loop : Bool
 
+-- what the names of an expression stand for
 pub record Scope : Type 0 where
   pub modules : List ModuleTree
   -- the parameters and locals of the function
   pub locals : List LocalTree
+
+-- what those of a statement do
+pub record BodyScope : Type 0 where
+  pub names : Scope
+  -- the type of the function's result, if it has one
   pub result : Option Ty
   -- the labels of the loops and blocks around the place
   pub labels : List LabelScope
@@ -176,14 +178,14 @@ cast_kind modules ty None = None
 cast_kind modules ty (Some from) = only_if (casts from ty && type_stands modules ty) ty
 
 -- `offset` takes an `isize`
-abbrev pub offset_kind : List ModuleTree → Option Ty → Option Kind → Option Kind
-offset_kind modules (Some (Pointer target)) count = only_if (is_target modules target && is_of_type isize_type count) (Pointer target)
-offset_kind modules _ count = None
+abbrev pub offset_kind : Option Ty → Option Kind → Option Kind
+offset_kind (Some (Pointer target)) count = only_if (is_target target && is_of_type isize_type count) (Pointer target)
+offset_kind _ count = None
 
 -- `offset_from` takes the same pointer type, and gives an `isize`
-abbrev pub apart_kind : List ModuleTree → Option Ty → Option Kind → Option Kind
-apart_kind modules (Some (Pointer target)) other = only_if (is_target modules target && is_of_type (Pointer target) other) isize_type
-apart_kind modules _ other = None
+abbrev pub apart_kind : Option Ty → Option Kind → Option Kind
+apart_kind (Some (Pointer target)) other = only_if (is_target target && is_of_type (Pointer target) other) isize_type
+apart_kind _ other = None
 
 abbrev pub null_kind : Option Ty → Option Kind
 null_kind (Some (Pointer target)) = Some (of Boolean)
@@ -195,9 +197,17 @@ none_kind _ = None
 
 -- ---- places
 
+-- the type of the field of a name among fields
+abbrev pub field_type_among : List ℕ → List FieldTree → Option Ty
+field_type_among f fields = option_map (λ field. field.ty) (find (λ field. bytes_eq field.name f) fields)
+
+abbrev pub field_type_in : List ℕ → Option RecordTree → Option Ty
+field_type_in f None = None
+field_type_in f (Some one) = field_type_among f one.fields
+
 -- the type of the field of a record
 abbrev pub field_type : List ModuleTree → List ℕ → Option Ty → Option Ty
-field_type modules f (Some (Record m x)) = option_map (λ field. field.ty) (field_at modules m x f)
+field_type modules f (Some (Record m x)) = field_type_in f (record_at modules m x)
 field_type modules f _ = None
 
 abbrev pub home_type : Option Home → Option Ty
@@ -273,14 +283,14 @@ abbrev mutual
       (pointed_types (own_type (kind_of scope e)))
   kind_of scope (Wrapped e op arg) = of_type (both_are is_integer (kind_of scope e) (kind_of scope arg))
   kind_of scope (WrappingNeg e) = where_is is_integer (own_type (kind_of scope e))
-  kind_of scope (Offset e arg) = offset_kind scope.modules (own_type (kind_of scope e)) (kind_of scope arg)
-  kind_of scope (OffsetFrom e arg) = apart_kind scope.modules (own_type (kind_of scope e)) (kind_of scope arg)
+  kind_of scope (Offset e arg) = offset_kind (own_type (kind_of scope e)) (kind_of scope arg)
+  kind_of scope (OffsetFrom e arg) = apart_kind (own_type (kind_of scope e)) (kind_of scope arg)
   kind_of scope (IsNull e) = null_kind (own_type (kind_of scope e))
   kind_of scope (IsNone e) = none_kind (own_type (kind_of scope e))
-  kind_of scope (AddressOf p) = option_and_then (λ ty. only_if (is_target scope.modules ty) (Pointer ty)) (place_type scope p)
+  kind_of scope (AddressOf p) = option_and_then (λ ty. only_if (is_target ty) (Pointer ty)) (place_type scope p)
   kind_of scope (NullPointer ty) = only_if (type_stands scope.modules (Pointer ty)) (Pointer ty)
   kind_of scope (SomeFunction m x params result) =
-      only_if (is_function_of params result (own_function_at scope.modules m x)) (Code params result)
+      only_if (type_stands scope.modules (Code params result) && is_function_of params result (own_function_at scope.modules m x)) (Code params result)
   kind_of scope (Transmute from to e) =
       only_if (is_code from && is_code to && type_stands scope.modules from && type_stands scope.modules to && is_of_type from (kind_of scope e)) to
   kind_of scope (Neg e) = where_is is_signed (own_type (kind_of scope e))
@@ -322,21 +332,21 @@ gives_type scope (Some ty) (Some value) = is_of_type ty (kind_of scope value)
 gives_type scope None (Some value) = false
 gives_type scope (Some ty) None = false
 
-abbrev pub has_label : (LabelScope → Bool) → List ℕ → Scope → Bool
+abbrev pub has_label : (LabelScope → Bool) → List ℕ → BodyScope → Bool
 has_label test name scope = list_any (λ label. bytes_eq label.name name && test label) scope.labels
 
-abbrev pub with_label : List ℕ → Bool → Scope → Scope
+abbrev pub with_label : List ℕ → Bool → BodyScope → BodyScope
 with_label name is_loop scope = record scope { labels = record { name = name; is_loop = is_loop } ∷ scope.labels }
 
 -- nested labels differ
-abbrev pub is_new_label : Scope → List ℕ → Bool
+abbrev pub is_new_label : BodyScope → List ℕ → Bool
 is_new_label scope name = not (has_label (λ label. true) name scope)
 
-abbrev pub in_loop : Option (List ℕ) → Scope → Scope
+abbrev pub in_loop : Option (List ℕ) → BodyScope → BodyScope
 in_loop None scope = scope
 in_loop (Some name) scope = with_label name true scope
 
-abbrev pub is_new_loop : Scope → Option (List ℕ) → Bool
+abbrev pub is_new_loop : BodyScope → Option (List ℕ) → Bool
 is_new_loop scope None = true
 is_new_loop scope (Some name) = is_new_label scope name
 
@@ -354,27 +364,27 @@ is_matched None = false
 is_matched (Some ty) = is_integer ty
 
 abbrev mutual
-  pub stmt_typed : Scope → Stmt → Bool
-  stmt_typed scope (Assign p e) = is_scalar_of (place_type scope p) (kind_of scope e)
-  stmt_typed scope (Eval e) = drops_call scope e
+  pub stmt_typed : BodyScope → Stmt → Bool
+  stmt_typed scope (Assign p e) = is_scalar_of (place_type scope.names p) (kind_of scope.names e)
+  stmt_typed scope (Eval e) = drops_call scope.names e
   stmt_typed scope (CopyBytes source target count) =
-      is_of_type (Pointer (Integer U8)) (kind_of scope source) && is_of_type (Pointer (Integer U8)) (kind_of scope target)
-      && is_of_type usize_type (kind_of scope count)
+      is_of_type (Pointer (Integer U8)) (kind_of scope.names source) && is_of_type (Pointer (Integer U8)) (kind_of scope.names target)
+      && is_of_type usize_type (kind_of scope.names count)
   stmt_typed scope (If condition if_true if_false) =
-      is_of_type Boolean (kind_of scope condition) && stmts_typed scope if_true && stmts_typed scope if_false
+      is_of_type Boolean (kind_of scope.names condition) && stmts_typed scope if_true && stmts_typed scope if_false
   stmt_typed scope (Loop label body) = is_new_loop scope label && stmts_typed (in_loop label scope) body
   stmt_typed scope (Block label body) = is_new_label scope label && stmts_typed (with_label label false scope) body
   stmt_typed scope (Break label) = has_label (λ one. true) label scope
   stmt_typed scope (Continue label) = has_label (λ one. one.is_loop) label scope
   stmt_typed scope (Match e cases other) =
-      is_matched (own_type (kind_of scope e)) && arms_typed scope (own_type (kind_of scope e)) cases && stmts_typed scope other
-  stmt_typed scope (Return value) = gives_type scope scope.result value
+      is_matched (own_type (kind_of scope.names e)) && arms_typed scope (own_type (kind_of scope.names e)) cases && stmts_typed scope other
+  stmt_typed scope (Return value) = gives_type scope.names scope.result value
 
-  pub stmts_typed : Scope → Stmts → Bool
+  pub stmts_typed : BodyScope → Stmts → Bool
   stmts_typed scope no_stmts = true
   stmts_typed scope (more_stmts s ss) = stmt_typed scope s && stmts_typed scope ss
 
-  pub arms_typed : Scope → Option Ty → Arms → Bool
+  pub arms_typed : BodyScope → Option Ty → Arms → Bool
   arms_typed scope matched no_arms = true
   arms_typed scope matched (more_arms (LiteralArm value ty body) others) =
       matches matched value ty && arm_differs value others && stmts_typed scope body && arms_typed scope matched others
@@ -433,9 +443,26 @@ abbrev pub outer_by : Option KnownFunction → OuterTree → Bool
 outer_by (Some one) fun = known_typed one fun
 outer_by None fun = opaque_typed fun
 
+abbrev pub has_no_params : List Ty → Bool
+has_no_params [] = true
+has_no_params (ty ∷ types) = false
+
+abbrev pub takes_nothing : Signature → Bool
+takes_nothing types = has_no_params types.params && not types.variadic
+
+abbrev pub head_by : (name : List ℕ) → (takes_nothing : Bool) → (result : Option Ty) → Bool
+head_by name takes_nothing result =
+    if bytes_eq name (codes "main_0") then takes_nothing && same_results (option_ty result) (some_ty (Integer I32))
+    else (if bytes_eq name (codes "run_static_initializers") then takes_nothing && is_none result else true)
+
+-- `main_0` has no parameters and gives an `i32`, and `run_static_initializers` has neither, with a body or without: `main.rs` calls them
+abbrev pub head_typed : List ℕ → Signature → Bool
+head_typed name types = head_by name (takes_nothing types) types.result
+
 abbrev pub outer_typed : List ModuleTree → OuterTree → Bool
 outer_typed modules fun =
-    list_all (type_stands modules) fun.params && result_stands modules (option_ty fun.result) && outer_by (known_named (symbol_of fun)) fun
+    head_typed fun.name (signature_of (outer fun)) && list_all (type_stands modules) fun.params
+    && result_stands modules (option_ty fun.result) && outer_by (known_named (symbol_of fun)) fun
 
 -- ---- items
 
@@ -469,17 +496,7 @@ values_fit None = true
 values_fit (Some values) = list_all (fits_integer I8) values
 
 abbrev pub static_typed : List ModuleTree → StaticTree → Bool
-static_typed modules object = object_stands modules object.ty && values_fit object.values
-
-abbrev pub has_no_params : List LocalTree → Bool
-has_no_params [] = true
-has_no_params (param ∷ params) = false
-
--- `main_0` has no parameters and gives an `i32`, and `run_static_initializers` has neither
-abbrev pub head_typed : FunctionTree → Bool
-head_typed fun =
-    if bytes_eq fun.name (codes "main_0") then has_no_params fun.params && same_results (option_ty fun.result) (some_ty (Integer I32))
-    else (if bytes_eq fun.name (codes "run_static_initializers") then has_no_params fun.params && is_none fun.result else true)
+static_typed modules object = type_stands modules object.ty && values_fit object.values
 
 -- parameters and locals: their names differ, also from those of the module's items
 abbrev pub names_typed : ModuleTree → List LocalTree → Bool
@@ -487,18 +504,21 @@ names_typed unit locals =
     all_differ (map (λ local. local.name) locals)
     && not (list_any (λ local. is_among (flat_map item_names unit.items) local.name) locals)
 
--- the types of parameters and of the result are scalar, and those of locals aren't too large
+-- the types of parameters and of the result are scalar, and those of locals stand
 abbrev pub types_stand : List ModuleTree → FunctionTree → Bool
 types_stand modules fun =
     params_stand modules (tys (map (λ param. param.ty) fun.params)) && result_stands modules (option_ty fun.result)
-    && list_all (λ local. object_stands modules local.ty) fun.locals
+    && list_all (λ local. type_stands modules local.ty) fun.locals
 
-abbrev pub scope_of : List ModuleTree → FunctionTree → Scope
-scope_of modules fun = record { modules = modules; locals = fun.params ++ fun.locals; result = fun.result; labels = [] }
+abbrev pub names_of : List ModuleTree → FunctionTree → Scope
+names_of modules fun = record { modules = modules; locals = fun.params ++ fun.locals }
+
+abbrev pub scope_of : List ModuleTree → FunctionTree → BodyScope
+scope_of modules fun = record { names = names_of modules fun; result = fun.result; labels = [] }
 
 abbrev pub function_typed : List ModuleTree → ModuleTree → FunctionTree → Bool
 function_typed modules unit fun =
-    head_typed fun && names_typed unit (fun.params ++ fun.locals) && types_stand modules fun
+    head_typed fun.name (own_signature fun) && names_typed unit (fun.params ++ fun.locals) && types_stand modules fun
     && stmts_typed (scope_of modules fun) fun.body && body_ends fun.result fun.body
 
 -- an item of a module behind the earlier ones, the last one first

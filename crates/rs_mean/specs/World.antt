@@ -61,7 +61,7 @@ after_step world units (Err why) = bad (wrong why) world
 unfoldable pub local : {A : Type 0} → (Held → Result (Did A) Cause) → Run A
 local step = λ world units. after_step world units (step world.held)
 
-abbrev kept : {A : Type 0} → Held → Result A Cause → Result (Did A) Cause
+abbrev pub kept : {A : Type 0} → Held → Result A Cause → Result (Did A) Cause
 kept held (Ok value) = Ok (record { value = value; held = held })
 kept held (Err why) = Err why
 

@@ -1,4 +1,5 @@
 pub mod Calls
 pub mod Flows
 pub mod Frames
+pub mod Places
 pub mod Scenes

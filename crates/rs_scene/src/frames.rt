@@ -44,7 +44,7 @@ fn begin_params<'t, S: Store>(
         Err(halt) => return Err(halt),
     };
     let at = Value::Object(Ptr { block, offset: 0 });
-    if let Err(halt) = store_at(store, param.ty.get(), at, arg.value) {
+    if let Err(halt) = store_at(store, true, param.ty.get(), at, arg.value) {
         return Err(halt);
     }
     if let Err(_) = begun.push(HeldLocal { of: param, block }) {

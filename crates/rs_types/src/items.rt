@@ -1,24 +1,21 @@
 //! Items that are well typed.
 
-ghost use Rattle.std.specs.Prelude.{◌≡◌, ◌&&◌, false, [], ◌∷◌, map, reverse, option_map, bytes_eq};
+ghost use Rattle.std.specs.Prelude.{◌≡◌, ◌&&◌, false, [], ◌∷◌, map, reverse, bytes_eq};
 ghost use Rattle.std.specs.List.{list_all, list_any};
 ghost use Rattle.rs_layout.specs.Layouts.{AreAligned, IsAligned, ModulesAreAligned, by_front};
-ghost use Rattle.rs_mean.specs.Scalars.{fits_integer, same_results};
+ghost use Rattle.rs_mean.specs.Scalars.{fits_integer};
 ghost use Rattle.rs_mean.specs.Typing as typing;
-ghost use Rattle.rs_text.specs.declared.integer.IntegerTy.TheVariants.{I8, I32};
-ghost use Rattle.rs_text.specs.Tree as tree;
-ghost use Rattle.rs_text.specs.Tree.{option_ty, some_ty, stmts, tys};
+ghost use Rattle.rs_text.specs.declared.integer.IntegerTy.TheVariants.{I8};
+ghost use Rattle.rs_text.specs.Tree.{stmts, tys};
 ghost use Rattle.rs_text.specs.Valid.{all_differ};
 ghost use Rattle.rs_types.specs.Bodies as bodies;
-ghost use Rattle.rs_tree.specs.Views.{field_view, function_view, item_view, local_view, module_view, outer_view, record_view, static_view, stmt_view, ty_view};
+ghost use Rattle.rs_tree.specs.Views.{field_view, function_view, item_view, local_view, module_view, outer_view, record_view, static_view, stmt_view};
 
+use crate::heads::own_head_typed;
 use crate::known::outer_typed;
 use crate::names::{names_differ, names_typed};
 use cr_base::{Boxed, Int, Items, Name};
-use rs_kinds::{
-    HeldScope, Labels, is_integer_of, is_scalar_type, object_stands, result_stands, stmts_typed,
-    type_stands,
-};
+use rs_kinds::{HeldScope, Labels, is_scalar_type, result_stands, stmts_typed, type_stands};
 use rs_layout::{laid_in_front, record_in_front};
 use rs_mean::fits_integer;
 use rs_tree::{Field, Function, IntegerTy, Item, Local, Module, Outer, RStmt, RTy, Record, Static};
@@ -119,7 +116,7 @@ fn static_typed(modules: &[Module], object: &Static) -> bool
     requires { ModulesAreAligned (map module_view modules.now) }
     ensures { result ≡ typing.static_typed (map module_view modules.now) (static_view object.now) }
 {
-    object_stands(modules, object.ty.get()) && values_fit(&object.values)
+    type_stands(modules, object.ty.get()) && values_fit(&object.values)
 }
 
 fn outers_typed(modules: &[Module], outers: &[Outer]) -> bool
@@ -136,37 +133,6 @@ fn outers_typed(modules: &[Module], outers: &[Outer]) -> bool
 
 // ---- functions
 
-fn is_int(given: &Option<Boxed<RTy>>) -> bool
-    ensures { result ≡ same_results (option_ty (option_map ty_view given.now)) (some_ty (tree.Integer I32)) }
-{
-    match given {
-        None => false,
-        Some(ty) => is_integer_of(IntegerTy::I32, ty.get()),
-    }
-}
-
-fn has_no_params(params: &[Local]) -> bool
-    ensures { result ≡ typing.has_no_params (map local_view params.now) }
-{
-    match params {
-        [] => true,
-        [_, ..] => false,
-    }
-}
-
-// Whether `main_0` and `run_static_initializers` have the parameters and results that they are to have.
-fn head_typed(function: &Function) -> bool
-    ensures { result ≡ typing.head_typed (function_view function.now) }
-{
-    if function.name.bytes() == b"main_0".as_slice() {
-        return has_no_params(function.params.as_slice()) && is_int(&function.result);
-    }
-    if function.name.bytes() == b"run_static_initializers".as_slice() {
-        return has_no_params(function.params.as_slice()) && function.result.is_none();
-    }
-    true
-}
-
 fn params_stand(modules: &[Module], params: &[Local]) -> bool
     requires { ModulesAreAligned (map module_view modules.now) }
     ensures { result ≡ typing.params_stand (map module_view modules.now) (tys (map (λ param. param.ty) (map local_view params.now))) }
@@ -181,10 +147,10 @@ fn params_stand(modules: &[Module], params: &[Local]) -> bool
 
 fn locals_stand(modules: &[Module], locals: &[Local]) -> bool
     requires { ModulesAreAligned (map module_view modules.now) }
-    ensures { result ≡ list_all (λ local. typing.object_stands (map module_view modules.now) local.ty) (map local_view locals.now) }
+    ensures { result ≡ list_all (λ local. typing.type_stands (map module_view modules.now) local.ty) (map local_view locals.now) }
 {
     for local in locals {
-        if !object_stands(modules, local.ty.get()) {
+        if !type_stands(modules, local.ty.get()) {
             return false;
         }
     }
@@ -252,7 +218,7 @@ fn function_typed(modules: &[Module], unit: &Module, function: &Function) -> boo
     requires { ModulesAreAligned (map module_view modules.now) }
     ensures { result ≡ typing.function_typed (map module_view modules.now) (module_view «unit».now) (function_view function.now) }
 {
-    head_typed(function)
+    own_head_typed(function)
         && names_typed(unit, function.params.as_slice(), function.locals.as_slice())
         && types_stand(modules, function)
         && body_typed(modules, function)

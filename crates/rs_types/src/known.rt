@@ -10,6 +10,7 @@ ghost use Rattle.rs_tree.specs.Views.{module_view, outer_view, ty_view};
 ghost use Rattle.rs_layout.specs.Layouts.{ModulesAreAligned};
 ghost use Rattle.rs_types.specs.KnownTypes.{known_view, param_view, params_view};
 
+use crate::heads::outer_head_typed;
 use cr_base::{Boxed, Items};
 use rs_kinds::{is_integer_of, result_stands, type_stands};
 use rs_tree::{IntegerTy, Module, Outer, RTy};
@@ -215,13 +216,16 @@ fn bare_name(name: &[u8]) -> &[u8]
     }
 }
 
-/// Whether an external function has types that one may have: those of a known one where its symbol is one's,
-/// and otherwise integers, `bool` and `*mut i8`.
+/// Whether an external function has types that one may have: those of `main_0` where that is its name, those
+/// of a known one where its symbol is one's, and otherwise integers, `bool` and `*mut i8`.
 pub(crate) fn outer_typed(modules: &[Module], outer: &Outer) -> bool
     requires { ModulesAreAligned (map module_view modules.now) }
     ensures { result ≡ typing.outer_typed (map module_view modules.now) (outer_view outer.now) }
 {
-    if !(params_stand(modules, &outer.params) && result_stands(modules, &outer.result)) {
+    if !(outer_head_typed(outer)
+        && params_stand(modules, &outer.params)
+        && result_stands(modules, &outer.result))
+    {
         return false;
     }
     match known_named(symbol_of(outer)) {

@@ -3,6 +3,7 @@
 #![tactic(auto)]
 
 mod checked;
+mod heads;
 mod items;
 mod known;
 mod names;

@@ -1,7 +1,7 @@
 -- Which type, value and place of the meaning those of src/ are.
 use Rattle.std.specs.Prelude.{map, option_map, Result, Ok, Err}
 use Rattle.std.specs.Option.{option_copied}
-use Rattle.rs_mean.specs.Calls.{Spot, spot}
+use Rattle.rs_mean.specs.Calls.{Spot, based}
 use Rattle.rs_mean.specs.Values.{Typed, typed}
 use Rattle.rs_text.specs.Tree as tree
 use Rattle.rs_text.specs.Tree.{Ty, tys, option_ty}
@@ -24,7 +24,7 @@ abbrev pub typed_view : TypedValue → Typed
 typed_view one = typed (value_ty_view one.ty) one.value
 
 abbrev pub spot_view : ValueSpot → Spot
-spot_view place = spot (ty_view place.ty.now) place.at
+spot_view place = based place.is_based (ty_view place.ty.now) place.at
 
 -- a result that stands for another
 abbrev pub seen_as : {A B E : Type 0} → (A → B) → Result A E → Result B E

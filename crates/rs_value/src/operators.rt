@@ -320,13 +320,7 @@ fn turned_truth<'t>(value: Value) -> Result<TypedValue<'t>, Trouble>
     ensures { Finds typed_view result (of.not_of (typed tree.Boolean value)) }
 {
     match value {
-        Value::Whole(number) => match Int::from(1u8).checked_sub(number) {
-            Some(turned) => Ok(TypedValue {
-                ty: ValueTy::Boolean,
-                value: Value::Whole(turned),
-            }),
-            None => Err(Trouble::Memory),
-        },
+        Value::Whole(number) => Ok(truth(number == 0)),
         _ => Err(Trouble::Wrong(Cause::WrongCall)),
     }
 }

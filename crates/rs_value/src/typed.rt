@@ -33,11 +33,13 @@ pub struct TypedValue<'t> {
     pub value: Value,
 }
 
-/// A place: a pointer, which may be null, to a value of a type.
+/// A place: a pointer, which may be null, to a value of a type, and whether its base is aligned, which is
+/// what the last `*` on the way to it points to.
 #[derive(Clone, Copy)]
 pub struct ValueSpot<'t> {
     pub ty: &'t RTy,
     pub at: Value,
+    pub is_based: bool,
 }
 
 /// The type of a result, if there is one.

@@ -1,5 +1,5 @@
 -- How far a run of either language comes, and what a run with the answers of a host is to the meaning of its program.
-use Rattle.std.specs.Prelude.{◌≡◌, ℕ, ℤ, Bool, true, false, List, [], ◌∷◌, ◌++◌, drop, Option, IfSome, option_map, ⊤}
+use Rattle.std.specs.Prelude.{◌≡◌, ℕ, ◌≤◌, ℤ, Bool, true, false, List, [], ◌∷◌, ◌++◌, drop, Option, IfSome, option_map, ⊤}
 use Rattle.cr_base.specs.Count.{Rose}
 use Rattle.cr_base.specs.declared.rule.URule.{URule}
 use Rattle.ext_calls.specs.declared.call.Call.{Call}
@@ -90,6 +90,14 @@ pub record IsRun (meaning : Meaning) (host later : HostState) (end : End) : Type
   pub trail : List ℤ
   pub comes : IsEnd host.takes end (meaning trail).progress
   pub tied : IsTied (meaning trail) host later
+
+-- memory was wanting in a run of what has a meaning for each number of steps: within some steps, at most those that were given, there is a trail of
+-- answers, tied to the host
+pub record IsWanting (meaning : ℕ → Meaning) (given : ℕ) (host later : HostState) : Type 0 where
+  pub steps : ℕ
+  pub within : steps ≤ given
+  pub trail : List ℤ
+  pub tied : IsTied (meaning steps trail) host later
 
 -- the outside failed only where the host counted a failure
 abbrev pub HasFailed : HostState → HostState → End → Type 0

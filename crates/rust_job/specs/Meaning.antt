@@ -1,5 +1,5 @@
 -- What the run of a crate means, over a store without limit; and why files aren't run.
-use Rattle.std.specs.Prelude.{◌≡◌, ℕ, true, List, None, Some, ⊤}
+use Rattle.std.specs.Prelude.{◌≡◌, ◌⊎◌, ℕ, true, List, None, Some, ⊤}
 use Rattle.cr_world.specs.World.{wrong as is_wrong, full as is_full, asks, astray as goes_astray}
 use Rattle.ext_calls.specs.Host.{HostState}
 use Rattle.rs_exec.specs.Exec.{progress_within, world_within}
@@ -10,7 +10,7 @@ use Rattle.rs_parse.specs.Crates.{IsAtFault}
 use Rattle.rs_text.specs.Lines.{module_names}
 use Rattle.rs_text.specs.Reads.{ReadsAs}
 use Rattle.rs_text.specs.Tree.{CrateTree}
-use Rattle.run_ends.specs.Runs.{Progress, going, ended, wrong, full, asks_for, astray, Meaning, IsRun}
+use Rattle.run_ends.specs.Runs.{Progress, going, ended, wrong, full, asks_for, astray, Meaning, IsRun, IsWanting}
 use Rattle.run_ends.specs.Told.{name_at}
 use Rattle.run_ends.specs.declared.end.End.{End}
 use Rattle.rust_job.specs.declared.fault.CrateFault.{CrateFault}
@@ -70,6 +70,19 @@ abbrev pub StopsFiles : List File → CrateFault → Type 0
 StopsFiles files (NotRust file line) = AreNotRust files file
 StopsFiles files (IllTyped name item) = AreIllTyped files name item
 StopsFiles files Memory = ⊤
+
+-- files read as a well-typed crate, and memory was wanting in its run
+pub record AreWanting (files : List File) (units : ℕ) (host later : HostState) : Type 0 where
+  pub whole : CrateTree
+  pub read : ReadsAs files whole
+  pub typed : well_typed whole ≡ true
+  pub wants : IsWanting (meaning_of whole) units host later
+
+-- where memory ran out, no run had begun and no call was made, or memory was wanting in a run
+abbrev pub MayWant : (files : List File) → (units : ℕ) → CrateFault → HostState → HostState → Type 0
+MayWant files units (NotRust file line) host later = ⊤
+MayWant files units (IllTyped name item) host later = ⊤
+MayWant files units Memory host later = (later ≡ host) ⊎ AreWanting files units host later
 
 -- P, unless memory ran out
 abbrev pub UnlessMemory : CrateFault → Type 0 → Type 0

@@ -1,15 +1,15 @@
 //! The run of a crate.
 
-ghost use Rattle.std.specs.Prelude.{◌≡◌, ◌≤◌, ◌<◌, true, false, length, map, Some, IfOk, IfErr};
+ghost use Rattle.std.specs.Prelude.{◌≡◌, ◌≤◌, ◌<◌, true, false, length, map, Some, IfOk, IfErr, OnErr};
 ghost use Rattle.rs_mean.specs.Typing.{first_ill, well_typed};
 ghost use Rattle.rs_text.specs.Reads.{ReadsAs};
 ghost use Rattle.rs_text.specs.Valid.{valid_crate};
 ghost use Rattle.rs_tree.specs.Views.{crate_view, module_view};
-ghost use Rattle.run_ends.specs.Runs.{HasFailed, IsRun};
+ghost use Rattle.run_ends.specs.Runs.{HasFailed, IsRun, IsWanting};
 ghost use Rattle.run_ends.specs.Told.{name_at};
 ghost use Rattle.rs_types.specs.Checked.{place};
 ghost use Rattle.rust_job.specs.Ends.{MayEnd, is_undefined};
-ghost use Rattle.rust_job.specs.Meaning.{AreRun, IsIllTypedBy, StopsFiles, UnlessMemory, meaning_of};
+ghost use Rattle.rust_job.specs.Meaning.{AreRun, IsIllTypedBy, MayWant, StopsFiles, UnlessMemory, meaning_of};
 
 use crate::end::end_of;
 use crate::fault::CrateFault;
@@ -24,7 +24,11 @@ use run_ends::End;
 use std::alloc::Global;
 
 /// Runs a crate that is valid and well typed over a store without limit, with the answers of a host, within a budget of `units` units, at
-/// most 1,000,000,000. Refused only for want of memory.
+/// most 1,000,000,000.
+///
+/// # Errors
+///
+/// `Memory` for want of memory: the host was asked for what the run asks within some of the units.
 pub fn run_whole<H: Host>(
     alloc: Global,
     whole: &Crate,
@@ -37,6 +41,7 @@ pub fn run_whole<H: Host>(
     ensures run { IfOk result (IsRun (meaning_of (crate_view whole.now) units) (H.state host.old) (H.state host.new)) }
     ensures right { IfOk result (λ end. is_undefined end ≡ false) }
     ensures failed { IfOk result (HasFailed (H.state host.old) (H.state host.new)) }
+    ensures wanting { OnErr result (IsWanting (meaning_of (crate_view whole.now)) units (H.state host.old) (H.state host.new)) }
 {
     let mut store = ListStore::new(alloc);
     match run_rust(alloc, whole, units, &mut store, host) {
@@ -95,7 +100,7 @@ fn read(alloc: Global, files: &Files) -> Result<Crate, CrateFault>
 /// # Errors
 ///
 /// `NotRust` where no crate is read from the files, and `IllTyped` where it isn't well typed; then no call was made. `Memory` for want of
-/// memory.
+/// memory: no run had begun and no call was made, or the host was asked for what the run asks within some of the units.
 pub fn run_files<H: Host>(
     alloc: Global,
     files: &Files,
@@ -108,6 +113,7 @@ pub fn run_files<H: Host>(
     ensures failed { IfOk result (HasFailed (H.state host.old) (H.state host.new)) }
     ensures stops { IfErr result (StopsFiles files.now.list) }
     ensures uncalled { IfErr result (λ why. UnlessMemory why (H.state host.new ≡ H.state host.old)) }
+    ensures wanting { IfErr result (λ why. MayWant files.now.list units why (H.state host.old) (H.state host.new)) }
 {
     let whole = read(alloc, files)?;
     checked(&whole)?;

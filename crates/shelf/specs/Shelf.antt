@@ -65,12 +65,12 @@ UnlessFailed (Err Memory) P = P
 abbrev pub call_of : List ℕ → Kind → Called
 call_of name kind = record { name = name; kind = kind }
 
--- what a call of this name and kind does to the count of faults and to the last failed call: the
--- count never falls; a call that failed raised it and is the last one; every other call leaves the
--- last one as it was
+-- what a call of this name and kind does to the count of faults and to the last failed call: a call
+-- that failed raised the count and is the last one; every other call leaves both as they were
 pub record HasCause {T : Type 0} (name : List ℕ) (kind : Kind) (before after : ShelfState)
     (result : Result T ShelfFault) : Type 0 where
   pub later : before.faults ≤ after.faults
+  pub still : UnlessFailed result (after.faults ≡ before.faults)
   pub rose : OnFailed result (Rose before.faults after.faults)
   pub named : OnFailed result (after.last ≡ Some (call_of name kind))
   pub kept : UnlessFailed result (after.last ≡ before.last)

@@ -31,6 +31,7 @@ impl FaultLog {
     ) -> Result<T, ShelfFault>
         ensures same { result ≡ outcome }
         ensures later { self.old.count ≤ self.new.count }
+        ensures still { UnlessFailed result (self.new.count ≡ self.old.count) }
         ensures rose { OnFailed result (Rose self.old.count self.new.count) }
         ensures named { OnFailed result (self.new.last ≡ Some called) }
         ensures kept { UnlessFailed result (self.new.last ≡ self.old.last) }

@@ -79,6 +79,7 @@ impl Sink for MemSink {
         ensures moves { IfOk result (λ count. 0 < length piece.now → 0 < count) }
         ensures kept { OnErr result ((state_of self.new).written ≡ (state_of self.old).written) }
         ensures later { (state_of self.old).faults ≤ (state_of self.new).faults }
+        ensures still { OnOk result ((state_of self.new).faults ≡ (state_of self.old).faults) }
         ensures cause { OnErr result (Rose (state_of self.old).faults (state_of self.new).faults) }
 
         // How many bytes a call takes, which calls fail, and how they are numbered.

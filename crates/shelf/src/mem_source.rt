@@ -63,6 +63,7 @@ impl Source for MemSource {
             ((state_of self.new).rest ≡ behind_first (state_of self.old).rest) }
         ensures kept { OnErr result ((state_of self.new).rest ≡ (state_of self.old).rest) }
         ensures later { (state_of self.old).faults ≤ (state_of self.new).faults }
+        ensures still { OnOk result ((state_of self.new).faults ≡ (state_of self.old).faults) }
         ensures cause { OnErr result (Rose (state_of self.old).faults (state_of self.new).faults) }
 
         // Which calls fail, and how they are numbered.

@@ -20,6 +20,7 @@ pub trait Sink {
         ensures moves { IfOk result (λ count. 0 < length piece.now → 0 < count) }
         ensures kept { OnErr result ((state self.new).written ≡ (state self.old).written) }
         ensures later { (state self.old).faults ≤ (state self.new).faults }
+        ensures still { OnOk result ((state self.new).faults ≡ (state self.old).faults) }
         ensures cause { OnErr result (Rose (state self.old).faults (state self.new).faults) };
 }
 
@@ -31,6 +32,7 @@ pub fn write_all<S: Sink>(sink: &mut S, piece: &[u8]) -> Result<(), Failed>
     ensures err { OnErr result ((count : ℕ) × (count ≤ length piece.now)
         × Appended (take count piece.now) (S.state sink.old).written (S.state sink.new).written) }
     ensures later { (S.state sink.old).faults ≤ (S.state sink.new).faults }
+    ensures still { OnOk result ((S.state sink.new).faults ≡ (S.state sink.old).faults) }
     ensures cause { OnErr result (Rose (S.state sink.old).faults (S.state sink.new).faults) }
 {
     let mut done = 0;

@@ -19,5 +19,6 @@ pub trait Source {
             ((state self.new).rest ≡ behind_first (state self.old).rest) }
         ensures kept { OnErr result ((state self.new).rest ≡ (state self.old).rest) }
         ensures later { (state self.old).faults ≤ (state self.new).faults }
+        ensures still { OnOk result ((state self.new).faults ≡ (state self.old).faults) }
         ensures cause { OnErr result (Rose (state self.old).faults (state self.new).faults) };
 }

@@ -1,4 +1,4 @@
-ghost use Rattle.std.specs.Prelude.{◌≡◌, ◌<◌, ◌≤◌, length, take, IfOk, OnErr};
+ghost use Rattle.std.specs.Prelude.{◌≡◌, ◌<◌, ◌≤◌, length, take, IfOk, OnOk, OnErr};
 ghost use Rattle.std.specs.Io.KnownBytes.{Appends, Keeps};
 ghost use Rattle.cr_base.specs.Count.{Rose};
 ghost use Rattle.shelf.specs.Sink.{Appended};
@@ -50,6 +50,7 @@ impl<W: Write> Sink for StdSink<W> {
         ensures moves { IfOk result (λ count. 0 < length piece.now → 0 < count) }
         ensures kept { OnErr result ((state_of self.new).written ≡ (state_of self.old).written) }
         ensures later { (state_of self.old).faults ≤ (state_of self.new).faults }
+        ensures still { OnOk result ((state_of self.new).faults ≡ (state_of self.old).faults) }
         ensures cause { OnErr result (Rose (state_of self.old).faults (state_of self.new).faults) }
 
         // What becomes of the bytes that the writer holds, where it says so.

@@ -60,6 +60,7 @@ impl<R: Read> Source for StdSource<R> {
             ((state_of self.new).rest ≡ behind_first (state_of self.old).rest) }
         ensures kept { OnErr result ((state_of self.new).rest ≡ (state_of self.old).rest) }
         ensures later { (state_of self.old).faults ≤ (state_of self.new).faults }
+        ensures still { OnOk result ((state_of self.new).faults ≡ (state_of self.old).faults) }
         ensures cause { OnErr result (Rose (state_of self.old).faults (state_of self.new).faults) }
 
         // What is given and what is left, where the reader says what it has left.

@@ -1,4 +1,4 @@
-ghost use Rattle.std.specs.Prelude.{◌≡◌, ◌<◌, ◌≤◌, [], Some, length, take, option_copied, IfOk, OnErr, IsOk};
+ghost use Rattle.std.specs.Prelude.{◌≡◌, ◌<◌, ◌≤◌, [], Some, length, take, option_copied, IfOk, OnOk, OnErr, IsOk};
 ghost use Rattle.cr_base.specs.Count.{Rose};
 ghost use Rattle.shelf.specs.Sink.{Appended};
 ghost use Rattle.shelf.specs.SureSink.{state_of};
@@ -57,6 +57,7 @@ impl Sink for SureSink {
         ensures moves { IfOk result (λ count. 0 < length piece.now → 0 < count) }
         ensures kept { OnErr result ((state_of self.new).written ≡ (state_of self.old).written) }
         ensures later { (state_of self.old).faults ≤ (state_of self.new).faults }
+        ensures still { OnOk result ((state_of self.new).faults ≡ (state_of self.old).faults) }
         ensures cause { OnErr result (Rose (state_of self.old).faults (state_of self.new).faults) }
         ensures sure { IsOk result }
     {

@@ -79,6 +79,7 @@ impl<R: Source, S: Sink> Host for StdHost<R, S> {
         ensures declined { is_taken call.now ≡ false → IsDeclined result }
         ensures sparing { result ≡ Err HostFault.Memory → NeedsMemory (function_named call.now.name) }
         ensures later { (state_of R.state S.state self.old).faults ≤ (state_of R.state S.state self.new).faults }
+        ensures still { OnOk result ((state_of R.state S.state self.new).faults ≡ (state_of R.state S.state self.old).faults) }
     {
         match effect_of(self.alloc, call)? {
             None => Err(HostFault::Refused),
@@ -95,6 +96,7 @@ impl<R: Source, S: Sink> StdHost<R, S> {
         ensures written { HasWritten bytes.now answer (S.state self.old.output) (S.state self.new.output) result }
         ensures input { self.new.input ≡ self.old.input }
         ensures later { (S.state self.old.output).faults ≤ (S.state self.new.output).faults }
+        ensures still { OnOk result ((S.state self.new.output).faults ≡ (S.state self.old.output).faults) }
         ensures sparing { result ≢ Err HostFault.Memory }
     {
         match write_all(&mut self.output, bytes) {
@@ -108,6 +110,7 @@ impl<R: Source, S: Sink> StdHost<R, S> {
         ensures written { HasWritten text.now (count_of text.now) (S.state self.old.output) (S.state self.new.output) result }
         ensures input { self.new.input ≡ self.old.input }
         ensures later { (S.state self.old.output).faults ≤ (S.state self.new.output).faults }
+        ensures still { OnOk result ((S.state self.new.output).faults ≡ (S.state self.old.output).faults) }
     {
         self.write(text, text.len() as i64)
     }
@@ -117,6 +120,7 @@ impl<R: Source, S: Sink> StdHost<R, S> {
         ensures read { HasRead (R.state self.old.input) (R.state self.new.input) result }
         ensures output { self.new.output ≡ self.old.output }
         ensures later { (R.state self.old.input).faults ≤ (R.state self.new.input).faults }
+        ensures still { OnOk result ((R.state self.new.input).faults ≡ (R.state self.old.input).faults) }
     {
         match self.input.read() {
             Ok(Some(byte)) => Ok(i64::from(byte)),

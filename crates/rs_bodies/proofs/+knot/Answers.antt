@@ -1,10 +1,11 @@
 use Rattle.rs_forms.proofs.Formed.{by_call, by_form, by_nested, by_side, by_stmt_form}
-use Rattle.rs_bodies.proofs.Called.{arg_stops, args_begin, args_go, body_runs, callee_out, callee_refused, callee_runs, found_runs, frame_runs, frame_stops, locals_end, no_args, no_callee, no_target, no_unit_taken, target_gives, target_refused, target_runs, target_stops, unit_taken}
+use Rattle.rs_bodies.proofs.Called.{arg_stops, arg_unheld, args_begin, args_go, body_runs, callee_out, callee_refused, callee_runs, found_runs, frame_runs, frame_stops, locals_end, no_args, no_callee, no_target, no_unit_taken, target_gives, target_refused, target_runs, target_stops, unit_taken}
 use Rattle.rs_forms.proofs.Quickly.{side_runs}
 use Rattle.rs_forms.proofs.Remaining.{all_left}
 use Rattle.rs_bodies.proofs.Turned.{arms_run, block_does, gives_same, listed, stmt_goes, stmt_leaves, stmt_stops, stmts_end, turns_end, turns_go, turns_out, turns_stop}
 use Rattle.rs_machine.proofs.Pieces.{stops_first, then_does}
-use Rattle.rs_machine.proofs.Rules.{false_does, found_fails, found_gives, pure_does, pure_is, true_does}
+use Rattle.rs_machine.specs.Does.{no_memory, stops}
+use Rattle.rs_machine.proofs.Rules.{false_does, found_fails, found_gives, memory_here, pure_does, pure_is, true_does}
 use Rattle.rs_mean.specs.Laws.{bodies_of}
 use Rattle.rs_scene.specs.Calls.{pointed_view}
 use Rattle.rs_scene.specs.Flows.{flow_view}
@@ -178,7 +179,7 @@ pub places::deref-returns-in-Err : goal.places::deref-returns-in-Err
 places::deref-returns-in-Err g t c = stops_first _ c.in-Err.ensures
 
 pub places::deref-returns : goal.places::deref-returns
-places::deref-returns g t c = then_does _ c.in-Ok.ensures (c.target_spot.ensures _)
+places::deref-returns g t c = then_does _ c.in-Ok.ensures (c.target_spot.ensures _ _ _)
 
 pub places::field-returns-in-Err : goal.places::field-returns-in-Err
 places::field-returns-in-Err g t c = stops_first _ c.in-Err.ensures
@@ -305,3 +306,111 @@ stmts::dropped_call-returns-in-Err g t c = stops_first _ c.in-Err.ensures
 
 pub stmts::dropped_call-returns : goal.stmts::dropped_call-returns
 stmts::dropped_call-returns g t c = then_does _ c.in-Ok.ensures (pure_does _ _)
+
+pub calls::args-returns-then-room-eq0 : goal.calls::args-returns-then-room-eq0
+calls::args-returns-then-room-eq0 g t c = memory_here
+
+pub calls::args_into-returns-then-room-eq0 : goal.calls::args_into-returns-then-room-eq0
+calls::args_into-returns-then-room-eq0 g t c = memory_here
+
+pub calls::body-returns-then-room-eq0 : goal.calls::body-returns-then-room-eq0
+calls::body-returns-then-room-eq0 g t c = memory_here
+
+pub calls::call-returns-then-room-eq0 : goal.calls::call-returns-then-room-eq0
+calls::call-returns-then-room-eq0 g t c = memory_here
+
+pub calls::call_found-returns-then-room-eq0 : goal.calls::call_found-returns-then-room-eq0
+calls::call_found-returns-then-room-eq0 g t c = memory_here
+
+pub calls::call_pointed-returns-then-room-eq0 : goal.calls::call_pointed-returns-then-room-eq0
+calls::call_pointed-returns-then-room-eq0 g t c = memory_here
+
+pub calls::called-returns-then-room-eq0 : goal.calls::called-returns-then-room-eq0
+calls::called-returns-then-room-eq0 g t c = memory_here
+
+pub calls::called_by-returns-then-room-eq0 : goal.calls::called_by-returns-then-room-eq0
+calls::called_by-returns-then-room-eq0 g t c = memory_here
+
+pub calls::function-returns-then-room-eq0 : goal.calls::function-returns-then-room-eq0
+calls::function-returns-then-room-eq0 g t c = memory_here
+
+pub calls::run_callee-returns-then-room-eq0 : goal.calls::run_callee-returns-then-room-eq0
+calls::run_callee-returns-then-room-eq0 g t c = memory_here
+
+pub exprs::call_value-returns-then-room-eq0 : goal.exprs::call_value-returns-then-room-eq0
+exprs::call_value-returns-then-room-eq0 g t c = memory_here
+
+pub exprs::expr-returns-then-room-eq0 : goal.exprs::expr-returns-then-room-eq0
+exprs::expr-returns-then-room-eq0 g t c = memory_here
+
+pub exprs::one-returns-then-room-eq0 : goal.exprs::one-returns-then-room-eq0
+exprs::one-returns-then-room-eq0 g t c = memory_here
+
+pub exprs::placed-returns-then-room-eq0 : goal.exprs::placed-returns-then-room-eq0
+exprs::placed-returns-then-room-eq0 g t c = memory_here
+
+pub exprs::side-returns-then-room-eq0 : goal.exprs::side-returns-then-room-eq0
+exprs::side-returns-then-room-eq0 g t c = memory_here
+
+pub exprs::tested-returns-then-room-eq0 : goal.exprs::tested-returns-then-room-eq0
+exprs::tested-returns-then-room-eq0 g t c = memory_here
+
+pub exprs::two-returns-then-room-eq0 : goal.exprs::two-returns-then-room-eq0
+exprs::two-returns-then-room-eq0 g t c = memory_here
+
+pub places::deref-returns-then-room-eq0 : goal.places::deref-returns-then-room-eq0
+places::deref-returns-then-room-eq0 g t c = memory_here
+
+pub places::field-returns-then-room-eq0 : goal.places::field-returns-then-room-eq0
+places::field-returns-then-room-eq0 g t c = memory_here
+
+pub places::place-returns-then-room-eq0 : goal.places::place-returns-then-room-eq0
+places::place-returns-then-room-eq0 g t c = memory_here
+
+pub stmts::assign-returns-then-room-eq0 : goal.stmts::assign-returns-then-room-eq0
+stmts::assign-returns-then-room-eq0 g t c = memory_here
+
+pub stmts::assign_value-returns-then-room-eq0 : goal.stmts::assign_value-returns-then-room-eq0
+stmts::assign_value-returns-then-room-eq0 g t c = memory_here
+
+pub stmts::block-returns-then-room-eq0 : goal.stmts::block-returns-then-room-eq0
+stmts::block-returns-then-room-eq0 g t c = memory_here
+
+pub stmts::branch-returns-then-room-eq0 : goal.stmts::branch-returns-then-room-eq0
+stmts::branch-returns-then-room-eq0 g t c = memory_here
+
+pub stmts::copied-returns-then-room-eq0 : goal.stmts::copied-returns-then-room-eq0
+stmts::copied-returns-then-room-eq0 g t c = memory_here
+
+pub stmts::dropped_call-returns-then-room-eq0 : goal.stmts::dropped_call-returns-then-room-eq0
+stmts::dropped_call-returns-then-room-eq0 g t c = memory_here
+
+pub stmts::dropped_value-returns-then-room-eq0 : goal.stmts::dropped_value-returns-then-room-eq0
+stmts::dropped_value-returns-then-room-eq0 g t c = memory_here
+
+pub stmts::matched-returns-then-room-eq0 : goal.stmts::matched-returns-then-room-eq0
+stmts::matched-returns-then-room-eq0 g t c = memory_here
+
+pub stmts::nested-returns-then-room-eq0 : goal.stmts::nested-returns-then-room-eq0
+stmts::nested-returns-then-room-eq0 g t c = memory_here
+
+pub stmts::returned-returns-then-room-eq0 : goal.stmts::returned-returns-then-room-eq0
+stmts::returned-returns-then-room-eq0 g t c = memory_here
+
+pub stmts::stmt-returns-then-room-eq0 : goal.stmts::stmt-returns-then-room-eq0
+stmts::stmt-returns-then-room-eq0 g t c = memory_here
+
+pub stmts::stmts-returns-then-room-eq0 : goal.stmts::stmts-returns-then-room-eq0
+stmts::stmts-returns-then-room-eq0 g t c = memory_here
+
+pub stmts::turns-returns-then-room-eq0 : goal.stmts::turns-returns-then-room-eq0
+stmts::turns-returns-then-room-eq0 g t c = memory_here
+
+pub stmts::whole_stmt-returns-then-room-eq0 : goal.stmts::whole_stmt-returns-then-room-eq0
+stmts::whole_stmt-returns-then-room-eq0 g t c = memory_here
+
+pub calls::args_into-returns-in-Err-push : goal.calls::args_into-returns-in-Err-push
+calls::args_into-returns-in-Err-push g t c = arg_unheld (frame_view c.args.scene) c.args.values.now c.in-Ok.value c.args.list.now c.in-Some.others.now c.in-Some.first.now c.in-Some.ensures.cases.0 c.in-Ok.ensures
+
+pub stmts::turns-returns : goal.stmts::turns-returns
+stmts::turns-returns g t c = c.loop-turn.invariant.follows.by (stops no_memory) _ memory_here

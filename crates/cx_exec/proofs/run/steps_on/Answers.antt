@@ -2,7 +2,7 @@ use Rattle.std.proofs.Common.{◌≡◌, ℕ, suc, ◌+◌, ◌-◌, subst, arit
 use Rattle.cx_access.specs.Views.{view_setting}
 use Rattle.cx_exec.specs.Exec.{IsRun}
 use Rattle.cx_exec.specs.Steps.{Reached, start_around}
-use Rattle.cx_exec.proofs.Looping.{all_used, begun, further, stopped}
+use Rattle.cx_exec.proofs.Looping.{all_used, begun, further, stopped, wants_short}
 use Rattle.cx_machine.specs.Machines.{view_machine}
 use Rattle.cx_machine.specs.Steps.{taken_of}
 use Rattle.cx_outside.specs.States.{around}
@@ -46,6 +46,12 @@ returns-in-Err g c =
           (around c.loop-taken.kept (g.S.Store.memory c.loop-taken.store) (g.S.Store.limit c.loop-taken.store) (g.H.Host.state c.loop-taken.host))
           (around c.take_some.new.kept (g.S.Store.memory c.take_some.new.store) (g.S.Store.limit c.take_some.new.store) (g.H.Host.state c.take_some.new.host)) (view_machine c.take_some.new.machine) c.in-Err.stop
           c.requires.setting c.loop-taken.invariant.reached (omega (arith, c.loop-taken.invariant.within)) c.in-Err.ensures outcome is),
+      λ is.
+          wants_short (view_setting c.args.setting.now) c.args.machine.now.order.now (g.S.Store.limit c.args.store.now) (g.H.Host.state c.args.host.now) c.loop-taken.taken (c.args.steps - c.loop-taken.taken)
+          c.take_some.new.before c.args.steps c.loop-taken.machine
+          (around c.loop-taken.kept (g.S.Store.memory c.loop-taken.store) (g.S.Store.limit c.loop-taken.store) (g.H.Host.state c.loop-taken.host))
+          (around c.take_some.new.kept (g.S.Store.memory c.take_some.new.store) (g.S.Store.limit c.take_some.new.store) (g.H.Host.state c.take_some.new.host)) (view_machine c.take_some.new.machine) c.in-Err.stop
+          c.requires.setting c.loop-taken.invariant.reached (omega (arith, c.loop-taken.invariant.within)) c.in-Err.ensures is,
     )
 
 pub returns : goal.returns

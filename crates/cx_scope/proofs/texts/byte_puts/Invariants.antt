@@ -1,6 +1,6 @@
 use Rattle.std.proofs.Common.{◌≡◌, ◌++◌, map, drop}
 use Rattle.cx_core.specs.Views.{view_put}
-use Rattle.cx_scope.specs.Texts.{byte_puts}
+use Rattle.cx_rules.specs.Texts.{byte_puts}
 use Rattle.cx_scope.proofs.texts.byte_puts.Given as goal
 
 -- what was made of bytes, and what the bytes that are left give

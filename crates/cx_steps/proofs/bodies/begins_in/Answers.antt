@@ -4,6 +4,7 @@ use Rattle.cx_core.specs.Views.{view_type}
 use Rattle.cx_mean.specs.Moves.{beginning}
 use Rattle.cx_mean.specs.State.{slot, with_slot}
 use Rattle.cx_moves.specs.Sites.{view_goal, view_level, view_site}
+use Rattle.cx_outside.proofs.Wanting.{host_alone}
 use Rattle.cx_steps.proofs.Begun.{block_begun, block_lacks}
 use Rattle.cx_steps.proofs.bodies.begins_in.Goals as goal
 
@@ -11,7 +12,7 @@ pub returns-in-Err-clause-steps : goal.returns-in-Err-clause-steps
 returns-in-Err-clause-steps g c = λ kept host.
     block_lacks (view_setting c.args.setting.now) c.args.machine.now
     (record { object = c.args.object; others = c.args.others.now; level = view_level c.args.level; outer = view_site c.args.machine.now.site; goal = view_goal c.args.machine.now.site.way c.args.goal })
-    (view_type c.in-Some.shape.ty.now) c.in-Some.shape.laid c.in-Some.ensures c.in-Err.lack _ _ _ (c.in-Err.ensures.steps kept host)
+    (view_type c.in-Some.shape.ty.now) c.in-Some.shape.laid c.in-Some.ensures c.in-Err.lack _ _ _ (host_alone host) (c.in-Err.ensures.steps kept host)
 
 pub returns-in-Ok-has_begun-clause-steps : goal.returns-in-Ok-has_begun-clause-steps
 returns-in-Ok-has_begun-clause-steps g c = λ kept host.

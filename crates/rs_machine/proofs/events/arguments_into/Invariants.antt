@@ -1,5 +1,5 @@
 use Rattle.std.proofs.Common.{◌≡◌, ◌++◌, Ok, map, drop}
-use Rattle.rs_machine.specs.Accesses.{arguments_of}
+use Rattle.rs_mean.specs.Calls.{arguments_of}
 use Rattle.rs_mean.specs.World.{then_try}
 use Rattle.rs_value.specs.Views.{typed_view}
 use Rattle.rs_machine.proofs.events.arguments_into.Given as goal

@@ -1,5 +1,5 @@
 use Rattle.std.proofs.Common.{rules, refl, ◌≡◌, ◌++◌, ◌∷◌, [], to_z, of_z, w64}
-use Rattle.rs_machine.proofs.Answers.{tells_gives, tells_refused, tells_failed, was_taken}
+use Rattle.rs_machine.proofs.Answers.{tells_gives, tells_refused, tells_failed, tells_unnoted, tells_wants, was_taken}
 use Rattle.rs_machine.proofs.outside.tell.Goals as goal
 
 pub returns-in-Err-Failed : goal.returns-in-Err-Failed
@@ -18,3 +18,14 @@ returns-in-Ok-note g c = λ blocks limit.
     let e = c.in-Ok.ensures in
     let noted : c.note.new.self ≡ record c.args.machine.now { trail = c.args.machine.now.trail ++ c.in-Ok.answer ∷ [] } = search rules in
     rw same (tells_gives c.args.machine.now blocks limit (g.H.Host.state c.args.host.now) (g.H.Host.state c.answer.new.self) c.args.call.now c.in-Ok.answer _ noted e.made e.given e.used e.takes e.later (was_taken _ c.in-Ok.answer (g.H.Host.state c.args.host.now) c.args.call.now refl e.declined))
+
+pub returns-in-Err-Memory : goal.returns-in-Err-Memory
+returns-in-Err-Memory g c = λ blocks limit.
+    let e = rw c.in-Err-Memory.field-0-is at c.in-Err-Memory.ensures in
+    tells_wants c.args.machine.now blocks limit (g.H.Host.state c.args.host.now) (g.H.Host.state c.answer.new.self) c.args.call.now _ e.kept e.takes
+
+pub returns-in-Err : goal.returns-in-Err
+returns-in-Err g c = λ blocks limit.
+    let e = c.in-Ok.ensures in
+    tells_unnoted c.args.machine.now blocks limit (g.H.Host.state c.args.host.now) (g.H.Host.state c.answer.new.self) c.args.call.now c.in-Ok.answer _ e.made e.given e.used e.takes
+    (was_taken _ c.in-Ok.answer (g.H.Host.state c.args.host.now) c.args.call.now refl e.declined)

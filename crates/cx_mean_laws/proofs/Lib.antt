@@ -1,0 +1,4 @@
+pub mod AlikeMoves
+pub mod AlikePieces
+pub mod AlikeValues
+pub mod Unfolded

@@ -1,0 +1,7 @@
+pub mod Cells
+pub mod Decoded
+pub mod Images
+pub mod Kept
+pub mod Loads
+pub mod Stores
+pub mod Worked

@@ -1,0 +1,3 @@
+pub mod Behaving
+pub mod Deep
+pub mod Framed

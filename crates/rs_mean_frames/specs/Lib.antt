@@ -1,0 +1,2 @@
+pub mod Behave
+pub mod Laws
