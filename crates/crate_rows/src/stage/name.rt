@@ -5,7 +5,7 @@
 
 use cr_base::{Items, Name};
 use row_words::{Answer, Asked};
-use rs_items::{NameScope, Temporaries, is_plain, keeps_name, stem_of};
+use straight_items::{NameScope, Temporaries, is_plain, keeps_name, stem_of};
 use std::alloc::Global;
 
 const SCOPES: [(&str, NameScope); 3] = [

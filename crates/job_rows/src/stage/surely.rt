@@ -6,7 +6,7 @@ use crate::stage::transpile::write_file;
 use ext_calls::SureHost;
 use front::{out_of_memory, run_surely};
 use row_words::{Answer, Asked};
-use rs_items::stem_of;
+use straight_items::stem_of;
 use shelf::{SureShelf, SureSink};
 use std::alloc::Global;
 

@@ -4,7 +4,7 @@
 
 use crate::stage::files::{hold, run_job, words};
 use row_words::{Answer, Asked};
-use rs_items::stem_of;
+use straight_items::stem_of;
 use shelf::{Got, MemShelf, Shelf};
 use std::alloc::Global;
 

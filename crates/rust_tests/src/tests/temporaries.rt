@@ -1,7 +1,7 @@
 //! Temporaries that find no memory.
 
 use cr_base::{Items, Memory, Name};
-use rs_items::Temporaries;
+use straight_items::Temporaries;
 use std::alloc::Global;
 
 // Temporaries beside the name `t`.
