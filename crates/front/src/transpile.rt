@@ -18,10 +18,10 @@ use crate::sources::got_all;
 use crate::ungot::Ungot;
 use crate::units::program_of_sources;
 use cr_base::{Items, Memory, Name, Refusal, Rule, Stop};
-use straight_items::stem_of;
 use shelf::{File, Shelf, ShelfFault};
 use std::alloc::Global;
 use straight_core::Program;
+use straight_items::stem_of;
 use straight_print::print;
 use straight_whole::translate;
 
