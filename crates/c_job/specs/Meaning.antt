@@ -1,5 +1,5 @@
 -- What the run of units means: that of their linked program, over a store without limit.
-use Rattle.std.specs.Prelude.{◌≡◌, ℕ, ℤ, List, None, ⊤}
+use Rattle.std.specs.Prelude.{◌≡◌, ◌⊎◌, ℕ, ℤ, List, None, ⊤}
 use Rattle.cr_base.specs.declared.refusal.Stop.{Stop}
 use Rattle.cr_base.specs.declared.refusal.Stop.TheVariants.{Refused, Memory}
 use Rattle.cx_core.specs.Trees.{CProgram, CUnit}
@@ -8,8 +8,10 @@ use Rattle.cx_links.specs.Program.{linked}
 use Rattle.cx_mean.specs.Run.{CProgress}
 use Rattle.cx_mean.specs.Run as c
 use Rattle.cx_units.specs.Broken.{AreUnbroken}
+use Rattle.cx_units.specs.Sources.{AreOf}
+use Rattle.cx_units.specs.declared.source.Source.{Source}
 use Rattle.ext_calls.specs.Host.{HostState}
-use Rattle.run_ends.specs.Runs.{Progress, going, ended, undefined, full, asks_for, astray, Meaning, IsRun}
+use Rattle.run_ends.specs.Runs.{Progress, going, ended, undefined, full, asks_for, astray, Meaning, IsRun, IsWanting}
 use Rattle.run_ends.specs.declared.end.End.{End}
 
 -- how far a run of C comes, in the words of both languages
@@ -49,6 +51,17 @@ pub record AreRun (units : List (List ℕ)) (order : List ℕ) (steps : ℕ) (ho
   pub cores : List CUnit
   pub unbroken : AreUnbroken units cores
   pub run : IsRun (meaning_of cores order steps) host later end
+
+-- units of these bytes break no rule, and memory was wanting in the run of their program
+pub record AreWanting (units : List (List ℕ)) (order : List ℕ) (steps : ℕ) (host later : HostState) : Type 0 where
+  pub cores : List CUnit
+  pub unbroken : AreUnbroken units cores
+  pub wants : IsWanting (meaning_of cores order) steps host later
+
+-- where memory ran out, no run had begun and no call was made, or memory was wanting in a run
+abbrev pub MayWant : (sources : List Source) → (order : List ℕ) → (steps : ℕ) → Stop → HostState → HostState → Type 0
+MayWant sources order steps (Refused refusal) host later = ⊤
+MayWant sources order steps Memory host later = (later ≡ host) ⊎ ((units : List (List ℕ)) → AreOf sources units → AreWanting units order steps host later)
 
 -- P, unless memory ran out
 abbrev pub UnlessMemory : Stop → Type 0 → Type 0

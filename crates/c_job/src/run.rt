@@ -1,11 +1,11 @@
 //! The run of units.
 
-ghost use Rattle.std.specs.Prelude.{◌≡◌, ℕ, List, ◌<◌, ◌≤◌, false, length, All, IfOk, IfErr};
+ghost use Rattle.std.specs.Prelude.{◌≡◌, ℕ, List, ◌<◌, ◌≤◌, false, length, All, IfOk, IfErr, OnErr};
 ghost use Rattle.c_job.specs.Ends.{MayEnd, is_wrong};
-ghost use Rattle.c_job.specs.Meaning.{AreRun, IsProgramOf, UnlessMemory, program_meaning};
+ghost use Rattle.c_job.specs.Meaning.{AreRun, IsProgramOf, MayWant, UnlessMemory, program_meaning};
 ghost use Rattle.cx_core.specs.Views.{view_program};
 ghost use Rattle.cx_units.specs.Sources.{AreOf, IsGot, StopsUnits};
-ghost use Rattle.run_ends.specs.Runs.{HasFailed, IsRun};
+ghost use Rattle.run_ends.specs.Runs.{HasFailed, IsRun, IsWanting};
 
 use crate::end::end_of;
 use cr_base::{Memory, Stop};
@@ -23,7 +23,7 @@ use std::alloc::Global;
 ///
 /// # Errors
 ///
-/// `Memory` for want of memory.
+/// `Memory` for want of memory: the host was asked for what the run asks within some of the steps.
 pub fn run_program<H: Host>(
     alloc: Global,
     program: &Program,
@@ -36,6 +36,7 @@ pub fn run_program<H: Host>(
         (H.state host.old) (H.state host.new)) }
     ensures right { IfOk result (λ end. is_wrong end ≡ false) }
     ensures failed { IfOk result (HasFailed (H.state host.old) (H.state host.new)) }
+    ensures wanting { OnErr result (IsWanting (program_meaning (view_program program.now) order.now) steps (H.state host.old) (H.state host.new)) }
 {
     let mut store = ListStore::new(alloc);
     match run_c(alloc, program, order, steps, &mut store, host) {
@@ -64,7 +65,8 @@ pub fn checked_program(alloc: Global, sources: &[Source]) -> Result<Program, Sto
 ///
 /// # Errors
 ///
-/// `Refused` with the first rule of the profile that the units break; then no call was made. `Memory` for want of memory.
+/// `Refused` with the first rule of the profile that the units break; then no call was made. `Memory` for want of
+/// memory: no run had begun and no call was made, or the host was asked for what the run asks within some of the steps.
 pub fn run_units<H: Host>(
     alloc: Global,
     sources: &[Source],
@@ -80,6 +82,7 @@ pub fn run_units<H: Host>(
     ensures failed { IfOk result (HasFailed (H.state host.old) (H.state host.new)) }
     ensures refused { IfErr result (StopsUnits sources.now) }
     ensures uncalled { IfErr result (λ why. UnlessMemory why (H.state host.new ≡ H.state host.old)) }
+    ensures wanting { IfErr result (λ why. MayWant sources.now order.now steps why (H.state host.old) (H.state host.new)) }
 {
     let program = checked_program(alloc, sources)?;
     Ok(run_program(alloc, &program, order, steps, host)?)

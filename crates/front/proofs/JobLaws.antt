@@ -1,5 +1,5 @@
 -- What the jobs that run a program leave, from what their steps leave.
-use Rattle.std.proofs.Common.{◌≡◌, ℕ, ◌<◌, true, false, true≢false, List, map, length, Option, Some, inl, inr, refl, sym, subst}
+use Rattle.std.proofs.Common.{◌≡◌, ℕ, ◌<◌, ◌⊎◌, true, false, true≢false, List, map, length, Option, Some, inl, inr, refl, sym, subst}
 use Rattle.c_job.specs.Ends as c_ends
 use Rattle.c_job.specs.Meaning as units
 use Rattle.cr_base.specs.declared.refusal.Stop.{Stop}
@@ -14,7 +14,7 @@ use Rattle.front.specs.Files.{units_of}
 use Rattle.front.specs.Job.{run_c, run_rust}
 use Rattle.front.specs.Refusals.{BreaksProfile, bytes_of}
 use Rattle.front.specs.Report.{Ending, done, refused, usage, cannot_read, cannot_write, memory, told, not_rust, ill_typed}
-use Rattle.front.specs.Runs.{AreGotOf, IsToldOf, JobMeans, MayCome, RunsCrate, RunsUnits}
+use Rattle.front.specs.Runs.{AreGotOf, IsToldOf, JobMeans, MayCome, RanShort, RunsCrate, RunsUnits, WasWanting}
 use Rattle.front.specs.Sources.{AreGot, EndsStopped, IsWithin}
 use Rattle.front.specs.declared.unread.Unread.{Unread}
 use Rattle.front.specs.declared.unread.Unread.TheVariants.{NotRead, NotMain, Memory}
@@ -74,11 +74,28 @@ units_ran steps order names sources by tale s t u v got ran right failed is = re
   };
 }
 
+-- memory was wanting in the run of the units that are held
+units_wanted : (steps : ℕ) (order : List ℕ) (names : List (List ℕ)) (sources : List Source) (s t : ShelfState) (u v : HostState) → AreGot names sources s t
+    → units.MayWant sources order steps stop.Memory u v → RanShort (run_c steps order names) s t u v
+units_wanted steps order names sources s t u v got (inl same) = record { kept = got.kept; asked = inl same }
+units_wanted steps order names sources s t u v got (inr wants) = record {
+  kept = got.kept;
+  asked = inr (where_map (HeldUnits names sources) (λ held. WasWanting held (run_c steps order names) u v) s.held (λ held told has.
+      let one = wants (bytes_of has.0) has.2 in record {
+        steps = one.wants.steps;
+        within = one.wants.within;
+        meaning = units.meaning_of one.cores order one.wants.steps;
+        means = record { units = has.0; here = has.1; cores = one.cores; unbroken = one.unbroken; meaning_is = refl };
+        trail = one.wants.trail;
+        tied = one.wants.tied;
+      }) got.held);
+}
+
 pub units_stop : (steps : ℕ) (order : List ℕ) (names : List (List ℕ)) (sources : List Source) (why : Stop) (ending : Ending) (s t : ShelfState) (u v : HostState) → AreGot names sources s t → StopsUnits sources why
-    → units.UnlessMemory why (v ≡ u) → EndsStopped names why ending → RunsUnits steps order names ending s t u v
-units_stop steps order names sources stop.Memory ending s t u v got stops same ends =
-    subst (λ (how : Ending). RunsUnits steps order names how s t u v) (sym ends) got.kept
-units_stop steps order names sources (stop.Refused refusal) ending s t u v got stops same ends =
+    → units.UnlessMemory why (v ≡ u) → units.MayWant sources order steps why u v → EndsStopped names why ending → RunsUnits steps order names ending s t u v
+units_stop steps order names sources stop.Memory ending s t u v got stops same wants ends =
+    subst (λ (how : Ending). RunsUnits steps order names how s t u v) (sym ends) (units_wanted steps order names sources s t u v got wants)
+units_stop steps order names sources (stop.Refused refusal) ending s t u v got stops same wants ends =
     subst (λ (how : Ending). RunsUnits steps order names how s t u v) (sym ends.2) (record {
       kept = got.kept;
       unfailed = got.unfailed;
@@ -87,6 +104,10 @@ units_stop steps order names sources (stop.Refused refusal) ending s t u v got s
       broken = where_map (HeldUnits names sources) (λ held. (list : List File) × (units_of held names ≡ Some list) × BreaksProfile list refusal) s.held
           (λ held told has. (has.0, has.1, stops.1 (bytes_of has.0) has.2)) got.held;
     })
+
+-- no run had begun
+pub units_unasked : (steps : ℕ) (order : List ℕ) (names : List (List ℕ)) (s t : ShelfState) (u : HostState) → t.held ≡ s.held → RunsUnits steps order names memory s t u u
+units_unasked steps order names s t u kept = record { kept = kept; asked = inl refl }
 
 pub within_units : (names : List (List ℕ)) (sources : List Source) (count : ℕ) (why : Stop) → length sources ≡ count → StopsUnits sources why → IsWithin count why
 within_units names sources count stop.Memory same stops = tt
@@ -111,6 +132,21 @@ crate_ran directory files steps tale s t u v got of = record {
   };
 }
 
+-- memory was wanting in the run of a crate
+crate_wanted : (directory : List ℕ) (files : List File) (steps : ℕ) (s t : ShelfState) (u v : HostState) → IsGotWhole directory files s t → (v ≡ u) ⊎ crate.AreWanting files steps u v → RanShort (run_rust steps directory) s t u v
+crate_wanted directory files steps s t u v got (inl same) = record { kept = got.got.kept; asked = inl same }
+crate_wanted directory files steps s t u v got (inr wants) = record {
+  kept = got.got.kept;
+  asked = inr (where_map (λ held. AreHeldIn held directory files) (λ held. WasWanting held (run_rust steps directory) u v) s.held (λ held told here. record {
+    steps = wants.wants.steps;
+    within = wants.wants.within;
+    meaning = crate.meaning_of wants.whole wants.wants.steps;
+    means = record { files = files; here = here; all = got.all; whole = wants.whole; read = wants.read; typed = wants.typed; meaning_is = refl };
+    trail = wants.wants.trail;
+    tied = wants.wants.tied;
+  }) got.got.here);
+}
+
 got_of : (directory : List ℕ) (files : List File) (s t : ShelfState) (u v : HostState) → AreGotIn directory files s t → v ≡ u → AreGotOf directory files s t u v
 got_of directory files s t u v got same = record { kept = got.kept; unfailed = got.unfailed; uncalled = same; here = got.here }
 
@@ -120,7 +156,7 @@ got_leaves directory files steps (refused file refusal) s t u v got ends = absur
 got_leaves directory files steps usage s t u v got ends = absurd ends
 got_leaves directory files steps (cannot_read name) s t u v got ends = absurd ends
 got_leaves directory files steps (cannot_write name) s t u v got ends = absurd ends
-got_leaves directory files steps memory s t u v got ends = got.got.kept
+got_leaves directory files steps memory s t u v got ends = crate_wanted directory files steps s t u v got ends
 got_leaves directory files steps (told tale) s t u v got ends = crate_ran directory files steps tale s t u v got ends
 got_leaves directory files steps (not_rust name line) s t u v got ends =
     (files, name_at (map path_of files) ends.0, got_of directory files s t u v got.got ends.3, inr (got.all, ends.0, ends.1, refl), ends.2)
@@ -138,7 +174,7 @@ unread_leaves directory steps (NotRead name) s t u stops = record {
   here = stops.here;
 }
 unread_leaves directory steps (NotMain name line) s t u stops = (stops.0, main_path, got_of directory stops.0 s t u u stops.1 refl, inl (stops.2, refl), stops.3)
-unread_leaves directory steps Memory s t u stops = stops
+unread_leaves directory steps Memory s t u stops = record { kept = stops; asked = inl refl }
 
 pub ungot_leaves : (directory : List ℕ) (steps : ℕ) (why : Unread) (ending : Ending) (s t : ShelfState) (u : HostState) → StopsCrate directory why s t → ending ≡ unread_ending why → RunsCrate steps directory ending s t u u
 ungot_leaves directory steps why ending s t u stops is = subst (λ (how : Ending). RunsCrate steps directory how s t u u) (sym is) (unread_leaves directory steps why s t u stops)

@@ -12,7 +12,7 @@ use Rattle.shelf.specs.Sink.{SinkState, Appended}
 use Rattle.front.specs.Job.{Job, transpile, too_many, run_c, run_rust, is_run}
 use Rattle.front.specs.Leaves.{Leaves}
 use Rattle.front.specs.Report.{Ending, done, refused, usage, cannot_read, cannot_write, memory, told, not_rust, ill_typed, IsTold, IsReported, WriteFailed, ReportsMemory, report_of, status_of, program_report, refusal_report, usage_report, unread_report, unwritten_report}
-use Rattle.front.specs.Run.{is_status, ForJob, ForRun, IsUnreadOf, RefusedIn}
+use Rattle.front.specs.Run.{is_status, ForJob, ForRun, IsUnreadOf, NoWriteFailed, RefusedIn}
 use Rattle.front.specs.Runs.{CameTo, IsToldOf, names_of, steps_of}
 use Rattle.front.specs.Transpile.{IsDone, IsUnwritten}
 use Rattle.front.proofs.TaleLaws.{came_ended}
@@ -56,9 +56,27 @@ pub data Telling (ending : Ending) (a b : SinkState) (r : ℕ) : Type 0 where
 
 pub telling_of : (ending : Ending) (a b : SinkState) (r : ℕ) → IsReported ending a b r → Telling ending a b r
 telling_of ending a b r said = elim said [
-  | inl w ↦ whole w.0 w.1
+  | inl w ↦ whole w.0 (let done = w.1 in done.appended)
   | inr other ↦ elim other [ inl f ↦ failed f.0 f.1 | inr m ↦ short m.0 m.1 ]
 ]
+
+-- an ending that has a report, told with another status than 4 and 10
+none_reported : (ending : Ending) (a b : SinkState) (r : ℕ) → IsReported ending a b r → NoWriteFailed a b r
+none_reported ending a b r said four ten = elim said [
+  | inl w ↦ (let done = w.1 in done.still)
+  | inr other ↦ elim other [ inl f ↦ absurd (four f.0) | inr m ↦ absurd (ten m.0) ]
+]
+
+pub none_failed : (ending : Ending) (a b : SinkState) (r : ℕ) → IsTold ending a b r → NoWriteFailed a b r
+none_failed done a b r is four ten = ap (λ (s : SinkState). s.faults) is.1
+none_failed (refused file refusal) a b r is four ten = none_reported (refused file refusal) a b r is four ten
+none_failed usage a b r is four ten = none_reported usage a b r is four ten
+none_failed (cannot_read name) a b r is four ten = none_reported (cannot_read name) a b r is four ten
+none_failed (cannot_write name) a b r is four ten = none_reported (cannot_write name) a b r is four ten
+none_failed memory a b r is four ten = absurd (ten is.0)
+none_failed (told of) a b r is four ten = none_reported (told of) a b r is four ten
+none_failed (not_rust name line) a b r is four ten = none_reported (not_rust name line) a b r is four ten
+none_failed (ill_typed name item) a b r is four ten = none_reported (ill_typed name item) a b r is four ten
 
 -- a status that stands alone: it is the ending's own, or the told one is 4 or 10
 only : {P : Type 0} (ending : Ending) (a b : SinkState) (r s : ℕ) → r ≡ s → s ≢ 4 → s ≢ 10 → s ≢ status_of ending → Telling ending a b r → P

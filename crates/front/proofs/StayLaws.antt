@@ -45,7 +45,7 @@ keeps_others (Some (run_c steps order names)) (refused file refusal) s t u v lea
 keeps_others (Some (run_c steps order names)) usage s t u v leaves = absurd leaves
 keeps_others (Some (run_c steps order names)) (cannot_read name) s t u v leaves = keeps_same [] s.held t.held leaves.0.kept
 keeps_others (Some (run_c steps order names)) (cannot_write name) s t u v leaves = absurd leaves
-keeps_others (Some (run_c steps order names)) memory s t u v leaves = keeps_same [] s.held t.held leaves
+keeps_others (Some (run_c steps order names)) memory s t u v leaves = keeps_same [] s.held t.held leaves.kept
 keeps_others (Some (run_c steps order names)) (told of) s t u v leaves = keeps_same [] s.held t.held leaves.came.kept
 keeps_others (Some (run_c steps order names)) (not_rust name line) s t u v leaves = absurd leaves
 keeps_others (Some (run_c steps order names)) (ill_typed name item) s t u v leaves = absurd leaves
@@ -54,7 +54,7 @@ keeps_others (Some (run_rust steps directory)) (refused file refusal) s t u v le
 keeps_others (Some (run_rust steps directory)) usage s t u v leaves = absurd leaves
 keeps_others (Some (run_rust steps directory)) (cannot_read name) s t u v leaves = keeps_same [] s.held t.held leaves.kept
 keeps_others (Some (run_rust steps directory)) (cannot_write name) s t u v leaves = absurd leaves
-keeps_others (Some (run_rust steps directory)) memory s t u v leaves = keeps_same [] s.held t.held leaves
+keeps_others (Some (run_rust steps directory)) memory s t u v leaves = keeps_same [] s.held t.held leaves.kept
 keeps_others (Some (run_rust steps directory)) (told of) s t u v leaves = keeps_same [] s.held t.held leaves.came.kept
 keeps_others (Some (run_rust steps directory)) (not_rust name line) s t u v leaves = keeps_same [] s.held t.held leaves.2.kept
 keeps_others (Some (run_rust steps directory)) (ill_typed name item) s t u v leaves = keeps_same [] s.held t.held leaves.1.kept

@@ -1,5 +1,5 @@
 -- How the job to run a crate ends, step by step.
-use Rattle.std.specs.Prelude.{◌≡◌, ℕ, false, List, [], map, ⊤}
+use Rattle.std.specs.Prelude.{◌≡◌, ℕ, ◌⊎◌, false, List, [], map, ⊤}
 use Rattle.ext_calls.specs.Host.{HostState}
 use Rattle.front.specs.Crates.{path_of}
 use Rattle.front.specs.Files.{name_in}
@@ -10,7 +10,7 @@ use Rattle.run_ends.specs.Runs.{HasFailed}
 use Rattle.run_ends.specs.Told.{Tale, name_at, tale_of}
 use Rattle.run_ends.specs.declared.end.End.{End}
 use Rattle.rust_job.specs.Ends.{MayEnd}
-use Rattle.rust_job.specs.Meaning.{AreIllTyped, AreNotRust, AreRun}
+use Rattle.rust_job.specs.Meaning.{AreIllTyped, AreNotRust, AreRun, AreWanting}
 use Rattle.shelf.specs.declared.file.File.{File}
 
 -- where not all files were got
@@ -39,5 +39,5 @@ EndsGot directory files steps (told tale) host later = IsTaleOf files steps tale
 EndsGot directory files steps (not_rust name line) host later =
     (number : ℕ) × AreNotRust files number × (name ≡ name_in directory (name_at (map path_of files) number)) × (later ≡ host)
 EndsGot directory files steps (ill_typed name item) host later = AreIllTyped files name item × (later ≡ host)
-EndsGot directory files steps memory host later = ⊤
+EndsGot directory files steps memory host later = (later ≡ host) ⊎ AreWanting files steps host later
 EndsGot directory files steps ending host later = ⊥

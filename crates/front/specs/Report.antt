@@ -116,11 +116,16 @@ pub record WriteFailed (report : List ℕ) (before after : SinkState) : Type 0 w
 abbrev pub ReportsMemory : SinkState → SinkState → Type 0
 ReportsMemory before after = Appended memory_report before.written after.written ⊎ WriteFailed memory_report before after
 
+-- the whole report was written, and no write of it failed
+pub record WholeWritten (report : List ℕ) (before after : SinkState) : Type 0 where
+  pub appended : Appended report before.written after.written
+  pub still : after.faults ≡ before.faults
+
 -- how an ending that has a report was told: the status is its own and the whole report was written; or a
 -- write of the report failed, and the status is 4; or memory ran out, and the status is 10
 abbrev pub IsReported : Ending → SinkState → SinkState → ℕ → Type 0
 IsReported ending before after status =
-    ((status ≡ status_of ending) × Appended (report_of ending) before.written after.written)
+    ((status ≡ status_of ending) × WholeWritten (report_of ending) before after)
     ⊎ (((status ≡ 4) × WriteFailed (report_of ending) before after) ⊎ ((status ≡ 10) × ReportsMemory before after))
 
 -- how an ending was told: a job that was done reports nothing, and want of memory has status 10 also where
@@ -139,4 +144,4 @@ IsTold (ill_typed name item) before after status = IsReported (ill_typed name it
 -- a report was written and the status is its own, or a write of it failed and the status is 4
 abbrev pub IsWritten : List ℕ → ℕ → SinkState → SinkState → ℕ → Type 0
 IsWritten report own before after status =
-    ((status ≡ own) × Appended report before.written after.written) ⊎ ((status ≡ 4) × WriteFailed report before after)
+    ((status ≡ own) × WholeWritten report before after) ⊎ ((status ≡ 4) × WriteFailed report before after)

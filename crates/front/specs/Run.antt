@@ -1,5 +1,5 @@
 -- What the top call answers, and what it leaves: one word for each status, one for each cause.
-use Rattle.std.specs.Prelude.{◌≡◌, ℕ, ◌==◌, ◌<◌, ◌||◌, ℤ, Bool, false, true, if◌then◌else◌, ◌⊎◌, List, [], length, Option, Some, None, bytes_eq}
+use Rattle.std.specs.Prelude.{◌≡◌, ◌≢◌, ℕ, ◌==◌, ◌<◌, ◌||◌, ℤ, Bool, false, true, if◌then◌else◌, ◌⊎◌, List, [], length, Option, Some, None, bytes_eq}
 use Rattle.std.specs.List.{list_any}
 use Rattle.cr_base.specs.Count.{Rose}
 use Rattle.cr_base.specs.declared.refusal.Refusal.{Refusal}
@@ -169,6 +169,10 @@ NotCrate words before after unwritten written host later = ForCrate (job_of word
 abbrev pub CallWasRefused : List (List ℕ) → ShelfState → ShelfState → SinkState → SinkState → HostState → HostState → Type 0
 CallWasRefused words before after unwritten written host later = ForRun (job_of words) (λ job.
     (name : List ℕ) × CameTo job (CallRefused name) before after host later × Appended (refused_report name) unwritten.written written.written)
+
+-- a status other than 4 and 10 says that no write of the report failed
+abbrev pub NoWriteFailed : SinkState → SinkState → ℕ → Type 0
+NoWriteFailed unwritten written status = (status ≢ 4) → (status ≢ 10) → written.faults ≡ unwritten.faults
 
 -- ---- when each status comes
 

@@ -1,5 +1,5 @@
 -- What the jobs that run a program leave, by how they ended.
-use Rattle.std.specs.Prelude.{◌≡◌, ℕ, ◌<◌, ◌⊎◌, true, List, [], length, Option, Some, slice_get, ⊤}
+use Rattle.std.specs.Prelude.{◌≡◌, ℕ, ◌<◌, ◌≤◌, ℤ, ◌⊎◌, true, List, [], length, Option, Some, slice_get, ⊤}
 use Rattle.c_job.specs.Ends as c_ends
 use Rattle.c_job.specs.Meaning as c
 use Rattle.cr_base.specs.Count.{Rose}
@@ -16,7 +16,7 @@ use Rattle.front.specs.Transpile.{IsUnread}
 use Rattle.rs_mean.specs.Typing.{well_typed}
 use Rattle.rs_text.specs.Reads.{ReadsAs}
 use Rattle.rs_text.specs.Tree.{CrateTree}
-use Rattle.run_ends.specs.Runs.{Meaning, IsRun, HasFailed}
+use Rattle.run_ends.specs.Runs.{Meaning, IsRun, IsTied, HasFailed}
 use Rattle.run_ends.specs.Told.{Tale, tale_of}
 use Rattle.run_ends.specs.declared.end.End.{End}
 use Rattle.rust_job.specs.Ends as rust_ends
@@ -90,6 +90,30 @@ pub record IsToldOf (job : Job) (tale : Tale) (before after : ShelfState) (host 
   pub tale_is : tale ≡ tale_of (names_of job) (steps_of job) end
   pub came : CameTo job end before after host later
 
+-- ---- want of memory
+
+-- a job with so many steps or units
+abbrev pub with_steps : ℕ → Job → Job
+with_steps steps (transpile directory names) = transpile directory names
+with_steps steps too_many = too_many
+with_steps steps (run_c given order names) = run_c steps order names
+with_steps steps (run_rust given directory) = run_rust steps directory
+
+-- memory was wanting in the run of a job: within some of its steps or units, what is held has a meaning, and there is a trail of answers of that,
+-- tied to the host
+pub record WasWanting (held : List ℕ → Option (List ℕ)) (job : Job) (host later : HostState) : Type 0 where
+  pub steps : ℕ
+  pub within : steps ≤ steps_of job
+  pub meaning : Meaning
+  pub means : JobMeans held (with_steps steps job) meaning
+  pub trail : List ℤ
+  pub tied : IsTied (meaning trail) host later
+
+-- memory ran out in a job that runs a program: nothing was put; and no run had begun and no call was made, or memory was wanting in the run
+pub record RanShort (job : Job) (before after : ShelfState) (host later : HostState) : Type 0 where
+  pub kept : after.held ≡ before.held
+  pub asked : (later ≡ host) ⊎ WhereTold before.held (λ held. WasWanting held job host later)
+
 -- ---- what else may come
 
 -- units that are run were refused: the refusal is the first rule of the profile that they break, in this file; nothing was put, and no call made
@@ -144,7 +168,7 @@ RunsUnits steps order names (refused file refusal) before after host later = IsR
 RunsUnits steps order names usage before after host later = ⊥
 RunsUnits steps order names (cannot_read name) before after host later = IsUnread names name before after × (later ≡ host)
 RunsUnits steps order names (cannot_write name) before after host later = ⊥
-RunsUnits steps order names memory before after host later = after.held ≡ before.held
+RunsUnits steps order names memory before after host later = RanShort (run_c steps order names) before after host later
 RunsUnits steps order names (told tale) before after host later = IsToldOf (run_c steps order names) tale before after host later
 RunsUnits steps order names (not_rust name line) before after host later = ⊥
 RunsUnits steps order names (ill_typed name item) before after host later = ⊥
@@ -156,7 +180,7 @@ RunsCrate steps directory (refused file refusal) before after host later = ⊥
 RunsCrate steps directory usage before after host later = ⊥
 RunsCrate steps directory (cannot_read name) before after host later = IsUnreadFile directory name before after host later
 RunsCrate steps directory (cannot_write name) before after host later = ⊥
-RunsCrate steps directory memory before after host later = after.held ≡ before.held
+RunsCrate steps directory memory before after host later = RanShort (run_rust steps directory) before after host later
 RunsCrate steps directory (told tale) before after host later = IsToldOf (run_rust steps directory) tale before after host later
 RunsCrate steps directory (not_rust name line) before after host later = IsNotRust directory name before after host later
 RunsCrate steps directory (ill_typed name item) before after host later = IsIllTyped directory name item before after host later

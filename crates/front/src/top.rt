@@ -4,7 +4,7 @@ ghost use Rattle.front.specs.Job.{built_of, for_units, is_run, job_of, run_c, tr
 ghost use Rattle.front.specs.Leaves.{Leaves, LeavesShelf};
 ghost use Rattle.front.specs.Outcome.{ending_of};
 ghost use Rattle.jobs.specs.Asked.{IsBounded, asked_of, files_of};
-ghost use Rattle.front.specs.Run.{is_status, Ran, Translated, EndedRun, RefusedUnits, RefusedWords, CannotRead, CannotWrite, UndefinedRun, WrongRun, StepsWereUsed, HostHasFailed, OutOfMemory, NotCrate, CallWasRefused, Yields, YieldsToGet, YieldsToRun, BreaksRule, BreaksNone, LacksFile, HoldsNoCrate, ComesTo, KeepsOthers, ReadsTooLarge, is_too_many};
+ghost use Rattle.front.specs.Run.{is_status, Ran, Translated, EndedRun, RefusedUnits, RefusedWords, CannotRead, CannotWrite, UndefinedRun, WrongRun, StepsWereUsed, HostHasFailed, OutOfMemory, NotCrate, CallWasRefused, Yields, YieldsToGet, YieldsToRun, BreaksRule, BreaksNone, LacksFile, HoldsNoCrate, ComesTo, KeepsOthers, NoWriteFailed, ReadsTooLarge, is_too_many};
 
 use crate::outcome::Outcome;
 use crate::report::tell;
@@ -102,6 +102,7 @@ pub fn run<F: Shelf, O: Sink, E: Sink, H: Host>(
     ensures out_untouched { O.state _out.new ≡ O.state _out.old }
     ensures host_untouched { is_run (job_of (map string_bytes words.now)) ≡ false → H.state host.new ≡ H.state host.old }
     ensures later { (E.state err.old).faults ≤ (E.state err.new).faults }
+    ensures unfailed { NoWriteFailed (E.state err.old) (E.state err.new) result }
     ensures ran { Ran (map string_bytes words.now)
         (F.state shelf.old) (F.state shelf.new) (E.state err.old) (E.state err.new)
         (H.state host.old) (H.state host.new) result }

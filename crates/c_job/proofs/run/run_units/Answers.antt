@@ -1,7 +1,8 @@
 use Rattle.std.proofs.Common.{◌≡◌, ◌<◌, map, length, sym, subst}
 use Rattle.std.proofs.lemmas.List.{length-map}
 use Rattle.c_job.specs.Ends.{MayEnd}
-use Rattle.c_job.proofs.Checked.{are_of, bytes_of, ran}
+use Rattle.c_job.proofs.Checked.{are_of, bytes_of, may_want, never_begun, on_fault, ran}
+use Rattle.cx_core.specs.Views.{view_program}
 use Rattle.c_job.proofs.Placed.{may_end}
 use Rattle.c_job.proofs.run.run_units.Goals as goal
 
@@ -17,3 +18,11 @@ returns-clause-right g c =
     subst (λ n. MayEnd n c.in_ok-run_program.field-0) count
     (may_end units c.args.order.now c.args.steps _ _ (subst (λ n. 0 < n) (sym count) c.requires.some) c.in_ok-run_program.field-0
     (ran units _ _ _ _ _ _ (c.in_ok-program.ensures.program units (are_of sources got)) c.in_ok-run_program.ensures.run) c.in_ok-run_program.ensures.right)
+
+pub returns-in_err-program-clause-wanting : goal.returns-in_err-program-clause-wanting
+returns-in_err-program-clause-wanting g c = on_fault c.from_residual.result (λ why. never_begun c.args.sources.now c.args.order.now c.args.steps why (g.H.Host.state c.args.host.now))
+
+pub returns-in_err-run_program-clause-wanting : goal.returns-in_err-run_program-clause-wanting
+returns-in_err-run_program-clause-wanting g c =
+    on_fault c.from_residual.result (λ why. may_want c.args.sources.now (view_program c.in_ok-program.program.now) c.args.order.now c.args.steps why (g.H.Host.state c.args.host.now) (g.H.Host.state c.run_program.new.host)
+    c.in_ok-program.ensures.program c.in_err-run_program.ensures.wanting)

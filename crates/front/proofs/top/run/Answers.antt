@@ -3,7 +3,7 @@ use Rattle.std.proofs.Common.{map, string_bytes}
 use Rattle.front.specs.Job.{job_of}
 use Rattle.front.specs.Outcome.{ending_of}
 use Rattle.front.proofs.EndLaws.{when_5, when_6, when_7, never_8, when_9, when_10, when_11, when_13}
-use Rattle.front.proofs.RunLaws.{statuses, when_0, when_0_run, when_1, when_2, when_3, when_4}
+use Rattle.front.proofs.RunLaws.{none_failed, statuses, when_0, when_0_run, when_1, when_2, when_3, when_4}
 use Rattle.front.proofs.StayLaws.{keeps_others, uncalled}
 use Rattle.front.proofs.WhenLaws.{no_job_told, when_too_many, when_broken, when_missing, when_no_crate, when_comes, when_sound}
 use Rattle.front.proofs.top.run.Goals as goal
@@ -82,3 +82,6 @@ returns-clause-host_untouched g c = uncalled (job_of (map string_bytes c.args.wo
 
 pub returns-clause-ran : goal.returns-clause-ran
 returns-clause-ran g c = (ending_of c.outcome_of-outcome.result, c.outcome_of-outcome.ensures, c.tell.ensures.told)
+
+pub returns-clause-unfailed : goal.returns-clause-unfailed
+returns-clause-unfailed g c = none_failed (ending_of c.outcome_of-outcome.result) _ _ c.tell.result c.tell.ensures.told
