@@ -1,19 +1,19 @@
 -- The walk over the tentative definitions that are left stops at the first in the text (ISO C99, 6.9.2p2, p3).
-use Rattle.std.proofs.Common.{◌≡◌, ℕ, nat_le, Bool, true, false, not, ◌&&◌, if◌then◌else◌, List, [], ◌∷◌, Option, None, Some, option_map, is_some, refl, sym, ap, ◌∙◌, subst, arith}
+use Rattle.std.proofs.Common.{◌≡◌, ℕ, nat_le, Bool, true, false, if◌then◌else◌, List, [], ◌∷◌, Option, None, Some, option_map, refl, sym, ap, ◌∙◌, arith}
 use Rattle.std.proofs.lemmas.Bool.Decides.{nat_tests}
 use Rattle.cr_base.specs.declared.refusal.Refusal.{Refusal}
 use Rattle.cr_base.specs.declared.rule.Rule.{Rule}
 use Rattle.cx_context.specs.Checks.{refusal_of}
 use Rattle.cx_core.specs.Trees.{CTypes}
 use Rattle.cx_decl_steps.specs.Steps as steps
-use Rattle.cx_rules.specs.Nodes.{CNode, CPlaced, tentative_node}
+use Rattle.cx_rules.specs.Nodes.{CNode, tentative_node}
 use Rattle.cx_rules.specs.Pieces.{Done}
 use Rattle.cx_rules.specs.Readings.{or_else, check_by, check_behind, check_gives, check_chain, check_here, check_look}
 use Rattle.cx_rules.specs.Rules.{rule_at}
 use Rattle.cx_rules.specs.Scope.{CScope, CThing}
 use Rattle.cx_rules.specs.UnitWalk.{tentative_line, put_by_line, tentative_things}
 use Rattle.cx_unit_ends.specs.Ends.{is_left}
-use Rattle.cx_unit_ends.specs.Refused.{refused, refused_if_left, earlier, first_refused}
+use Rattle.cx_unit_ends.specs.Refused.{refused, earlier, first_refused}
 
 -- ---- the order of lines
 

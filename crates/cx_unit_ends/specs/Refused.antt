@@ -1,5 +1,5 @@
 -- Which tentative definition that stays incomplete is refused at the end of a unit: the first in the text (ISO C99, 6.9.2p2, p3).
-use Rattle.std.specs.Prelude.{ℕ, nat_le, if◌then◌else◌, List, [], ◌∷◌, Option, None, Some}
+use Rattle.std.specs.Prelude.{nat_le, if◌then◌else◌, List, [], ◌∷◌, Option, None, Some}
 use Rattle.cr_base.specs.declared.refusal.Refusal.{Refusal}
 use Rattle.cx_rules.specs.Nodes.{tentative_node}
 use Rattle.cx_rules.specs.Readings.{refusal_at}
