@@ -1,14 +1,16 @@
 -- The walk over the tentative definitions that are left stops at the first in the text (ISO C99, 6.9.2p2, p3).
-use Rattle.std.proofs.Common.{◌≡◌, ℕ, nat_le, Bool, true, false, if◌then◌else◌, List, [], ◌∷◌, Option, None, Some, option_map, refl, sym, ap, ◌∙◌, arith}
+use Rattle.std.proofs.Common.{◌≡◌, ℕ, nat_le, Bool, true, false, if◌then◌else◌, List, [], ◌∷◌, Option, None, Some, option_map, Err, refl, sym, ap, ◌∙◌, arith}
 use Rattle.std.proofs.lemmas.Bool.Decides.{nat_tests}
 use Rattle.cr_base.specs.declared.refusal.Refusal.{Refusal}
+use Rattle.cr_base.specs.declared.refusal.Stop.TheVariants as stop
 use Rattle.cr_base.specs.declared.rule.Rule.{Rule}
-use Rattle.cx_context.specs.Checks.{refusal_of}
+use Rattle.cx_context.proofs.Settling.{refused_step}
+use Rattle.cx_context.specs.Checks.{Checks, refusal_of}
 use Rattle.cx_core.specs.Trees.{CTypes}
 use Rattle.cx_decl_steps.specs.Steps as steps
 use Rattle.cx_rules.specs.Nodes.{CNode, tentative_node}
 use Rattle.cx_rules.specs.Pieces.{Done}
-use Rattle.cx_rules.specs.Readings.{or_else, check_by, check_behind, check_gives, check_chain, check_here, check_look}
+use Rattle.cx_rules.specs.Readings.{fine, or_else, check_by, check_behind, check_gives, check_chain, check_here, check_look}
 use Rattle.cx_rules.specs.Rules.{rule_at}
 use Rattle.cx_rules.specs.Scope.{CScope, CThing}
 use Rattle.cx_rules.specs.UnitWalk.{tentative_line, put_by_line, tentative_things}
@@ -126,8 +128,18 @@ first_is scope (one ∷ others) = by_test (is_left one) (first_is scope others)
     by_test false rest = rest
 
 -- the walk over all that are left
-pub tentatives_stop : (scope : CScope) (things : List CThing) → steps.tentatives_seen (tentative_things things) scope ≡ check_by (first_refused scope things) scope
+tentatives_stop : (scope : CScope) (things : List CThing) → steps.tentatives_seen (tentative_things things) scope ≡ check_by (first_refused scope things) scope
 tentatives_stop scope things = seen_by_first scope (tentative_things things) ∙ ap (λ found. check_by found scope) (first_is scope things)
+
+pub tentatives_fine : (scope : CScope) (things : List CThing) (found : Option Refusal) → found ≡ first_refused scope things → found ≡ None
+    → steps.tentatives_seen (tentative_things things) scope ≡ fine tt scope
+tentatives_fine scope things found e none = tentatives_stop scope things ∙ ap (λ one. check_by one scope) (sym e ∙ none)
+
+pub tentatives_refused : (scope : CScope) (things : List CThing) (found : Option Refusal) (refusal : Refusal) → found ≡ first_refused scope things → found ≡ Some refusal
+    → Checks (λ (_ : Unit {0}). tt) (Err (stop.Refused refusal)) scope (steps.tentatives_seen (tentative_things things) scope)
+tentatives_refused scope things found refusal e some =
+    refused_step (λ (_ : Unit {0}). tt) (stop.Refused refusal) scope (steps.tentatives_seen (tentative_things things) scope) refusal refl
+    (tentatives_stop scope things ∙ ap (λ one. check_by one scope) (sym e ∙ some))
 
 -- ---- the first of three
 

@@ -81,6 +81,7 @@ fn first_refused(context: &Context, things: &[Thing]) -> Option<Refusal>
     earliest
 }
 
+#[tactic(auto, using(crate::proofs::FirstRefused::tentatives_fine, crate::proofs::FirstRefused::tentatives_refused))]
 fn tentatives_seen(context: &Context, things: &[Thing]) -> Result<(), Stop>
     ensures { Checks (λ (_ : Unit {0}). tt) result (scope_of context.now) (steps.tentatives_seen (unit.tentative_things (map view_thing things.now)) (scope_of context.now)) }
 {
