@@ -1,5 +1,5 @@
 -- The walk over declarations, statements and units (ISO C99, 6.7 to 6.9), in the order in which nodes count.
-use Rattle.std.specs.Prelude.{ℕ, ◌+◌, ℤ, pos, Bool, true, false, not, ◌&&◌, ◌||◌, if◌then◌else◌, List, [], ◌∷◌, ◌++◌, map, length, drop, Option, None, Some, is_some, is_none}
+use Rattle.std.specs.Prelude.{ℕ, ◌+◌, nat_le, ℤ, pos, Bool, true, false, not, ◌&&◌, ◌||◌, if◌then◌else◌, List, [], ◌∷◌, ◌++◌, map, length, drop, Option, None, Some, is_some, is_none}
 use Rattle.cr_base.specs.declared.refusal.Place.{Place as TextPlace}
 use Rattle.cx_core.specs.Trees.{CTy, CTyForm, function, form_of_type, CTypes, CExpr, CPuts, CStmt, stmt, CStmtForm, label, case, default, block, expression, if_then, switch, while, do_while, for_loop, goto, continue, break, returns, begin, COtherwise, no_else, else_do, CStmts, no_stmts, more_stmts, CUnit, CFun}
 use Rattle.cx_rules.specs.declared.kinds.SpecsPlace.{SpecsPlace}
@@ -224,18 +224,24 @@ where_in head body = record { result = result_in head.written; labels = labels_o
 
 -- ---- tentative definitions (6.9.2p2)
 
--- those that are left at the end of a unit
-abbrev pub tentative_things : List CThing → List CThing
-tentative_things [] = []
-tentative_things (one ∷ others) =
-    if is_some one.tentative && not one.is_defined then one ∷ tentative_things others else tentative_things others
-
 abbrev line_or_none : Option ℕ → ℕ
 line_or_none None = 0
 line_or_none (Some line) = line
 
 abbrev pub tentative_line : CThing → ℕ
 tentative_line one = line_or_none one.tentative
+
+-- one more among those that stand in the order of their lines, in front of what is on its own line
+abbrev pub put_by_line : CThing → List CThing → List CThing
+put_by_line one [] = one ∷ []
+put_by_line one (first ∷ others) =
+    if nat_le (tentative_line one) (tentative_line first) then one ∷ first ∷ others else first ∷ put_by_line one others
+
+-- those that are left at the end of a unit, in the order of their lines
+abbrev pub tentative_things : List CThing → List CThing
+tentative_things [] = []
+tentative_things (one ∷ others) =
+    if is_some one.tentative && not one.is_defined then put_by_line one (tentative_things others) else tentative_things others
 
 -- ---- the walk
 

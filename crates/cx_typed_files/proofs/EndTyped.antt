@@ -1,6 +1,6 @@
 -- A unit is typed at its end (ISO C99, 6.9).
 use Rattle.std.proofs.Common.{◌≡◌, ℕ, Bool, true, false, not, ◌&&◌, if◌then◌else◌, List, [], ◌∷◌, map, Option, None, Some, is_some, is_none, slice_get, refl, sym, ap, ◌∙◌, subst}
-use Rattle.std.specs.Prelude.{IfSome}
+use Rattle.std.specs.Prelude.{IfSome, nat_le}
 use Rattle.cx_core.specs.declared.program.Linkage.{Linkage}
 use Rattle.cx_core.specs.declared.program.Linkage.TheVariants.{External, Internal, Nothing}
 use Rattle.cx_core.specs.Linked.{home_of, IsStatic, IsTypedObject, has_linkage, is_external, program_of}
@@ -9,7 +9,7 @@ use Rattle.cx_core.specs.ValidTypes.{IsTypeIn, IsObjectForm}
 use Rattle.cx_rules.specs.Declare.{is_linked, thing_named}
 use Rattle.cx_rules.specs.Scope.{CThing, CScope}
 use Rattle.cx_rules.specs.Types.{is_function}
-use Rattle.cx_rules.specs.UnitWalk.{tentative_things}
+use Rattle.cx_rules.specs.UnitWalk.{tentative_line, put_by_line, tentative_things}
 use Rattle.cx_typed.proofs.Stays.{together}
 use Rattle.cx_typed_files.proofs.EndComplete.{IsLookedAt, final_complete, final_in}
 use Rattle.cx_typed_files.proofs.EndHeld.{end_home, end_holds}
@@ -38,15 +38,25 @@ external_is External is = refl
 external_is Internal is = absurd cc
 external_is Nothing is = absurd cc
 
+-- what each has of those that one was put among, it has and the others have
+each_put : (P : CThing → Type 0) (one : CThing) (things : List CThing) → Each P (put_by_line one things) → P one × Each P things
+each_put P one [] held = held
+each_put P one (first ∷ others) held = by_test (nat_le (tentative_line one) (tentative_line first)) held (λ rest. each_put P one others rest)
+  where
+    by_test : (b : Bool) → Each P (if b then one ∷ first ∷ others else first ∷ put_by_line one others)
+        → (Each P (put_by_line one others) → P one × Each P others) → P one × (P first × Each P others)
+    by_test true held rest = held
+    by_test false held rest = let got = rest held.1 in (got.0, (held.0, got.1))
+
 -- what each tentative definition of a list has, each thing of it has that is one
 pub each_tentative : (P : CThing → Type 0) (things : List CThing) → Each P (tentative_things things) → Each (λ one. (is_some one.tentative && not one.is_defined) ≡ true → P one) things
 each_tentative P [] held = tt
 each_tentative P (one ∷ others) held = by_test (is_some one.tentative && not one.is_defined) refl held (λ rest. each_tentative P others rest)
   where
-    by_test : (b : Bool) → (is_some one.tentative && not one.is_defined) ≡ b → Each P (if b then one ∷ tentative_things others else tentative_things others)
+    by_test : (b : Bool) → (is_some one.tentative && not one.is_defined) ≡ b → Each P (if b then put_by_line one (tentative_things others) else tentative_things others)
         → (Each P (tentative_things others) → Each (λ one. (is_some one.tentative && not one.is_defined) ≡ true → P one) others)
         → ((is_some one.tentative && not one.is_defined) ≡ true → P one) × Each (λ one. (is_some one.tentative && not one.is_defined) ≡ true → P one) others
-    by_test true e held rest = (λ is. held.0, rest held.1)
+    by_test true e held rest = let got = each_put P one (tentative_things others) held in (λ is. got.0, rest got.1)
     by_test false e held rest = (λ is. absurd (let h : false ≡ true = sym e ∙ is in cc), rest held)
 
 element_form : (type : CTy) → IsObjectForm (form_of_type type) → IsObjectForm (form_of_type (one_element type))

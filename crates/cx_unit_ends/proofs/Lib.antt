@@ -1,3 +1,4 @@
+pub mod FirstRefused
 pub mod Merging
 pub mod Numbering
 pub mod Ordering

@@ -1,3 +1,4 @@
 pub mod Ends
 pub mod Merged
 pub mod Numbered
+pub mod Refused
