@@ -3,7 +3,7 @@ use Rattle.std.proofs.Common.{◌≡◌, ◌⊎◌, inl, inr, ℕ, zero, suc, �
 use Rattle.std.specs.Prelude.{IsSome, IfSome}
 use Rattle.cx_core.specs.declared.program.Linkage.{Linkage}
 use Rattle.cx_core.specs.declared.program.Linkage.TheVariants.{External, Nothing}
-use Rattle.cx_core.specs.Trees.{CTy, ty, void, basic, enum_type, pointer, array, record_type, function, CTypes, CObject, CMention, defines}
+use Rattle.cx_core.specs.Trees.{CTy, function, CTypes, CObject, CMention, defines}
 use Rattle.cx_rules.specs.declared.kinds.SpecsPlace.TheVariants.{Definition}
 use Rattle.cx_rules.specs.Declare.{is_linked, is_typedef, linkage_of, thing_named, clashes_thing, clashes, CDeclaring, declaring, own_params, own_within, with_head}
 use Rattle.cx_rules.specs.Scope.{CMeant, an_object, a_function, CDeclared, CTag, CMade, CThing, CScope, ordinary, tag, tag_of, is_ordinary, with_declared, with_mention, mention_of}

@@ -128,7 +128,7 @@ module _ (units : List CUnit) (none : broken_links units ≡ None) (name : List 
       (let h : true ≡ false = sym (together_true kind clash) ∙ here in cc)
 
   -- no unit declares an object where another declares a function
-  pub one_kind : (first second : ℕ) → (first ≡ second → ⊥) → IsDeclaredAs units name IsDeclaredForm External first → IsDeclaredAs units name IsFunctionType second → ⊥
+  pub one_kind : (first second : ℕ) → (first ≡ second → ⊥) → IsDeclaredAs units name (IsDeclaredForm External) first → IsDeclaredAs units name IsFunctionType second → ⊥
   one_kind first second apart told also = by (nat_lt first second) refl
     where
       kinds : (compatible_in (types_of_all units) (type_there (counts_before first units) told.mention.type) (type_there (counts_before second units) also.mention.type) ≡ false)

@@ -5,7 +5,6 @@ use Rattle.cx_core.specs.declared.program.Linkage.{Linkage}
 use Rattle.cx_core.specs.declared.program.Linkage.TheVariants.{External, Internal, Nothing}
 use Rattle.cx_core.specs.Linked.{IsDeclaredForm}
 use Rattle.cx_core.specs.Trees.{CTy, form_of_type, CTypes, CPuts, no_puts, CDoes, declares, defines, CMention}
-use Rattle.cx_core.specs.ValidTypes.{IsObjectForm}
 use Rattle.cx_lex.specs.declared.token.Keyword.TheVariants as keyword
 use Rattle.cx_rules.specs.declared.kinds.SpecsPlace.{SpecsPlace}
 use Rattle.cx_rules.specs.Declare.{is_linked, is_outside, is_typedef, linkage_of, thing_named, joined_with, clashes_thing, clashes, same_linkage, CDeclaring, declaring, with_declaration}
