@@ -7,7 +7,7 @@ use Rattle.cx_core.specs.declared.ty.Basic.TheVariants.{Char, Int}
 use Rattle.cx_core.specs.Externals.{IsExternalType}
 use Rattle.cx_core.specs.Statements.{objects_in, IsDefinitionOf}
 use Rattle.cx_core.specs.Texts.{HoldText}
-use Rattle.cx_core.specs.Trees.{CTy, CTyForm, basic, array, function, CParams, unlisted, listed, no_types, form_of_type, CPuts, CTypes, CObject, CFun, COuter, CProgram, CDoes, declares, defines, calls, uses, CMention, CUnit}
+use Rattle.cx_core.specs.Trees.{CTy, CTyForm, void, basic, array, function, CParams, unlisted, listed, no_types, form_of_type, CPuts, CTypes, CObject, CFun, COuter, CProgram, CDoes, declares, defines, calls, uses, CMention, CUnit}
 use Rattle.cx_core.specs.Typing.{CHome, IsMentionedIn, AreTypedPuts, AreConstantPuts}
 use Rattle.cx_core.specs.ValidTypes.{IsTypeIn, IsObjectForm, IsComplete, AreTypes}
 
@@ -40,10 +40,16 @@ has_linkage External = true
 has_linkage Internal = true
 has_linkage Nothing = false
 
+-- the type that an object with such a linkage has where it is declared: that of an object, or `void` where it has linkage. A declaration
+-- alone asks an object without linkage for a complete type (6.7p7), and what is stored in one (`static` below).
+abbrev pub IsDeclaredForm : Linkage → CTyForm → Type 0
+IsDeclaredForm linkage void = has_linkage linkage ≡ true
+IsDeclaredForm linkage form = IsObjectForm form
+
 -- an object, in the unit that defines or declares it
 pub record IsTypedObject (program : CProgram) (mentions : Option (List CMention)) (one : CObject) : Type 0 where
   pub type_in : IsTypeIn program.types one.unit one.type
-  pub object : IsObjectForm (form_of_type one.type)
+  pub object : IsDeclaredForm one.linkage (form_of_type one.type)
   pub named : has_linkage one.linkage ≡ true → IsSome one.name
   pub text : one.is_text ≡ true → IsText one
   pub static : IfSome one.puts (IsStatic (home_of program mentions one.unit) one.type)

@@ -231,9 +231,9 @@ is_unlinked NoLinkage = true
 is_unlinked External = false
 is_unlinked Internal = false
 
--- an object whose type isn't complete, and never will be where it is `void`
+-- an object without linkage whose type isn't complete (6.7p7)
 abbrev pub lacks_size : CTypes → CDeclaredFacts → Bool
-lacks_size types facts = not (declares_typedef facts.specs) && (is_void facts.type || (is_unlinked facts.linkage && is_incomplete types facts.type))
+lacks_size types facts = not (declares_typedef facts.specs) && (is_unlinked facts.linkage && is_incomplete types facts.type)
 
 abbrev pub any_incomplete : CTypes → CTys → Bool
 any_incomplete types no_types = false
@@ -340,7 +340,13 @@ not_signable types op type = not (is_integer types type)
 abbrev pub not_stepped : CTypes → CTy → Bool
 not_stepped types type = not (is_integer types type || is_element_pointer types type)
 
+-- an object of type `void`, which is no lvalue (6.3.2.1p1) and has no value (6.3.2.2)
+abbrev pub names_void : Option CMeant → Bool
+names_void (Some (an_object number type is_register linkage)) = is_void type
+names_void _ = false
+
 abbrev pub not_operands : CTypes → CNode → Bool
+not_operands types (name_node meant) = names_void meant
 not_operands types (index_node of index) = not (is_moved (pairing types op2.Add (value_of of) (value_of index)))
 not_operands types (step_node on) = not_stepped types (value_type on)
 not_operands types (deref_node of) = not (is_pointer (value_type of))

@@ -23,7 +23,7 @@ use cx_shapes::{Specs, Step, same_key};
 
 /// The rule that a declarator of a declaration breaks, behind its initialiser, with the type and the linkage that it has then and
 /// whether another declaration stood in its way: K2 where one did, K4 where `inline` or a storage class doesn't go with it (ISO C99,
-/// 6.7.1p5, 6.7.4p1), K5 where an object is of incomplete type (6.7p7), M3 where the type is too large.
+/// 6.7.1p5, 6.7.4p1), K5 where an object without linkage is of incomplete type (6.7p7), M3 where the type is too large.
 #[tactic(auto, using(crate::proofs::DeclRules::declares))]
 pub fn declares_rule(
     known: Known,
@@ -91,7 +91,7 @@ fn has_other(allowed: Keyword, words: &[Keyword]) -> bool
     false
 }
 
-// Whether an object has no size, and never will where it is `void`.
+// Whether an object without linkage has no size (ISO C99, 6.7p7).
 fn lacks_size(known: Known, specs: &Specs, t: &Ty, linkage: Linkage) -> bool
     requires { IsKnown known }
     ensures { result ≡ lacks_size (types_in known.entry) (view_specs specs.now) (view_type t.now) linkage }
@@ -99,13 +99,6 @@ fn lacks_size(known: Known, specs: &Specs, t: &Ty, linkage: Linkage) -> bool
     if declares_typedef(specs) {
         return false;
     }
-    is_void(t) || is_unsized(known, t, linkage)
-}
-
-fn is_unsized(known: Known, t: &Ty, linkage: Linkage) -> bool
-    requires { IsKnown known }
-    ensures { result ≡ (is_unlinked linkage && is_incomplete (types_in known.entry) (view_type t.now)) }
-{
     is_unlinked(linkage) && is_incomplete(known, t)
 }
 

@@ -11,7 +11,7 @@ use Rattle.cx_lex.specs.declared.token.Keyword.TheVariants as keyword
 use Rattle.cx_rules.specs.declared.kinds.SpecsPlace.{SpecsPlace}
 use Rattle.cx_rules.specs.Nodes.{name_node, identifiers_node, record_use_node, record_node, enum_use_node, enum_node, array_node, enumerator_node, member_node, param_node, specs_node, derives_node}
 use Rattle.cx_rules.specs.Operands.{COperand, gives_nothing, holds_nothing, is_register_array, constant_of, value_of}
-use Rattle.cx_rules.specs.Rules.{rule_at, breaks, node_rules, has_members, has_name, is_completed, is_empty, is_open_array, is_other_kind, is_taken, is_taken_by, misplaced, not_constant, not_declared, not_there, not_width, record_too_large, says_nothing, tag_is, takes_restrict, value_is, wider_than_int}
+use Rattle.cx_rules.specs.Rules.{rule_at, breaks, node_rules, has_members, has_name, is_completed, is_empty, is_open_array, is_other_kind, is_taken, is_taken_by, misplaced, not_constant, names_void, not_declared, not_there, not_width, record_too_large, says_nothing, tag_is, takes_restrict, value_is, wider_than_int}
 use Rattle.cx_rules.specs.Scope.{CMeant, CScope, CTag}
 use Rattle.cx_rules.specs.Shapes.{CSpecs, CStep, derived, has_function_fault, has_incomplete_elements, has_restrict_fault, has_storage, or_int, specs_type}
 use Rattle.cx_rules.specs.Types.{is_function, is_incomplete, is_integer, is_too_large, is_void}
@@ -95,7 +95,7 @@ specs_parts false false false false m = refl
 -- ---- nodes
 
 pub named : (types : CTypes) (scope : CScope) (line : ℕ) (meant : Option CMeant) → rule_at (placed types scope line (name_node meant))
-    ≡ (if not_declared meant then Some K1 else None)
+    ≡ (if not_declared meant then Some K1 else if names_void meant then Some K10 else None)
 unfolding rule_at breaks node_rules
 named types scope line meant = refl
 

@@ -6,26 +6,49 @@ ghost use Rattle.cx_core.specs.Trees.{CTypes};
 ghost use Rattle.cx_kinds.specs.Known.{IsKnown, types_in};
 ghost use Rattle.cx_operands.specs.Views.{view_operand};
 ghost use Rattle.cx_rules.specs.Nodes.{name_node, enumerator_node};
-ghost use Rattle.cx_rules.specs.Rules.{rule_at, is_taken, not_declared};
+ghost use Rattle.cx_rules.specs.Rules.{rule_at, is_taken, names_void, not_declared};
 ghost use Rattle.cx_rules.specs.Scope.{CScope};
 ghost use Rattle.cx_scope.specs.Views.{view_meant};
 
 use crate::written::{is_fixed_written, is_unconstant, lacks_written};
 use cr_base::{Int, Rule};
-use cx_kinds::Known;
+use cx_kinds::{Known, is_void};
 use cx_operands::Operand;
 use cx_scope::Meant;
 
 /// The rule that a name in an expression breaks, where it means this: K1 where it is declared neither as an object or a function
-/// nor as an enumerator (ISO C99, 6.5.1p2).
+/// nor as an enumerator (ISO C99, 6.5.1p2), K10 where it names an object of type `void`, which is no lvalue (6.3.2.1p1).
 #[tactic(auto, using(crate::proofs::PartRules::named))]
 pub fn name_rule(meant: Option<&Meant>) -> Option<Rule>
     ensures { (types : CTypes) (scope : CScope) (line : ℕ) → result ≡ rule_at (placed types scope line (name_node (option_map (λ one. view_meant one.now) meant.entry))) }
 {
     if not_declared(meant) {
-        Some(Rule::K1)
-    } else {
-        None
+        return Some(Rule::K1);
+    }
+    if names_void(meant) {
+        return Some(Rule::K10);
+    }
+    None
+}
+
+fn names_void(meant: Option<&Meant>) -> bool
+    ensures { result ≡ names_void (option_map (λ one. view_meant one.now) meant.entry) }
+{
+    match meant {
+        None => false,
+        Some(one) => is_void_object(one),
+    }
+}
+
+fn is_void_object(meant: &Meant) -> bool
+    ensures { result ≡ names_void (Some (view_meant meant.now)) }
+{
+    match meant {
+        Meant::Object { ty, .. } => is_void(ty),
+        Meant::Function { .. } => false,
+        Meant::Enumerator(_) => false,
+        Meant::TypeName(_) => false,
+        Meant::Tag { .. } => false,
     }
 }
 

@@ -25,6 +25,7 @@ use Rattle.cx_rules.specs.Pieces.{is_name, at_line, with_literal, literal_made, 
 use Rattle.cx_rules.specs.Scope.{CMade, CScope, with_made_at}
 use Rattle.cx_rules.specs.Types.{is_void, is_function}
 use Rattle.cx_tree.specs.Trees.{ExprTree, Literal, TypeNameTree, InitialiserListTree}
+use Rattle.cx_typed.proofs.DeclaredForms.{object_declared}
 use Rattle.cx_typed.proofs.Filled.{values_fill, completed_known}
 use Rattle.cx_typed.proofs.Goes.{go_gives, go_becomes, go_here_then, go_chain, go_changed}
 use Rattle.cx_typed.proofs.Growing.{type_stays, complete_stays}
@@ -308,7 +309,7 @@ module _ (opens : List ℕ) (tree : ExprTree) (no_name : is_name tree ≡ true �
     literal_typed : (home : CHome) → Serves home opens scope behind → IsTypedObject home.program home.mentions (object_made home.unit literal_is)
     literal_typed home serves = record {
       type_in = type_stays opens after.types home.program.types serves.grows home.unit full (subst (λ unit. IsTypeIn after.types unit full) (sym (unit_there home serves)) full_known.known.type_in);
-      object = full_known.object;
+      object = object_declared (object_made home.unit literal_is).linkage (form_of_type full) full_known.object;
       named = λ linked. absurd cc;
       text = λ is_text. absurd cc;
       static = static_by after.in_function refl home serves;

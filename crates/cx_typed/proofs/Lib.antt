@@ -12,6 +12,7 @@ pub mod Computing
 pub mod Constants
 pub mod Conversions
 pub mod Declarators
+pub mod DeclaredForms
 pub mod Derived
 pub mod Enumerated
 pub mod Filled

@@ -13,9 +13,10 @@ use Rattle.cx_rules.specs.Nodes.{name_node, literal_node}
 use Rattle.cx_rules.specs.Operands.{a_place}
 use Rattle.cx_rules.specs.Pieces.{literal_meaning}
 use Rattle.cx_rules.specs.Scope.{CMeant, an_object, a_function, a_type_name, an_enumerator, a_tag}
-use Rattle.cx_rules.specs.Types.{exceeds}
+use Rattle.cx_rules.specs.Types.{exceeds, is_void}
 use Rattle.cx_typed.proofs.Called.{within_is}
 use Rattle.cx_typed.proofs.Constants.{constants}
+use Rattle.cx_typed.proofs.DeclaredForms.{declared_object}
 use Rattle.cx_typed.proofs.Growing.{type_stays}
 use Rattle.cx_typed.proofs.Promoted.{neither, not_not}
 use Rattle.cx_typed.specs.Growth.{Grows}
@@ -47,7 +48,9 @@ module _ (s : CStanding) where
 
   name_typed : (meant : Option CMeant) → IsUnbroken s.scope s.types (name_node meant) → IfSome meant (IsKnownMeant s.opens s.types s.unit)
       → IsServedTyped s (λ home. IfSome meant (IsServed home)) (name_meaning s.at meant)
-  name_typed (Some (an_object number type is_register linkage)) unbroken known = object_typed is_register s.at number type known.0 known.1
+  name_typed (Some (an_object number type is_register linkage)) unbroken known =
+      let some : is_void type ≡ false = unbroken.k10 in
+      object_typed is_register s.at number type known.0 (declared_object linkage type known.1 some)
   name_typed (Some (a_function number type linkage)) unbroken known = record {
     known = record { known = record { type_in = known.0.type_in; settled = known.0.settled }; target = code_pointer type known.1 };
     typed = λ home is grows served. (stays home is grows type known.0, served);

@@ -12,6 +12,7 @@ use Rattle.cx_rules.specs.Shapes.{CSpecs, CParam, CShape, adjusted, no_specs_yet
 use Rattle.cx_rules.specs.Types.{is_void}
 use Rattle.cx_tree.specs.Trees.{SpecTrees, DeclaratorTree, Function, ParamTree, Param, ParamTrees, no_params, more_params}
 use Rattle.cx_typed.proofs.Declarators.{shape_on}
+use Rattle.cx_typed.proofs.DeclaredForms.{object_declared}
 use Rattle.cx_typed.proofs.Derived.{derived_known}
 use Rattle.cx_typed.proofs.Goes.{go_gives, go_becomes, go_here_then, go_chain, go_settled, go_changed}
 use Rattle.cx_typed.proofs.Growing.{type_stays}
@@ -141,7 +142,7 @@ module _ (opens : List ℕ) (scope : CScope) (good : IsGood opens scope) where
       → (if test then Some (an_object one.object one.type one.is_register Nothing) else ordinary other scope.declared) ≡ Some meant → IsKnownMeant opens scope.types scope.unit meant
   name_known name other one meant known true is =
       let e : an_object one.object one.type one.is_register Nothing ≡ meant = cc in
-      subst (IsKnownMeant opens scope.types scope.unit) e (known.known, object_form one.type known.form)
+      subst (IsKnownMeant opens scope.types scope.unit) e (known.known, object_declared Nothing (form_of_type one.type) (object_form one.type known.form))
   name_known name other one meant known false is = good.known other meant is
 
   declared_good : (name : Option (List ℕ)) (one : CParam) → one.name ≡ name → IsKnownParam opens scope.types scope.unit one → IsGood opens (with_param (Some (record one { name = name })) scope)

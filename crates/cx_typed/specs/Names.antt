@@ -1,6 +1,7 @@
 -- What names and literals mean is typed in a program that holds what the scope declares (ISO C99, 6.4.5, 6.5.1, 6.5.2.5).
 use Rattle.std.specs.Prelude.{◌≡◌, ℕ, ◌<◌, Bool, true, false, List, length, Option, Some, IfSome, slice_get}
 use Rattle.cr_base.specs.Scalar.{IsInRange}
+use Rattle.cx_core.specs.Linked.{IsDeclaredForm}
 use Rattle.cx_core.specs.Trees.{CTy, ty, CTyForm, pointer, function, form_of_type, CTypes, CPuts}
 use Rattle.cx_core.specs.Typing.{CHome, IsNamed, IsCodeOf, IsLiteral, AreTypedPuts}
 use Rattle.cx_core.specs.ValidTypes.{IsObjectForm}
@@ -24,7 +25,7 @@ IsFunctionForm _ = ⊥
 
 -- what is known of what a name means by the types of its unit
 abbrev pub IsKnownMeant : List ℕ → CTypes → ℕ → CMeant → Type 0
-IsKnownMeant opens types unit (an_object number type is_register linkage) = IsKnownType opens types unit type × IsObjectForm (form_of_type type)
+IsKnownMeant opens types unit (an_object number type is_register linkage) = IsKnownType opens types unit type × IsDeclaredForm linkage (form_of_type type)
 IsKnownMeant opens types unit (a_function number type linkage) = IsKnownType opens types unit type × IsFunctionForm (form_of_type type)
 IsKnownMeant opens types unit (a_type_name type) = IsKnownType opens types unit type
 IsKnownMeant opens types unit (an_enumerator value) = IsInRange int_scalar value

@@ -3,9 +3,9 @@ use Rattle.std.proofs.Common.{◌≡◌, ℕ, Bool, true, false, not, ◌&&◌, 
 use Rattle.std.specs.Prelude.{IfSome, nat_le}
 use Rattle.cx_core.specs.declared.program.Linkage.{Linkage}
 use Rattle.cx_core.specs.declared.program.Linkage.TheVariants.{External, Internal, Nothing}
-use Rattle.cx_core.specs.Linked.{home_of, IsStatic, IsTypedObject, has_linkage, is_external, program_of}
+use Rattle.cx_core.specs.Linked.{home_of, IsStatic, IsTypedObject, has_linkage, is_external, program_of, IsDeclaredForm}
 use Rattle.cx_core.specs.Trees.{CTy, ty, void, basic, enum_type, pointer, array, record_type, function, form_of_type, CPuts, no_puts, CObject, CProgram, CMention}
-use Rattle.cx_core.specs.ValidTypes.{IsTypeIn, IsObjectForm}
+use Rattle.cx_core.specs.ValidTypes.{IsTypeIn}
 use Rattle.cx_rules.specs.Declare.{is_linked, thing_named}
 use Rattle.cx_rules.specs.Scope.{CThing, CScope}
 use Rattle.cx_rules.specs.Types.{is_function}
@@ -59,15 +59,15 @@ each_tentative P (one ∷ others) held = by_test (is_some one.tentative && not o
     by_test true e held rest = let got = each_put P one (tentative_things others) held in (λ is. got.0, rest got.1)
     by_test false e held rest = (λ is. absurd (let h : false ≡ true = sym e ∙ is in cc), rest held)
 
-element_form : (type : CTy) → IsObjectForm (form_of_type type) → IsObjectForm (form_of_type (one_element type))
-element_form (ty (array element None) is_const) held = held
-element_form (ty (array element (Some count)) is_const) held = held
-element_form (ty void is_const) held = held
-element_form (ty (basic which) is_const) held = held
-element_form (ty (enum_type number) is_const) held = held
-element_form (ty (pointer to) is_const) held = held
-element_form (ty (record_type number) is_const) held = held
-element_form (ty (function result params variadic) is_const) held = held
+element_form : (linkage : Linkage) (type : CTy) → IsDeclaredForm linkage (form_of_type type) → IsDeclaredForm linkage (form_of_type (one_element type))
+element_form linkage (ty (array element None) is_const) held = held
+element_form linkage (ty (array element (Some count)) is_const) held = held
+element_form linkage (ty void is_const) held = held
+element_form linkage (ty (basic which) is_const) held = held
+element_form linkage (ty (enum_type number) is_const) held = held
+element_form linkage (ty (pointer to) is_const) held = held
+element_form linkage (ty (record_type number) is_const) held = held
+element_form linkage (ty (function result params variadic) is_const) held = held
 
 module _ (scope : CScope) (at : IsAtFileScope [] scope) (looked : Each (IsLookedAt scope) (tentative_things scope.things)) where
   held : IsAccounted [] None (account_of scope)
@@ -125,7 +125,7 @@ module _ (scope : CScope) (at : IsAtFileScope [] scope) (looked : Each (IsLooked
         subst (λ b. IsTypedObject program (Some mentions) (record own { type = if not b then one_element thing.type else thing.type; puts = if is_none own.puts then Some no_puts else own.puts })) (sym d)
         (subst (λ puts. IsTypedObject program (Some mentions) (record own { type = one_element thing.type; puts = if is_none puts then Some no_puts else puts })) (sym empty) (record {
           type_in = subst (λ unit. IsTypeIn scope.types unit (one_element thing.type)) (sym known.here) (final_in scope.types scope.unit thing.type thing_in complete);
-          object = element_form thing.type (subst (λ t. IsObjectForm (form_of_type t)) ((was scope at name thing there object).type_is d) known.object);
+          object = element_form own.linkage thing.type (subst (λ t. IsDeclaredForm own.linkage (form_of_type t)) ((was scope at name thing there object).type_is d) known.object);
           named = λ linked. ap is_some (was scope at name thing there object).named;
           text = λ is_text. absurd (let h : true ≡ false = sym is_text ∙ known.no_text in cc);
           static = record { complete = complete; typed = (tt, tt); constant = tt };

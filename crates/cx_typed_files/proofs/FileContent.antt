@@ -13,6 +13,7 @@ use Rattle.cx_rules.specs.Declare.{is_linked, thing_named, with_object_at}
 use Rattle.cx_rules.specs.Scope.{CMeant, an_object, a_function, CThing, CScope, new_scope, ordinary}
 use Rattle.cx_rules.specs.Types.{is_function, composite}
 use Rattle.cx_rules.specs.UnitWalk.{literals_since}
+use Rattle.cx_typed.proofs.DeclaredForms.{object_declared}
 use Rattle.cx_typed.proofs.Same.{number_is}
 use Rattle.cx_typed.specs.Names.{IsKnownMeant}
 use Rattle.cx_typed.specs.Operands.{IsKnownType}
@@ -234,7 +235,7 @@ module _ (opens : List ℕ) (scope : CScope) (orderly : IsOrderly opens scope) (
     where
       known_by : (other : List ℕ) (found : CMeant) → (ordinary other later.declared ≡ Some found) ⊎ IsRetyped name other full (ordinary other later.declared) found → IsKnownMeant opens later.types later.unit found
       known_by other found (inl at) = good.known other found at
-      known_by other found (inr at) = subst (IsKnownMeant opens later.types later.unit) (sym at.found_is) (known, object)
+      known_by other found (inr at) = subst (IsKnownMeant opens later.types later.unit) (sym at.found_is) (known, object_declared at.linkage (form_of_type full) object)
 
   -- ---- what the unit keeps account of
 
@@ -274,7 +275,7 @@ module _ (opens : List ℕ) (scope : CScope) (orderly : IsOrderly opens scope) (
         inr (subst (IsKnownObject opens many) is (record {
           here = known_before.here;
           known = known;
-          object = object;
+          object = object_declared before.linkage (form_of_type full) object;
           no_text = known_before.no_text;
           named = λ is_linked_so. named_onward later.things (set_thing name new later.things) name new declared_so (stored_in true full puts before) (named_stored before (known_before.named is_linked_so));
         }))

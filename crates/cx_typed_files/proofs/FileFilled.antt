@@ -23,6 +23,7 @@ use Rattle.cx_rules.specs.Units.{seen_initialiser}
 use Rattle.cx_rules.specs.UnitWalk.{CMeant as CMeaning, name_or_none, clashes_behind}
 use Rattle.cx_tree.specs.Trees.{InitialiserTree}
 use Rattle.cx_core.specs.Layouts.{whole_extent, layouts_of}
+use Rattle.cx_typed.proofs.DeclaredForms.{declared_form, declared_object}
 use Rattle.cx_typed.proofs.Filled.{completed_known, values_fill}
 use Rattle.cx_typed.proofs.Goes.{go_gives, go_becomes, go_here_then, go_chain, go_changed}
 use Rattle.cx_typed.proofs.Growing.{some_stays, whole_grows, complete_stays}
@@ -46,7 +47,7 @@ use Rattle.cx_typed_units.proofs.FilledObjects.{AreFilled, declared_filled}
 use Rattle.cx_typed_units.proofs.Fine.{does_by, meant_by, IsFine, begun_is, unclashed, fine_is, form_is, thing_goes}
 use Rattle.cx_typed_units.proofs.FirstInternal.{first_internal}
 use Rattle.cx_typed_units.proofs.Named.{set_thing}
-use Rattle.cx_typed_units.proofs.Owned.{stored_in, completed_void, go_known}
+use Rattle.cx_typed_units.proofs.Owned.{stored_in, completed_function, completed_declared, go_known}
 use Rattle.cx_typed_units.proofs.Redeclared.{redeclare_first}
 use Rattle.cx_typed_units.proofs.RestNodes.{StaysTo, got_set}
 use Rattle.cx_typed_units.proofs.Rests.{rest_leads}
@@ -126,6 +127,16 @@ not_incomplete false false is = absurd cc
 or_none : (a : Bool) → (a || false) ≡ true → a ≡ true
 or_none true is = refl
 or_none false is = absurd cc
+
+-- what has a size isn't `void`
+sized_some : (types : CTypes) (type : CTy) → (has_size types type || is_array type) ≡ true → is_void type ≡ false
+sized_some types (ty void is_const) sized = absurd (let h : false ≡ true = sized in cc)
+sized_some types (ty (array element length) is_const) sized = refl
+sized_some types (ty (basic which) is_const) sized = refl
+sized_some types (ty (enum_type number) is_const) sized = refl
+sized_some types (ty (pointer to) is_const) sized = refl
+sized_some types (ty (record_type number) is_const) sized = refl
+sized_some types (ty (function result params variadic) is_const) sized = refl
 
 full_complete : (opens : List ℕ) (types : CTypes) (unit : ℕ) (type : CTy) (stored : List CStored) → (has_size types type || is_array type) ≡ true → is_function type ≡ false
     → IsKnownType opens types unit (completed_type type stored) → is_too_large types (completed_type type stored) ≡ false → IsComplete types (completed_type type stored)
@@ -234,9 +245,10 @@ module _ (opens : List ℕ) (specs : CSpecs) (line : ℕ) (written : CTy) (name 
   fine_by : (later : CScope) (stored : List CStored) → IsUnbroken later later.types (node later stored) → IsFine opens scope one
   fine_by later stored unbroken =
       let apart = apart_by later stored unbroken in
-      let said = size_said (is_typedef specs) (is_void (completed_type one.type stored)) (is_unlinked one.linkage) (is_incomplete later.types (completed_type one.type stored)) unbroken.k5 in
+      let said = size_said (is_typedef specs) (is_unlinked one.linkage) (is_incomplete later.types (completed_type one.type stored)) unbroken.k5 in
       fine_is opens scope at.good at.orderly File specs name line written true known (unclashed scope name (is_typedef specs) written one.linkage true apart)
-      (λ typedef. sym (completed_void one.type stored) ∙ (said typedef).some)
+      (λ typedef no_fun. completed_declared one.linkage one.type stored
+      (declared_form later.types one.linkage (completed_type one.type stored) (completed_function one.type stored ∙ no_fun) (said typedef)))
 
   abbrev may : Bool
   may = not (is_typedef specs) && (not (is_function one.type) && ((true || not (has_storage keyword.Extern specs)) && (has_size scope.types one.type || is_array one.type)))
@@ -423,7 +435,7 @@ module _ (opens : List ℕ) (specs : CSpecs) (line : ℕ) (written : CTy) (name 
       (record {
         ends = λ done. record {
           initialised = (goes opens (record { is_static = is_linked one.linkage || has_storage keyword.Static specs; type = one.type }) middle begun_here.good
-              (record { known = type_known; object = fine.object kind.typedef kind.object })).ends done;
+              (record { known = type_known; object = declared_object one.linkage one.type (fine.object kind.typedef kind.object) (sized_some scope.types one.type kind.sized) })).ends done;
           stays = (kept_initialiser_walk (whole_target (is_linked one.linkage || has_storage keyword.Static specs) (Some one.type)) init middle).kept;
         };
       })

@@ -10,8 +10,9 @@ use Rattle.cx_rules.specs.Readings.{seen_chain}
 use Rattle.cx_rules.specs.Rules.{is_unlinked}
 use Rattle.cx_rules.specs.Scope.{CScope, ordinary}
 use Rattle.cx_rules.specs.Shapes.{CSpecs, CShape}
-use Rattle.cx_rules.specs.Types.{is_function, is_void, is_incomplete}
+use Rattle.cx_rules.specs.Types.{is_function, is_incomplete}
 use Rattle.cx_rules.specs.UnitWalk.{CMeant as CMeaning, name_or_none, clashes_behind}
+use Rattle.cx_typed.proofs.DeclaredForms.{declared_form}
 use Rattle.cx_typed.proofs.Goes.{go_gives, go_becomes, go_here_then, go_chain, go_changed}
 use Rattle.cx_typed.specs.Operands.{IsKnownType}
 use Rattle.cx_typed.specs.Unbroken.{IsUnbroken}
@@ -42,11 +43,11 @@ module _ (opens : List ℕ) (specs : CSpecs) (line : ℕ) (written : CTy) (name 
 
   ends_so : IsUnbroken behind behind.types node → IsFileStep opens scope behind
   ends_so unbroken =
-      let said = size_said (is_typedef specs) (is_void one.type) (is_unlinked one.linkage) (is_incomplete behind.types one.type) unbroken.k5 in
-      let fine = fine_is opens scope at.good at.orderly File specs name line written false known (unclashed scope name (is_typedef specs) written one.linkage false unbroken.k2) (λ typedef. (said typedef).some) in
+      let said = size_said (is_typedef specs) (is_unlinked one.linkage) (is_incomplete behind.types one.type) unbroken.k5 in
+      let fine = fine_is opens scope at.good at.orderly File specs name line written false known (unclashed scope name (is_typedef specs) written one.linkage false unbroken.k2) (λ typedef no_fun. declared_form behind.types one.linkage one.type no_fun (said typedef)) in
       let begun = begun_is opens scope at.good at.orderly one fine in
       let leads = made_leads opens scope at.good at.orderly one fine refl
-      (λ typedef no_fun no_link. complete_object behind.types one.type no_fun ((said typedef).sized (unlinked_is one.linkage no_link)) unbroken.m3)
+      (λ typedef no_fun no_link. complete_object behind.types one.type no_fun (said typedef (unlinked_is one.linkage no_link)) unbroken.m3)
       (λ internal none. first_internal opens scope at.orderly name none File specs written few internal) in
       record {
         at = record {

@@ -3,12 +3,12 @@ use Rattle.std.proofs.Common.{◌≡◌, ◌⊎◌, inl, inr, ℕ, zero, suc, �
 use Rattle.std.specs.Prelude.{IsSome, IfSome}
 use Rattle.cx_core.specs.declared.program.Linkage.{Linkage}
 use Rattle.cx_core.specs.declared.program.Linkage.TheVariants.{External, Nothing}
-use Rattle.cx_core.specs.Trees.{CTy, ty, void, basic, enum_type, pointer, array, record_type, function, CTypes, CObject, CMention, defines}
+use Rattle.cx_core.specs.Trees.{CTy, function, CTypes, CObject, CMention, defines}
 use Rattle.cx_rules.specs.declared.kinds.SpecsPlace.TheVariants.{Definition}
 use Rattle.cx_rules.specs.Declare.{is_linked, is_typedef, linkage_of, thing_named, clashes_thing, clashes, CDeclaring, declaring, own_params, own_within, with_head}
 use Rattle.cx_rules.specs.Scope.{CMeant, an_object, a_function, CDeclared, CTag, CMade, CThing, CScope, ordinary, tag, tag_of, is_ordinary, with_declared, with_mention, mention_of}
 use Rattle.cx_rules.specs.Shapes.{CSpecs, CParam, CStep}
-use Rattle.cx_rules.specs.Types.{is_function, is_void}
+use Rattle.cx_rules.specs.Types.{is_function}
 use Rattle.std.proofs.lemmas.Slice.Eq.{bytes_eq-Decides}
 use Rattle.cx_typed.proofs.Scopes.{pushed_at}
 use Rattle.cx_typed.specs.Names.{IsKnownMeant, IsKnownTag}
@@ -31,15 +31,6 @@ use Rattle.cx_typed_units.specs.Fills.{Fills}
 use Rattle.cx_typed_units.specs.Stretches.{IsThing, IsCovered, IsThingOf, IsKnownThing, IsOrderly, Leads}
 
 -- ---- what a definition asks of declarations before
-
-code_not_void : (type : CTy) → is_function type ≡ true → is_void type ≡ false
-code_not_void (ty (function result params variadic) is_const) is = refl
-code_not_void (ty void is_const) is = absurd cc
-code_not_void (ty (basic which) is_const) is = refl
-code_not_void (ty (enum_type number) is_const) is = refl
-code_not_void (ty (pointer to) is_const) is = refl
-code_not_void (ty (array element length) is_const) is = refl
-code_not_void (ty (record_type number) is_const) is = refl
 
 linked_false : (linked clashing : Bool) → (linked && clashing) ≡ false → linked ≡ true → clashing ≡ false
 linked_false true clashing is linked = is
@@ -133,7 +124,7 @@ module _ (opens : List ℕ) (start scope : CScope) (specs : CSpecs) (line : ℕ)
 
   pub fine : IsFine opens scope one
   fine =
-      fine_is opens scope head.at.good head.at.orderly Definition specs name line written true head.known (unclashed scope name (is_typedef specs) written one.linkage true head.apart) (λ t. code_not_void one.type form)
+      fine_is opens scope head.at.good head.at.orderly Definition specs name line written true head.known (unclashed scope name (is_typedef specs) written one.linkage true head.apart) (λ t no_fun. absurd (let h : true ≡ false = sym form ∙ no_fun in cc))
 
   pub linked : is_linked one.linkage ≡ true
   linked = fine.function_linked head.typedef form

@@ -7,6 +7,7 @@ use Rattle.cx_core.specs.ValidTypes.{IsObjectForm}
 use Rattle.cx_rules.specs.Declare.{is_linked, thing_named}
 use Rattle.cx_rules.specs.Scope.{CMade, CThing}
 use Rattle.cx_rules.specs.Shapes.{CParam}
+use Rattle.cx_typed.proofs.DeclaredForms.{object_declared}
 use Rattle.cx_typed.proofs.Scopes.{kept_before, pushed_at}
 use Rattle.cx_typed.specs.Operands.{IsKnownType}
 use Rattle.cx_typed_files.proofs.OwnParams.{AreFrom}
@@ -30,7 +31,7 @@ module _ (opens : List ℕ) (pending : Option (List ℕ)) (few : CAccount) (held
   known_by index one (inr at) = subst (IsKnownObject opens free_account) at.1 (record {
     here = here;
     known = known;
-    object = form;
+    object = object_declared new.linkage (form_of_type new.type) form;
     no_text = no_text;
     named = λ linked. absurd (let h : is_linked Nothing ≡ true = subst (λ l. is_linked l ≡ true) nothing linked in let k : false ≡ true = h in cc);
   })

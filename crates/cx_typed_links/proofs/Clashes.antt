@@ -8,14 +8,14 @@ use Rattle.std.proofs.lemmas.List.Elements.{All-nil, All-cons}
 use Rattle.std.proofs.lemmas.Slice.Eq.{bytes_eq-Decides}
 use Rattle.cx_core.specs.declared.program.Linkage.TheVariants.{External}
 use Rattle.cx_core.specs.Compatible.{agree, forms_agree}
-use Rattle.cx_core.specs.Linked.{is_external}
+use Rattle.cx_core.specs.Linked.{is_external, IsDeclaredForm}
 use Rattle.cx_core.specs.Trees.{CTy, ty, CTyForm, void, basic, enum_type, pointer, array, record_type, function, form_of_type, CTypes, CDoes, declares, defines, calls, uses, CMention, CUnit}
-use Rattle.cx_core.specs.ValidTypes.{IsObjectForm}
 use Rattle.cx_links.specs.Program.{counts_before, types_of_all, all_mentions}
 use Rattle.cx_links.specs.Rules.{counts_in, is_good, compatible_in, is_declaration, is_definition, declares_external, defines_external, is_kind_of, stands_earlier, clashes, broken_links}
 use Rattle.cx_renumber.specs.Numbers.{CCounts, type_there, does_there, mention_there}
 use Rattle.cx_typed_links.proofs.Compatible.{together_true}
 use Rattle.cx_typed_links.proofs.Mentions.{mention_of, mention_passes}
+use Rattle.cx_typed_links.proofs.Types.{declared_there}
 
 -- ---- tests
 
@@ -40,24 +40,24 @@ other_false : (a b : Bool) → a ≡ true → (a && b) ≡ false → b ≡ false
 other_false true b holds is = is
 other_false false b holds is = absurd cc
 
--- ---- an object type and a function type aren't compatible
+-- ---- a type with which an object may be declared and a function type aren't compatible
 
 abbrev pub IsFunctionType : CTyForm → Type 0
 IsFunctionType (function result params variadic) = Unit {0}
 IsFunctionType _ = ⊥
 
-forms_apart : (types : CTypes) (counts : ℕ → ℕ → Bool) (first second : CTyForm) → IsObjectForm first → IsFunctionType second
+forms_apart : (types : CTypes) (counts : ℕ → ℕ → Bool) (first second : CTyForm) → IsDeclaredForm External first → IsFunctionType second
     → (forms_agree types counts first second ≡ false) × (forms_agree types counts second first ≡ false)
 forms_apart types counts (basic which) (function result params variadic) object code = (refl, refl)
 forms_apart types counts (enum_type number) (function result params variadic) object code = (refl, refl)
 forms_apart types counts (pointer to) (function result params variadic) object code = (refl, refl)
 forms_apart types counts (array element length) (function result params variadic) object code = (refl, refl)
 forms_apart types counts (record_type number) (function result params variadic) object code = (refl, refl)
-forms_apart types counts void second object code = absurd object
+forms_apart types counts void (function result params variadic) object code = (refl, refl)
 forms_apart types counts (function result params variadic) second object code = absurd object
 forms_apart types counts first second object code = absurd code
 
-types_apart : (types : CTypes) (counts : ℕ → ℕ → Bool) (first second : CTy) → IsObjectForm (form_of_type first) → IsFunctionType (form_of_type second)
+types_apart : (types : CTypes) (counts : ℕ → ℕ → Bool) (first second : CTy) → IsDeclaredForm External (form_of_type first) → IsFunctionType (form_of_type second)
     → (agree types counts first second ≡ false) × (agree types counts second first ≡ false)
 types_apart types counts (ty first first_const) (ty second second_const) object code =
     let apart = forms_apart types counts first second object code in (
@@ -65,7 +65,7 @@ types_apart types counts (ty first first_const) (ty second second_const) object 
       second_false (beq second_const first_const) (forms_agree types counts second first) apart.1,
     )
 
-not_compatible : (types : CTypes) (first second : CTy) → IsObjectForm (form_of_type first) → IsFunctionType (form_of_type second)
+not_compatible : (types : CTypes) (first second : CTy) → IsDeclaredForm External (form_of_type first) → IsFunctionType (form_of_type second)
     → (compatible_in types first second ≡ false) × (compatible_in types second first ≡ false)
 unfolding compatible_in
 not_compatible types first second object code = (
@@ -76,15 +76,6 @@ not_compatible types first second object code = (
 function_there_is : (before : CCounts) (type : CTy) → IsFunctionType (form_of_type type) → IsFunctionType (form_of_type (type_there before type))
 function_there_is before (ty (function result params variadic) is_const) code = tt
 function_there_is before (ty form is_const) code = absurd code
-
-object_there_is : (before : CCounts) (type : CTy) → IsObjectForm (form_of_type type) → IsObjectForm (form_of_type (type_there before type))
-object_there_is before (ty void is_const) object = object
-object_there_is before (ty (basic which) is_const) object = object
-object_there_is before (ty (enum_type number) is_const) object = object
-object_there_is before (ty (pointer to) is_const) object = object
-object_there_is before (ty (array element length) is_const) object = object
-object_there_is before (ty (record_type number) is_const) object = object
-object_there_is before (ty (function result params variadic) is_const) object = object
 
 -- ---- mentions that declare
 
@@ -137,17 +128,17 @@ module _ (units : List CUnit) (none : broken_links units ≡ None) (name : List 
       (let h : true ≡ false = sym (together_true kind clash) ∙ here in cc)
 
   -- no unit declares an object where another declares a function
-  pub one_kind : (first second : ℕ) → (first ≡ second → ⊥) → IsDeclaredAs units name IsObjectForm first → IsDeclaredAs units name IsFunctionType second → ⊥
+  pub one_kind : (first second : ℕ) → (first ≡ second → ⊥) → IsDeclaredAs units name (IsDeclaredForm External) first → IsDeclaredAs units name IsFunctionType second → ⊥
   one_kind first second apart told also = by (nat_lt first second) refl
     where
       kinds : (compatible_in (types_of_all units) (type_there (counts_before first units) told.mention.type) (type_there (counts_before second units) also.mention.type) ≡ false)
           × (compatible_in (types_of_all units) (type_there (counts_before second units) also.mention.type) (type_there (counts_before first units) told.mention.type) ≡ false)
       kinds = not_compatible (types_of_all units) (type_there (counts_before first units) told.mention.type) (type_there (counts_before second units) also.mention.type)
-          (object_there_is (counts_before first units) told.mention.type told.form) (function_there_is (counts_before second units) also.mention.type also.form)
+          (declared_there (counts_before first units) External told.mention.type told.form) (function_there_is (counts_before second units) also.mention.type also.form)
 
       by : (less : Bool) → nat_lt first second ≡ less → ⊥
-      by true less = agrees IsObjectForm IsFunctionType first second (let h : first < second = grind (arith, nat_tests, less) in h) told also kinds.1
-      by false less = agrees IsFunctionType IsObjectForm second first (let h : second < first = grind (arith, nat_tests, less, apart) in h) also told kinds.0
+      by true less = agrees (IsDeclaredForm External) IsFunctionType first second (let h : first < second = grind (arith, nat_tests, less) in h) told also kinds.1
+      by false less = agrees IsFunctionType (IsDeclaredForm External) second first (let h : second < first = grind (arith, nat_tests, less, apart) in h) also told kinds.0
 
 -- ---- definitions
 

@@ -10,11 +10,10 @@ use Rattle.cx_core.proofs.Relation.{compatible_reflexive}
 use Rattle.cx_core.specs.declared.program.Linkage.{Linkage}
 use Rattle.cx_core.specs.declared.program.Linkage.TheVariants.{External, Internal, Nothing}
 use Rattle.cx_core.specs.Compatible.{forms_agree, in_pairs, AreCompatible}
-use Rattle.cx_core.specs.Linked.{program_of, is_external, has_linkage, IsToldIn, IsTypedObject, IsTypedFunction, IsDeclaredOuter}
+use Rattle.cx_core.specs.Linked.{program_of, is_external, has_linkage, IsToldIn, IsTypedObject, IsTypedFunction, IsDeclaredOuter, IsDeclaredForm}
 use Rattle.cx_core.specs.Statements.{IsDefinitionOf}
 use Rattle.cx_core.specs.Trees.{CTy, ty, CTyForm, void, basic, enum_type, pointer, array, record_type, function, form_of_type, CPuts, CTypes, CObject, CFun, COuter, CDoes, declares, defines, CMention, CUnit}
 use Rattle.cx_core.specs.Typing.{CHome, IsMentionedIn}
-use Rattle.cx_core.specs.ValidTypes.{IsObjectForm}
 use Rattle.cx_links.specs.Program.{CFound, first_unit, has_name, is_object_named, defined_object, defined_function, object_of_name, function_of_name, outer_of_name, counts_before, types_of_all}
 use Rattle.cx_links.specs.Rules.{is_declaration, broken_links}
 use Rattle.cx_renumber.specs.Numbers.{CCounts, type_there}
@@ -27,7 +26,7 @@ use Rattle.cx_typed_links.proofs.MeantNames.{same_object, same_outer, no_object_
 use Rattle.cx_typed_links.proofs.Objects.{named_thing}
 use Rattle.cx_typed_links.proofs.Outers.{first_declared}
 use Rattle.cx_typed_links.proofs.Places.{first_is, found_holds, any_found, same_found, same_number}
-use Rattle.cx_typed_links.proofs.Types.{of_object_there}
+use Rattle.cx_typed_links.proofs.Types.{declared_there}
 use Rattle.cx_typed_links.specs.Laws.{AreTypedUnits}
 use Rattle.cx_typed_files.specs.Defining.{IsDefinitionThere, IsDefinedObject, IsDefinedFunction}
 use Rattle.cx_typed_links.specs.Links.{AreDefiningUnits}
@@ -76,26 +75,26 @@ module _ (before : CCounts) where
   function_there (ty (array element length) is_const) is = absurd cc
   function_there (ty (record_type number) is_const) is = absurd cc
 
--- no object type is compatible with a function type
-object_or_function : (types : CTypes) (counts : ℕ → ℕ → Bool) (first second : CTyForm) → IsObjectForm first → is_function_form second ≡ true
+-- no type with which an object may be declared is compatible with a function type
+object_or_function : (types : CTypes) (counts : ℕ → ℕ → Bool) (linkage : Linkage) (first second : CTyForm) → IsDeclaredForm linkage first → is_function_form second ≡ true
     → forms_agree types counts first second ≡ true → ⊥
-object_or_function types counts (basic which) (function result params variadic) object is same = absurd cc
-object_or_function types counts (enum_type number) (function result params variadic) object is same = absurd cc
-object_or_function types counts (pointer to) (function result params variadic) object is same = absurd cc
-object_or_function types counts (array element length) (function result params variadic) object is same = absurd cc
-object_or_function types counts (record_type number) (function result params variadic) object is same = absurd cc
-object_or_function types counts void second object is same = absurd object
-object_or_function types counts (function result params variadic) second object is same = absurd object
-object_or_function types counts first void object is same = absurd cc
-object_or_function types counts first (basic which) object is same = absurd cc
-object_or_function types counts first (enum_type number) object is same = absurd cc
-object_or_function types counts first (pointer to) object is same = absurd cc
-object_or_function types counts first (array element length) object is same = absurd cc
-object_or_function types counts first (record_type number) object is same = absurd cc
+object_or_function types counts linkage (basic which) (function result params variadic) object is same = absurd cc
+object_or_function types counts linkage (enum_type number) (function result params variadic) object is same = absurd cc
+object_or_function types counts linkage (pointer to) (function result params variadic) object is same = absurd cc
+object_or_function types counts linkage (array element length) (function result params variadic) object is same = absurd cc
+object_or_function types counts linkage (record_type number) (function result params variadic) object is same = absurd cc
+object_or_function types counts linkage void (function result params variadic) object is same = absurd cc
+object_or_function types counts linkage (function result params variadic) second object is same = absurd object
+object_or_function types counts linkage first void object is same = absurd cc
+object_or_function types counts linkage first (basic which) object is same = absurd cc
+object_or_function types counts linkage first (enum_type number) object is same = absurd cc
+object_or_function types counts linkage first (pointer to) object is same = absurd cc
+object_or_function types counts linkage first (array element length) object is same = absurd cc
+object_or_function types counts linkage first (record_type number) object is same = absurd cc
 
-kinds_apart : (types : CTypes) (first second : CTy) → IsObjectForm (form_of_type first) → is_function_form (form_of_type second) ≡ true → AreCompatible types first second → ⊥
-kinds_apart types (ty first first_const) (ty second second_const) object is same =
-    object_or_function types (in_pairs same.pairs) first second object is (both same.meet).1
+kinds_apart : (types : CTypes) (linkage : Linkage) (first second : CTy) → IsDeclaredForm linkage (form_of_type first) → is_function_form (form_of_type second) ≡ true → AreCompatible types first second → ⊥
+kinds_apart types linkage (ty first first_const) (ty second second_const) object is same =
+    object_or_function types (in_pairs same.pairs) linkage first second object is (both same.meet).1
 
 -- ---- what a unit tells of its things
 
@@ -183,7 +182,7 @@ module _ (units : List CUnit) (typed : AreTypedUnits units) (unit : ℕ) (one : 
         declares = ap is_declaration said.mention.does_is;
       }
 
-  pub object_form : (known : CObject) → Contains one.objects known → IsObjectForm (form_of_type known.type)
+  pub object_form : (known : CObject) → Contains one.objects known → IsDeclaredForm known.linkage (form_of_type known.type)
   object_form known at = (All-contains (IsTypedObject (program_of one) (Some one.mentions)) one.objects known (typed unit one is).objects at).object
 
   pub fun_typed : (known : CFun) → Contains one.functions known → IsTypedFunction (program_of one) (Some one.mentions) known
@@ -212,11 +211,11 @@ module _ (units : List CUnit) (typed : AreTypedUnits units) (unbroken : broken_l
       same_found (slice_get units unit) home one (subst (λ n. slice_get units n ≡ Some home) (sym same) also) is
 
   -- an object of one and a function of another have no external name in common
-  object_and_function : (name : List ℕ) (unit other : ℕ) → (unit ≡ other → ⊥) → (first second : CTy) → IsDeclaredIn units unit name first → IsDeclaredIn units other name second
-      → IsObjectForm (form_of_type first) → is_function_form (form_of_type second) ≡ true → ⊥
-  object_and_function name unit other differ first second one two object is =
-      kinds_apart whole (type_of_unit unit first) (type_of_unit other second)
-      (of_object_there (counts_before unit units) first object) (function_there (counts_before other units) second is)
+  object_and_function : (name : List ℕ) (unit other : ℕ) → (unit ≡ other → ⊥) → (linkage : Linkage) (first second : CTy) → IsDeclaredIn units unit name first → IsDeclaredIn units other name second
+      → IsDeclaredForm linkage (form_of_type first) → is_function_form (form_of_type second) ≡ true → ⊥
+  object_and_function name unit other differ linkage first second one two object is =
+      kinds_apart whole linkage (type_of_unit unit first) (type_of_unit other second)
+      (declared_there (counts_before unit units) linkage first object) (function_there (counts_before other units) second is)
       (declared_alike units unbroken name unit other differ first second one two)
 
   module _ (unit : ℕ) (one : CUnit) (is : slice_get units unit ≡ Some one) where
@@ -246,7 +245,7 @@ module _ (units : List CUnit) (typed : AreTypedUnits units) (unbroken : broken_l
                   no_object_and_function one (typed unit one is).names_differ known fun at (subst (λ (home : CUnit). Contains home.functions fun) home there)
                   (external_has known.linkage external) (external_has fun.linkage outside) (named ∙ ap (λ n. Some n) (sym name_is))
               apart (inr differ) fun there outside name_is =
-                  object_and_function name unit other differ known.type fun.type (object_declared units typed unit one is known at external name named)
+                  object_and_function name unit other differ known.linkage known.type fun.type (object_declared units typed unit one is known at external name named)
                   (subst (λ n. IsDeclaredIn units other n fun.type) name_is (function_declared units typed other definition.home definition.unit_is fun there outside))
                   (object_form units typed unit one is known at) (fun_form units typed other definition.home definition.unit_is fun there)
 
@@ -313,7 +312,7 @@ module _ (units : List CUnit) (typed : AreTypedUnits units) (unbroken : broken_l
                   no_object_and_outer one (typed unit one is).names_differ object known (subst (λ (home : CUnit). Contains home.objects object) home there) at
                   (external_has object.linkage outside) (external_has known.linkage external) name_is
               apart (inr differ) object there outside name_is =
-                  object_and_function known.name other unit (λ same. differ (sym same)) object.type known.type
+                  object_and_function known.name other unit (λ same. differ (sym same)) object.linkage object.type known.type
                   (object_declared units typed other definition.home definition.unit_is object there outside known.name name_is)
                   (outer_declared units typed unit one is known at external)
                   (object_form units typed other definition.home definition.unit_is object there) (outer_form units typed unit one is known at)

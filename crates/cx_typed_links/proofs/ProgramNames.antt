@@ -6,11 +6,10 @@ use Rattle.std.proofs.lemmas.Bool.{cases_eq}
 use Rattle.std.proofs.lemmas.Slice.Eq.{bytes_eq-Decides}
 use Rattle.cx_core.specs.declared.program.Linkage.{Linkage}
 use Rattle.cx_core.specs.declared.program.Linkage.TheVariants.{External, Internal, Nothing}
-use Rattle.cx_core.specs.Linked.{program_of, is_external, has_linkage, names_with, IsTypedObject, IsTypedFunction, IsToldIn, IsDeclaredOuter}
+use Rattle.cx_core.specs.Linked.{program_of, is_external, has_linkage, names_with, IsTypedObject, IsTypedFunction, IsToldIn, IsDeclaredOuter, IsDeclaredForm}
 use Rattle.cx_core.specs.Statements.{IsDefinitionOf}
 use Rattle.cx_core.specs.Trees.{CTyForm, function, form_of_type, CObject, CFun, COuter, CDoes, declares, defines, calls, uses, CMention, CUnit}
 use Rattle.cx_core.specs.Typing.{CHome, IsMentionedIn, object_with}
-use Rattle.cx_core.specs.ValidTypes.{IsObjectForm}
 use Rattle.cx_links.specs.Program.{CFound, defined_function, function_of_name, outer_of_name, object_of_name, numbers_of, linked}
 use Rattle.cx_links.specs.Rules.{is_declaration, broken_links}
 use Rattle.cx_renumber.specs.Numbers.{object_there, function_there, outer_there}
@@ -73,7 +72,7 @@ module _ (units : List CUnit) (typed : AreTypedUnits units) (none : broken_links
           (held.found, held.found_is, same_of units typed x _ of found.0 (sym (same_number _ x.object found.1)))
 
   object_declared : (x : CObject) (of : IsOfUnit units x) (name : List ℕ) → is_external x.linkage ≡ true → x.name ≡ Some name
-      → IsDeclaredAs units name IsObjectForm of.unit
+      → IsDeclaredAs units name (IsDeclaredForm External) of.unit
   object_declared x of name external is =
       let thing_external : is_external of.thing.linkage ≡ true = ap (λ (one : CObject). is_external one.linkage) (sym of.is) ∙ external in
       let thing_named : of.thing.name ≡ Some name = ap (λ (one : CObject). one.name) (sym of.is) ∙ is in
@@ -91,7 +90,8 @@ module _ (units : List CUnit) (typed : AreTypedUnits units) (none : broken_links
         name_is = told.type_is.mention.name_is;
         linkage_is = told.type_is.mention.linkage_is;
         declaring = ap is_declaration told.type_is.mention.does_is ∙ declaration_of told.does_there told.declaring;
-        form = subst (λ type. IsObjectForm (form_of_type type)) (sym told.type_is.mention.type_is) object.0.object;
+        form = subst (λ type. IsDeclaredForm External (form_of_type type)) (sym told.type_is.mention.type_is)
+            (subst (λ linkage. IsDeclaredForm linkage (form_of_type of.thing.type)) (external_is of.thing.linkage thing_external) object.0.object);
       }
 
   -- ---- functions

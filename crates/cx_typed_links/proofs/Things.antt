@@ -16,7 +16,7 @@ use Rattle.cx_typed_links.proofs.Labels.{labels_go, is_block_goes}
 use Rattle.cx_typed_links.proofs.Sizes.{complete_there}
 use Rattle.cx_typed_links.proofs.Statements.{object_moved, block_object_goes, stmt_goes}
 use Rattle.cx_typed_links.proofs.Texts.{some_text_goes}
-use Rattle.cx_typed_links.proofs.Types.{form_of_there, unqualified_there, of_object_there, type_in_there}
+use Rattle.cx_typed_links.proofs.Types.{form_of_there, unqualified_there, declared_there, type_in_there}
 use Rattle.cx_typed_links.specs.Homes.{home_here, home_there, NamesHold}
 
 module _ (unit : ℕ) (numbers : CNumbers) (mentions : Option (List CMention)) (one program : CProgram) (holds : NamesHold unit numbers mentions one program) where
@@ -71,7 +71,7 @@ module _ (unit : ℕ) (numbers : CNumbers) (mentions : Option (List CMention)) (
   pub object_goes : (known : CObject) → known.unit ≡ unit → IsTypedObject one mentions known → IsTypedObject program None (object_there numbers known)
   object_goes known unit_is held = record {
     type_in = type_in_there numbers.before one.types program.types holds.types.inside known.unit known.type held.type_in;
-    object = of_object_there numbers.before known.type held.object;
+    object = declared_there numbers.before known.linkage known.type held.object;
     named = held.named;
     text = λ is. text_goes known (held.text is);
     static = subst (λ n. IfSome (option_map (puts_there numbers) known.puts) (IsStatic (home_of program None n) (moved known.type))) (sym unit_is)

@@ -4,8 +4,10 @@ use Rattle.std.specs.Prelude.{IsSome, IfSome, ◌<◌}
 use Rattle.cr_base.specs.declared.scalar.Scalar.{Scalar}
 use Rattle.cx_core.specs.declared.ty.Basic.{Basic}
 use Rattle.cx_core.specs.Conversions.{basic_of, basic_of_enum, scalar_of, scalar_of_basic, scalar_of_pointer, promoted, promoted_basic, common_type, IsIntegerType, IsScalarType, IsPromoted}
+use Rattle.cx_core.specs.Linked.{IsDeclaredForm}
 use Rattle.cx_core.specs.Trees.{CTy, ty, CTyForm, void, basic, enum_type, pointer, array, record_type, function, CParams, unlisted, listed, CTys, no_types, more_types, form_of_type, is_const_type, unqualified, CTypes}
 use Rattle.cx_core.specs.ValidTypes.{IsObjectForm, IsResultForm, IsParamForm, IsComplete, IsArrayOf, MayVary, IsTypeIn, IsFormIn, AreParamsIn, AreTypesIn}
+use Rattle.cx_core.specs.declared.program.Linkage.{Linkage}
 use Rattle.cx_renumber.specs.Numbers.{CCounts, type_there, form_there, params_there, types_there}
 use Rattle.cx_typed_links.proofs.Sizes.{map_gives, complete_there}
 use Rattle.cx_typed_links.specs.Embedding.{Gives, IsInside}
@@ -61,6 +63,15 @@ module _ (before : CCounts) where
 
   pub of_object_there : (type : CTy) → IsObjectForm (form_of_type type) → IsObjectForm (form_of_type (type_there before type))
   of_object_there (ty form is_const) held = object_form_there form held
+
+  pub declared_there : (linkage : Linkage) (type : CTy) → IsDeclaredForm linkage (form_of_type type) → IsDeclaredForm linkage (form_of_type (type_there before type))
+  declared_there linkage (ty void is_const) held = held
+  declared_there linkage (ty (basic which) is_const) held = held
+  declared_there linkage (ty (enum_type number) is_const) held = held
+  declared_there linkage (ty (pointer to) is_const) held = held
+  declared_there linkage (ty (array element length) is_const) held = held
+  declared_there linkage (ty (record_type number) is_const) held = held
+  declared_there linkage (ty (function result params variadic) is_const) held = held
 
   pub of_result_there : (type : CTy) → IsResultForm (form_of_type type) → IsResultForm (form_of_type (type_there before type))
   of_result_there (ty form is_const) held = result_form_there form held

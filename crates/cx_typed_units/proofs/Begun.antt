@@ -3,11 +3,11 @@ use Rattle.std.proofs.Common.{◌≡◌, ℕ, Bool, true, false, if◌then◌els
 use Rattle.std.specs.Prelude.{IsSome, IfSome}
 use Rattle.cx_core.specs.declared.program.Linkage.{Linkage}
 use Rattle.cx_core.specs.declared.program.Linkage.TheVariants.{External, Internal, Nothing}
+use Rattle.cx_core.specs.Linked.{IsDeclaredForm}
 use Rattle.cx_core.specs.Trees.{CTy, ty, void, basic, enum_type, pointer, array, record_type, function, form_of_type, CPuts, CMention}
-use Rattle.cx_core.specs.ValidTypes.{IsObjectForm}
 use Rattle.cx_rules.specs.Declare.{is_linked, thing_named, joined_with}
 use Rattle.cx_rules.specs.Scope.{CMeant, an_object, a_function, a_type_name, an_enumerator, a_tag, CThing, CScope, ordinary, tag, is_ordinary, with_declared, with_mention}
-use Rattle.cx_rules.specs.Types.{is_function, is_void, compatible, composite}
+use Rattle.cx_rules.specs.Types.{is_function, compatible, composite}
 use Rattle.cx_typed.specs.Names.{IsKnownMeant, IsKnownTag, IsFunctionForm}
 use Rattle.cx_typed.specs.Sound.{AreSound}
 use Rattle.cx_typed.specs.Operands.{IsKnownType}
@@ -72,15 +72,6 @@ module _ (opens : List ℕ) (scope : CScope) (good : IsGood opens scope) (orderl
   joined_is = joined_by (ordinary name scope.declared) refl
 
 -- ---- what comes into scope
-
-pub object_form : (type : CTy) → is_void type ≡ false → is_function type ≡ false → IsObjectForm (form_of_type type)
-object_form (ty void is_const) some object = absurd cc
-object_form (ty (function result params variadic) is_const) some object = absurd cc
-object_form (ty (basic which) is_const) some object = tt
-object_form (ty (enum_type number) is_const) some object = tt
-object_form (ty (pointer to) is_const) some object = tt
-object_form (ty (array element length) is_const) some object = tt
-object_form (ty (record_type number) is_const) some object = tt
 
 pub function_form : (type : CTy) → is_function type ≡ true → IsFunctionForm (form_of_type type)
 function_form (ty (function result params variadic) is_const) is = tt
@@ -182,7 +173,7 @@ module _ (opens : List ℕ) (scope : CScope) (name : List ℕ) (type : CTy) (kno
     linked = tt;
   }
 
-  pub own_entity : (puts : Option CPuts) (is_register : Bool) → IsObjectForm (form_of_type type)
+  pub own_entity : (puts : Option CPuts) (is_register : Bool) → IsDeclaredForm Nothing (form_of_type type)
       → IsEntity opens scope name (an_object scope.next_object type is_register Nothing) (with_next_object (new_object scope name type Nothing puts) scope)
   own_entity puts is_register form = record {
     leads = next_leads opens scope (new_object scope name type Nothing puts) refl;
@@ -196,7 +187,7 @@ module _ (opens : List ℕ) (scope : CScope) (name : List ℕ) (type : CTy) (kno
   }
 
   module _ (orderly : IsOrderly opens scope) (linkage : Linkage) (linked : is_linked linkage ≡ true) (goes : IfSome (thing_named name scope.things) (GoesWith scope.types type linkage)) where
-    pub object_entity : is_function type ≡ false → IsObjectForm (form_of_type type) → (is_register has_content : Bool) (tentative : Option ℕ)
+    pub object_entity : is_function type ≡ false → IsDeclaredForm linkage (form_of_type type) → (is_register has_content : Bool) (tentative : Option ℕ)
         → IsEntity opens scope name (an_object (linked_number scope.next_object (thing_named name scope.things)) type is_register linkage)
         (linked_object name type linkage has_content tentative (thing_named name scope.things) scope)
     object_entity no_function form is_register has_content tentative =

@@ -4,7 +4,8 @@ use Rattle.std.proofs.lemmas.Slice.Eq.{bytes_eq-Decides}
 use Rattle.std.specs.Prelude.{IfSome}
 use Rattle.cx_core.specs.declared.program.Linkage.{Linkage}
 use Rattle.cx_core.specs.declared.program.Linkage.TheVariants.{External, Internal, Nothing}
-use Rattle.cx_core.specs.Trees.{CTy, CMention}
+use Rattle.cx_core.specs.Linked.{IsDeclaredForm}
+use Rattle.cx_core.specs.Trees.{CTy, CMention, form_of_type}
 use Rattle.cx_lex.specs.declared.token.Keyword.TheVariants as keyword
 use Rattle.cx_rules.specs.Declare.{is_linked, is_outside, is_typedef, thing_named, CDeclaring, with_declaration}
 use Rattle.cx_rules.specs.Scope.{CThing, CScope, with_mention}
@@ -129,7 +130,7 @@ module _ (opens : List ℕ) (pending : Option (List ℕ)) (scope : CScope) (orde
       → IsAccounted opens (pending_by one.has_init one.name pending) (account_of (record (object_behind found) { mentions = told_list told (mention_by one (object_behind found)) }))
   object_made able told e None there t f l =
       let new = new_thing one.name one.linkage false scope.next_object one.type one.has_init line_is in
-      new_object_accounted opens pending (account_of scope) held one.name one.type fine.known (fine.object t f) one.linkage l one.has_init line_is able.alone (told_list told (mention_by one (object_behind None))) there
+      new_object_accounted opens pending (account_of scope) held one.name one.type fine.known one.linkage (fine.object t f) l one.has_init line_is able.alone (told_list told (mention_by one (object_behind None))) there
       (new_object scope one.name one.type one.linkage None) refl refl refl refl refl refl refl defines_is
       (does_same (is_outside one.where_stands) one.has_init (has_storage keyword.Extern one.specs) one.line able.outside)
       (λ internal. internal_by (is_outside one.where_stands) one.has_init (has_storage keyword.Extern one.specs) one.line (able.internal internal there))
@@ -138,7 +139,7 @@ module _ (opens : List ℕ) (pending : Option (List ℕ)) (scope : CScope) (orde
       let goes = found_goes _ (thing_named one.name scope.things) old there (fine.goes l) in
       let was = orderly.things one.name old there in
       let again = declared_again one.type one.has_init line_is old in
-      object_again_accounted opens pending (account_of scope) held one.name one.type fine.known (fine.object t f) one.linkage l one.has_init line_is able.alone (told_list told (mention_by one (object_behind (Some old)))) old there
+      object_again_accounted opens pending (account_of scope) held one.name one.type fine.known one.linkage (fine.object t f) l one.has_init line_is able.alone (told_list told (mention_by one (object_behind (Some old)))) old there
       (has_name one.name scope.things old there) (sym was.function_is ∙ (sym (agree_function scope.types one.type old.type goes.agrees) ∙ f)) goes was.known defines_is
       (does_same (is_outside one.where_stands) one.has_init (has_storage keyword.Extern one.specs) one.line able.outside)
       (told_now told e (mention_by one (object_behind (Some old))) (composite one.type old.type) refl refl
@@ -179,7 +180,7 @@ module _ (opens : List ℕ) (pending : Option (List ℕ)) (scope : CScope) (orde
       ap (λ b. not b && (is_external one.linkage || (is_function one.type && is_linked one.linkage))) t
       ∙ (ap (λ b. is_external one.linkage || (b && is_linked one.linkage)) f ∙ (or_none (is_external one.linkage) ∙ ap is_external (no_linkage one.linkage l))) in let k : true ≡ false = sym e ∙ h in cc)
   accounted_by false false false false able t f l e =
-      own_accounted opens pending (account_of scope) held (new_object scope one.name one.type Nothing (static_puts (has_storage keyword.Static one.specs))) refl refl refl fine.known (fine.object t f) refl
+      own_accounted opens pending (account_of scope) held (new_object scope one.name one.type Nothing (static_puts (has_storage keyword.Static one.specs))) refl refl refl fine.known (subst (λ linkage. IsDeclaredForm linkage (form_of_type one.type)) (no_linkage one.linkage l) (fine.object t f)) refl
 
   pub declaration_accounted : (is_typedef one.specs ≡ false → is_function one.type ≡ false → is_linked one.linkage ≡ true → IsAccountable pending scope one)
       → IsAccounted opens (later_by (is_typedef one.specs) (is_function one.type) (is_linked one.linkage) one pending) (account_of (with_declaration one scope))

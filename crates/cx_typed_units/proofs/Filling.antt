@@ -4,8 +4,8 @@ use Rattle.std.specs.List.{Contains}
 use Rattle.cr_base.specs.declared.refusal.Place.{Place as TextPlace}
 use Rattle.cx_core.specs.declared.program.Linkage.{Linkage}
 use Rattle.cx_core.specs.declared.program.Linkage.TheVariants.{External, Internal, Nothing}
-use Rattle.cx_core.specs.Trees.{CTy, CPuts}
-use Rattle.cx_core.specs.Linked.{home_of, IsStatic}
+use Rattle.cx_core.specs.Trees.{CTy, CPuts, form_of_type}
+use Rattle.cx_core.specs.Linked.{home_of, IsStatic, IsDeclaredForm}
 use Rattle.cx_core.specs.Typing.{CHome, IsThere}
 use Rattle.cx_core.specs.ValidTypes.{IsComplete}
 use Rattle.cx_lex.specs.declared.token.Keyword.TheVariants as keyword
@@ -19,10 +19,11 @@ use Rattle.cx_rules.specs.Readings.{seen_chain}
 use Rattle.cx_rules.specs.Rules.{is_unlinked}
 use Rattle.cx_rules.specs.Scope.{CMeant, an_object, CScope, ordinary}
 use Rattle.cx_rules.specs.Shapes.{CSpecs, has_storage}
-use Rattle.cx_rules.specs.Types.{is_function, is_void, is_array, is_incomplete, has_size}
+use Rattle.cx_rules.specs.Types.{is_function, is_array, is_incomplete, has_size}
 use Rattle.cx_rules.specs.Units.{seen_initialiser}
 use Rattle.cx_rules.specs.UnitWalk.{CMeant as CMeaning, name_or_none, literals_since, declared_meant, clashes_behind}
 use Rattle.cx_tree.specs.Trees.{InitialiserTree}
+use Rattle.cx_typed.proofs.DeclaredForms.{declared_form, unlinked_object}
 use Rattle.cx_typed.proofs.Filled.{completed_known, values_fill}
 use Rattle.cx_typed.proofs.Growing.{complete_stays}
 use Rattle.cx_typed.proofs.Goes.{go_gives, go_becomes, go_here_then, go_chain, go_changed}
@@ -39,7 +40,7 @@ use Rattle.cx_typed_units.proofs.Declared.{plain_declared, begun_declared}
 use Rattle.cx_typed_units.proofs.Entities.{linked_number}
 use Rattle.cx_typed_units.proofs.Fine.{meant_by, static_puts, IsFine, begun_is, unclashed, fine_is, form_is}
 use Rattle.cx_typed_units.proofs.Once.{once_first, once_later, literals_once}
-use Rattle.cx_typed_units.proofs.Owned.{stored_in, own_content, completed_function, completed_void, completed_goes, go_known, IsOwn, final_at, behind_leads, behind_good, init_serves, behind_held}
+use Rattle.cx_typed_units.proofs.Owned.{stored_in, own_content, completed_function, completed_declared, completed_goes, go_known, IsOwn, final_at, behind_leads, behind_good, init_serves, behind_held}
 use Rattle.cx_typed_units.proofs.Redeclared.{redeclare_first}
 use Rattle.cx_typed_units.proofs.RestNodes.{StaysTo}
 use Rattle.cx_typed_units.proofs.RestTrees.{kept_initialiser_walk}
@@ -116,9 +117,10 @@ module _ (opens : List ℕ) (place : SpecsPlace) (outside : is_outside place ≡
   fine_by : (later : CScope) (stored : List CStored) → IsUnbroken later later.types (node later stored) → IsFine opens scope one
   fine_by later stored unbroken =
       let apart = apart_by later stored unbroken in
-      let said = size_said (is_typedef specs) (is_void (completed_type one.type stored)) (is_unlinked one.linkage) (is_incomplete later.types (completed_type one.type stored)) unbroken.k5 in
+      let said = size_said (is_typedef specs) (is_unlinked one.linkage) (is_incomplete later.types (completed_type one.type stored)) unbroken.k5 in
       fine_is opens scope good orderly place specs name line written true known (unclashed scope name (is_typedef specs) written one.linkage true apart)
-      (λ typedef. sym (completed_void one.type stored) ∙ (said typedef).some)
+      (λ typedef no_fun. completed_declared one.linkage one.type stored
+      (declared_form later.types one.linkage (completed_type one.type stored) (completed_function one.type stored ∙ no_fun) (said typedef)))
 
   abbrev may : Bool
   may = not (is_typedef specs) && (not (is_function one.type) && ((is_outside place || not (has_storage keyword.Extern specs)) && (has_size scope.types one.type || is_array one.type)))
@@ -203,8 +205,8 @@ module _ (opens : List ℕ) (place : SpecsPlace) (outside : is_outside place ≡
 
     size : IsComplete later.types whole
     size =
-        let said = size_said (is_typedef specs) (is_void whole) (is_unlinked one.linkage) (is_incomplete later.types whole) unbroken.k5 kind.typedef in
-        complete_object later.types whole (completed_function one.type stored ∙ kind.object) (said.sized (ap is_unlinked kind.nothing)) unbroken.m3
+        let said = size_said (is_typedef specs) (is_unlinked one.linkage) (is_incomplete later.types whole) unbroken.k5 kind.typedef in
+        complete_object later.types whole (completed_function one.type stored ∙ kind.object) (said (ap is_unlinked kind.nothing)) unbroken.m3
 
     abbrev end : CScope
     end = with_object_at scope.next_object (stored_in static whole puts) (record later { declared = redeclare_first name whole later.declared })
@@ -305,7 +307,7 @@ module _ (opens : List ℕ) (place : SpecsPlace) (outside : is_outside place ≡
       (record {
         ends = λ done. record {
           initialised = (goes opens (record { is_static = is_linked one.linkage || has_storage keyword.Static specs; type = one.type }) middle begun_here.good
-              (record { known = type_known; object = fine.object kind.typedef kind.object })).ends done;
+              (record { known = type_known; object = unlinked_object (form_of_type one.type) (subst (λ linkage. IsDeclaredForm linkage (form_of_type one.type)) kind.nothing (fine.object kind.typedef kind.object)) })).ends done;
           stays = (kept_initialiser_walk (whole_target (is_linked one.linkage || has_storage keyword.Static specs) (Some one.type)) init middle).kept;
         };
       })

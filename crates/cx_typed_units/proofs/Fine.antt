@@ -3,18 +3,18 @@ use Rattle.std.proofs.Common.{◌≡◌, ℕ, Bool, true, false, not, ◌&&◌, 
 use Rattle.std.specs.Prelude.{IsSome, IfSome}
 use Rattle.cx_core.specs.declared.program.Linkage.{Linkage}
 use Rattle.cx_core.specs.declared.program.Linkage.TheVariants.{External, Internal, Nothing}
+use Rattle.cx_core.specs.Linked.{IsDeclaredForm}
 use Rattle.cx_core.specs.Trees.{CTy, form_of_type, CTypes, CPuts, no_puts, CDoes, declares, defines, CMention}
-use Rattle.cx_core.specs.ValidTypes.{IsObjectForm}
 use Rattle.cx_lex.specs.declared.token.Keyword.TheVariants as keyword
 use Rattle.cx_rules.specs.declared.kinds.SpecsPlace.{SpecsPlace}
 use Rattle.cx_rules.specs.Declare.{is_linked, is_outside, is_typedef, linkage_of, thing_named, joined_with, clashes_thing, clashes, same_linkage, CDeclaring, declaring, with_declaration}
 use Rattle.cx_rules.specs.Scope.{CMeant, an_object, a_function, a_type_name, CThing, CScope, ordinary, with_declared, with_mention, mention_of}
 use Rattle.cx_rules.specs.Shapes.{CSpecs, has_storage}
-use Rattle.cx_rules.specs.Types.{is_function, is_void, compatible}
+use Rattle.cx_rules.specs.Types.{is_function, compatible}
 use Rattle.cx_typed.proofs.Promoted.{not_not}
 use Rattle.cx_typed.specs.Operands.{IsKnownType}
 use Rattle.cx_typed.specs.Walked.{IsGood}
-use Rattle.cx_typed_units.proofs.Begun.{IsJoined, joined_is, object_form, IsBegunAs, named_as, typedef_entity, own_entity, object_entity, function_entity}
+use Rattle.cx_typed_units.proofs.Begun.{IsJoined, joined_is, IsBegunAs, named_as, typedef_entity, own_entity, object_entity, function_entity}
 use Rattle.cx_typed_units.proofs.Entities.{new_object, linked_object, linked_object_is, linked_function, linked_number, object_defined, GoesWith}
 use Rattle.cx_typed_units.proofs.Steps.{with_next_object}
 use Rattle.cx_typed_units.proofs.Joins.{fills_itself}
@@ -99,7 +99,7 @@ pub record IsFine (opens : List ℕ) (scope : CScope) (one : CDeclaring) : Type 
   pub known : IsKnownType opens scope.types scope.unit one.type
   pub goes : is_linked one.linkage ≡ true → IfSome (thing_named one.name scope.things) (GoesWith scope.types one.type one.linkage)
   pub function_linked : is_typedef one.specs ≡ false → is_function one.type ≡ true → is_linked one.linkage ≡ true
-  pub object : is_typedef one.specs ≡ false → is_function one.type ≡ false → IsObjectForm (form_of_type one.type)
+  pub object : is_typedef one.specs ≡ false → is_function one.type ≡ false → IsDeclaredForm one.linkage (form_of_type one.type)
 
 pub no_linkage : (linkage : Linkage) → is_linked linkage ≡ false → linkage ≡ Nothing
 no_linkage External is = absurd cc
@@ -178,7 +178,7 @@ module _ (opens : List ℕ) (scope : CScope) (good : IsGood opens scope) (orderl
       subst (λ linkage. IsBegunAs opens scope one.name (an_object scope.next_object one.type (has_storage keyword.Register one.specs) linkage)
       (with_declared one.name (an_object scope.next_object one.type (has_storage keyword.Register one.specs) linkage) (if told then with_mention (mention_by one own) own else own))) (sym (no_linkage one.linkage l))
       (named_as opens scope good one.name (an_object scope.next_object one.type (has_storage keyword.Register one.specs) Nothing) refl own
-      (own_entity opens scope one.name one.type fine.known (static_puts (has_storage keyword.Static one.specs)) (has_storage keyword.Register one.specs) (fine.object t f)) told (mention_by one own)
+      (own_entity opens scope one.name one.type fine.known (static_puts (has_storage keyword.Static one.specs)) (has_storage keyword.Register one.specs) (subst (λ linkage. IsDeclaredForm linkage (form_of_type one.type)) (no_linkage one.linkage l) (fine.object t f))) told (mention_by one own)
       (λ is. absurd (own_untold (is_typedef one.specs) (is_external one.linkage) (is_function one.type) (is_linked one.linkage) (ap is_external (no_linkage one.linkage l)) f (e ∙ is))))
 
   pub begun_is : IsBegunAs opens scope one.name (meant_by (is_typedef one.specs) (is_function one.type) (is_linked one.linkage) one scope) (with_declaration one scope)
@@ -294,13 +294,15 @@ module _ (opens : List ℕ) (scope : CScope) (good : IsGood opens scope) (orderl
   says_no_less apart = (joined_by (is_linked linkage) refl apart).fills
 
   pub fine_is : IsUnclashed scope name written linkage
-      → (is_typedef specs ≡ false → is_void (declaring scope place specs name line written has_init).type ≡ false) → IsFine opens scope (declaring scope place specs name line written has_init)
-  fine_is apart some =
+      → (is_typedef specs ≡ false → is_function (declaring scope place specs name line written has_init).type ≡ false
+          → IsDeclaredForm (declaring scope place specs name line written has_init).linkage (form_of_type (declaring scope place specs name line written has_init).type))
+      → IsFine opens scope (declaring scope place specs name line written has_init)
+  fine_is apart form =
       let joined = joined_by (is_linked linkage) refl apart in
       record {
         known = joined.known;
         goes = λ linked. if_found _ (thing_named name scope.things) (λ one found.
             let goes = apart.same linked one found in record { linkage_is = goes.linkage_is; agrees = joined.goes one found goes.agrees });
         function_linked = λ typedef is_fun. function_linked place specs written (ordinary name scope.declared) typedef (sym joined.form ∙ is_fun);
-        object = λ typedef no_fun. object_form (type_by (is_linked linkage)) (some typedef) no_fun;
+        object = form;
       }

@@ -4,8 +4,8 @@ use Rattle.std.proofs.lemmas.Bool.Decides.{nat_tests}
 use Rattle.std.proofs.lemmas.Slice.Eq.{bytes_eq-Decides}
 use Rattle.cx_core.specs.declared.program.Linkage.{Linkage}
 use Rattle.cx_core.specs.declared.program.Linkage.TheVariants.{External, Internal, Nothing}
+use Rattle.cx_core.specs.Linked.{IsDeclaredForm}
 use Rattle.cx_core.specs.Trees.{CTy, ty, CTyForm, void, basic, enum_type, pointer, array, record_type, function, form_of_type, CObject, CFun, CMention}
-use Rattle.cx_core.specs.ValidTypes.{IsObjectForm}
 use Rattle.cx_rules.specs.Declare.{is_linked, thing_named}
 use Rattle.cx_rules.specs.Scope.{CThing}
 use Rattle.cx_rules.specs.Types.{composite, composite_form}
@@ -36,16 +36,16 @@ declaring_is : (b : Bool) → is_declaring (does_by b) ≡ true
 declaring_is true = refl
 declaring_is false = refl
 
--- the composite of an object type is one
-pub object_composite : (one other : CTy) → IsObjectForm (form_of_type one) → IsObjectForm (form_of_type (composite one other))
-object_composite (ty one one_const) (ty other other_const) held = by_form one other held
+-- an object may be declared with the composite of a type with which it may
+pub object_composite : (linkage : Linkage) (one other : CTy) → IsDeclaredForm linkage (form_of_type one) → IsDeclaredForm linkage (form_of_type (composite one other))
+object_composite linkage (ty one one_const) (ty other other_const) held = by_form one other held
   where
-    by_form : (one other : CTyForm) → IsObjectForm one → IsObjectForm (composite_form one other)
+    by_form : (one other : CTyForm) → IsDeclaredForm linkage one → IsDeclaredForm linkage (composite_form one other)
     by_form (basic one) (enum_type other) held = tt
     by_form (pointer one) (pointer other) held = tt
     by_form (array one one_length) (array other other_length) held = tt
     by_form (function one ones one_more) (function other others other_more) held = absurd held
-    by_form void other held = absurd held
+    by_form void other held = held
     by_form (basic one) other held = tt
     by_form (enum_type one) other held = tt
     by_form (pointer one) other held = tt
@@ -56,7 +56,7 @@ object_composite (ty one one_const) (ty other other_const) held = by_form one ot
 -- ---- an object without linkage
 
 module _ (opens : List ℕ) (pending : Option (List ℕ)) (few : CAccount) (held : IsAccounted opens pending few) (new : CObject) (next : new.object ≡ few.next_object) (nothing : new.linkage ≡ Nothing)
-    (here : new.unit ≡ few.unit) (known : IsKnownType opens few.types few.unit new.type) (form : IsObjectForm (form_of_type new.type)) (no_text : new.is_text ≡ false) where
+    (here : new.unit ≡ few.unit) (known : IsKnownType opens few.types few.unit new.type) (form : IsDeclaredForm new.linkage (form_of_type new.type)) (no_text : new.is_text ≡ false) where
   abbrev pub own_account : CAccount
   own_account = record few { next_object = few.next_object + 1; objects = few.objects ++ new ∷ [] }
 
@@ -141,7 +141,7 @@ pub record IsToldNow (mentions told : List CMention) (name : List ℕ) (linkage 
   pub says : linkage ≡ External → IsToldAs told name External (λ one. (one.type ≡ type) × (one.does ≡ does_by defines))
 
 module _ (opens : List ℕ) (pending : Option (List ℕ)) (few : CAccount) (held : IsAccounted opens pending few) (name : List ℕ) (type : CTy) (known : IsKnownType opens few.types few.unit type)
-    (form : IsObjectForm (form_of_type type)) (linkage : Linkage) (linked : is_linked linkage ≡ true) (has_content : Bool) (tentative : Option ℕ) (alone : has_content ≡ true → pending ≡ None)
+    (linkage : Linkage) (form : IsDeclaredForm linkage (form_of_type type)) (linked : is_linked linkage ≡ true) (has_content : Bool) (tentative : Option ℕ) (alone : has_content ≡ true → pending ≡ None)
     (told : List CMention) where
   abbrev later : Option (List ℕ)
   later = pending_by has_content name pending
@@ -189,7 +189,7 @@ module _ (opens : List ℕ) (pending : Option (List ℕ)) (few : CAccount) (held
     new_known = record {
       here = here;
       known = subst (IsKnownType opens few.types few.unit) (sym new_type) known;
-      object = subst (λ t. IsObjectForm (form_of_type t)) (sym new_type) form;
+      object = subst (λ l. IsDeclaredForm l (form_of_type new.type)) (sym new_linkage) (subst (λ t. IsDeclaredForm linkage (form_of_type t)) (sym new_type) form);
       no_text = no_text;
       named = λ is. record { name = name; named = named; thing = thing; there = found_new; number_is = sym next; object_is = refl };
     }
@@ -345,25 +345,32 @@ module _ (opens : List ℕ) (pending : Option (List ℕ)) (few : CAccount) (held
     known_by_state true before held = held
     known_by_state false before held = again_known
 
-    form_by_state : (defined : Bool) (before : CTy) → IsObjectForm (form_of_type before) → IsObjectForm (form_of_type (if defined then before else composite type old.type))
-    form_by_state true before held = held
-    form_by_state false before held = object_composite type old.type form
+    form_by_state : (defined : Bool) (one_linkage : Linkage) → one_linkage ≡ linkage → (before : CTy) → IsDeclaredForm one_linkage (form_of_type before)
+        → IsDeclaredForm one_linkage (form_of_type (if defined then before else composite type old.type))
+    form_by_state true one_linkage is before held = held
+    form_by_state false one_linkage is before held = subst (λ l. IsDeclaredForm l (form_of_type (composite type old.type))) (sym is) (object_composite linkage type old.type form)
 
-    known_again : (index : ℕ) (before one : CObject) (same : Bool) → slice_get few.objects index ≡ Some before → (if same then retyped before else before) ≡ one
+    same_linkage : (index : ℕ) (one : CObject) → (one.object == old.number) ≡ true → slice_get few.objects index ≡ Some one → one.linkage ≡ linkage
+    same_linkage index one e at =
+        let same : index ≡ was.index = held.objects_differ index was.index one was.one at was.at (number_is one.object old.number e ∙ sym was.number_is) in
+        let is : Some one ≡ Some was.one = sym at ∙ (ap (slice_get few.objects) same ∙ was.at) in
+        ap (λ (x : CObject). x.linkage) (same_value is) ∙ (was.linkage_is ∙ goes.linkage_is)
+
+    known_again : (index : ℕ) (before one : CObject) (same : Bool) → (before.object == old.number) ≡ same → slice_get few.objects index ≡ Some before → (if same then retyped before else before) ≡ one
         → (slice_get few.objects index ≡ Some one) ⊎ IsKnownObject opens many_again one
-    known_again index before one true at is =
+    known_again index before one true e at is =
         let known_before = held.objects index before at in
         inr (subst (IsKnownObject opens many_again) is (record {
           here = known_before.here;
           known = known_by_state old.is_defined before.type known_before.known;
-          object = form_by_state old.is_defined before.type known_before.object;
+          object = form_by_state old.is_defined before.linkage (same_linkage index before e at) before.type known_before.object;
           no_text = known_before.no_text;
           named = λ is_linked. named_onward few.things (set_thing name again few.things) name again declared_so (retyped before) (named_retyped before (known_before.named is_linked));
         }))
       where
         named_retyped : (before : CObject) → IsObjectNamed few.things before → IsObjectNamed few.things (retyped before)
         named_retyped before held = record { name = held.name; named = held.named; thing = held.thing; there = held.there; number_is = held.number_is; object_is = held.object_is }
-    known_again index before one false at is = inl (at ∙ ap (λ x. Some x) is)
+    known_again index before one false e at is = inl (at ∙ ap (λ x. Some x) is)
 
     open_again : (content : Bool) (other : List ℕ) → pending_by content name pending ≡ Some other → (index : ℕ) (one : CFun) → slice_get few.functions index ≡ Some one → one.name ≡ other → ⊥
     open_again true other is index one at same =
@@ -381,7 +388,7 @@ module _ (opens : List ℕ) (pending : Option (List ℕ)) (few : CAccount) (held
           stays = λ index one at apart. stays_by index one (one.object == old.number) refl at apart;
           known = λ index one at.
               let before = got_mapped change_one few.objects index one at in
-              known_again index before.0 one (before.0.object == old.number) before.1 before.2;
+              known_again index before.0 one (before.0.object == old.number) refl before.1 before.2;
           looser = λ other apart is. looser_by has_content name pending alone other is;
           awaited = open_again has_content;
           own_object = λ is. own_again;

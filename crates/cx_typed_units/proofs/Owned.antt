@@ -10,8 +10,8 @@ use Rattle.cx_core.proofs.Relation.{compatible_reflexive}
 use Rattle.cx_core.specs.declared.program.Linkage.{Linkage}
 use Rattle.cx_core.specs.declared.program.Linkage.TheVariants.{External, Nothing}
 use Rattle.cx_core.specs.Compatible.{agree, in_pairs, AreCompatible}
-use Rattle.cx_core.specs.Trees.{CTy, ty, array, CTypes, CPuts, CObject}
-use Rattle.cx_core.specs.Linked.{home_of, IsStatic}
+use Rattle.cx_core.specs.Trees.{CTy, ty, array, CTypes, CPuts, CObject, form_of_type}
+use Rattle.cx_core.specs.Linked.{home_of, IsStatic, IsDeclaredForm}
 use Rattle.cx_core.specs.Typing.{CHome, object_with, IsThere}
 use Rattle.cx_rules.proofs.Verdicts.{broken_behind}
 use Rattle.cx_rules.specs.Declare.{is_linked, with_object_at, CBegun, with_content}
@@ -19,8 +19,9 @@ use Rattle.cx_rules.specs.Initial.{CStored, completed_type}
 use Rattle.cx_rules.specs.Pieces.{CTarget}
 use Rattle.cx_rules.specs.Readings.{Seen, seen_chain, or_else, first_broken}
 use Rattle.cx_rules.specs.Scope.{CMeant, an_object, a_function, CScope, ordinary}
-use Rattle.cx_rules.specs.Types.{is_function, is_void}
+use Rattle.cx_rules.specs.Types.{is_function}
 use Rattle.cx_rules.specs.UnitWalk.{literals_since}
+use Rattle.cx_typed.proofs.DeclaredForms.{object_declared}
 use Rattle.cx_typed.proofs.Scopes.{longer, within}
 use Rattle.cx_typed.specs.Initialised.{IsKnownWhole}
 use Rattle.cx_typed.specs.Names.{IsKnownMeant}
@@ -56,9 +57,10 @@ pub completed_function : (type : CTy) (stored : List CStored) → is_function (c
 completed_function (ty (array element None) is_const) stored = refl
 completed_function type stored = refl
 
-pub completed_void : (type : CTy) (stored : List CStored) → is_void (completed_type type stored) ≡ is_void type
-completed_void (ty (array element None) is_const) stored = refl
-completed_void type stored = refl
+-- an object may be declared with the type that its initialiser completes
+pub completed_declared : (linkage : Linkage) (type : CTy) (stored : List CStored) → IsDeclaredForm linkage (form_of_type (completed_type type stored)) → IsDeclaredForm linkage (form_of_type type)
+completed_declared linkage (ty (array element None) is_const) stored held = tt
+completed_declared linkage type stored held = held
 
 pub completed_goes : (types : CTypes) (type : CTy) (stored : List CStored) → AreCompatible types type (completed_type type stored)
 completed_goes types type stored = record { pairs = []; good = refl; meet = agree_completed types (in_pairs []) type stored }
@@ -278,7 +280,7 @@ module _ (opens : List ℕ) (scope : CScope) (orderly : IsOrderly opens scope) (
       known_by : (other : List ℕ) (found : CMeant) → (ordinary other later.declared ≡ Some found) ⊎ IsRetyped name other whole (ordinary other later.declared) found
           → IsKnownMeant opens later.types later.unit found
       known_by other found (inl at) = good.known other found at
-      known_by other found (inr at) = subst (IsKnownMeant opens later.types later.unit) (sym at.found_is) (known.known, known.object)
+      known_by other found (inr at) = subst (IsKnownMeant opens later.types later.unit) (sym at.found_is) (known.known, object_declared at.linkage (form_of_type whole) known.object)
 
   -- ---- in a program
 

@@ -6,6 +6,7 @@ use Rattle.cx_core.specs.Trees.{CTy, form_of_type, CObject}
 use Rattle.cx_core.specs.ValidTypes.{IsObjectForm}
 use Rattle.cx_rules.specs.Declare.{is_linked, thing_named}
 use Rattle.cx_rules.specs.Scope.{CThing}
+use Rattle.cx_typed.proofs.DeclaredForms.{object_declared}
 use Rattle.cx_typed.proofs.Same.{number_is}
 use Rattle.cx_typed.specs.Operands.{IsKnownType}
 use Rattle.cx_typed_units.proofs.ObjectNumbers.{numbered_of, changed_numbered}
@@ -44,7 +45,7 @@ module _ (opens : List ℕ) (pending : Option (List ℕ)) (few : CAccount) (held
       subst (IsKnownObject opens stored_account) is (record {
         here = unit_kept before ∙ was.here;
         known = subst (IsKnownType opens few.types few.unit) (sym (new_type before)) known;
-        object = subst (λ t. IsObjectForm (form_of_type t)) (sym (new_type before)) form;
+        object = object_declared (change before).linkage (form_of_type (change before).type) (subst (λ t. IsObjectForm (form_of_type t)) (sym (new_type before)) form);
         no_text = text_kept before ∙ was.no_text;
         named = λ linked. absurd (not_linked before.linkage (ap (λ (x : CObject). x.linkage) (sym (is_own at before found e)) ∙ nothing) (ap is_linked (sym (linkage_kept before)) ∙ linked));
       })

@@ -19,9 +19,10 @@ use Rattle.cx_rules.specs.Nodes.{CNode, declares_node}
 use Rattle.cx_rules.specs.Rules.{is_unlinked}
 use Rattle.cx_rules.specs.Scope.{an_object, a_type_name, CThing, CScope}
 use Rattle.cx_rules.specs.Shapes.{CSpecs, CShape, has_storage}
-use Rattle.cx_rules.specs.Types.{is_function, is_void, is_incomplete, is_too_large, has_size}
+use Rattle.cx_rules.specs.Types.{is_function, is_incomplete, is_too_large, has_size}
 use Rattle.cx_rules.specs.UnitWalk.{CMeant as CMeaning, nothing_meant, name_or_none, literals_since, declared_meant, clashes_behind}
 use Rattle.cx_rules.specs.Readings.{seen_chain}
+use Rattle.cx_typed.proofs.DeclaredForms.{declared_form}
 use Rattle.cx_typed.proofs.Derived.{small_whole, fits_by, sized_by}
 use Rattle.cx_typed.proofs.Growing.{complete_stays}
 use Rattle.cx_typed.proofs.Goes.{go_gives, go_becomes, go_here_then, go_chain, go_changed}
@@ -264,15 +265,10 @@ module _ (opens : List ℕ) (scope : CScope) (good : IsGood opens scope) (orderl
 
 -- ---- the walk
 
-pub record HasSize (is_void is_unlinked is_incomplete : Bool) : Type 0 where
-  pub some : is_void ≡ false
-  pub sized : is_unlinked ≡ true → is_incomplete ≡ false
-
-pub size_said : (typedef nothing unlinked incomplete : Bool) → (not typedef && (nothing || (unlinked && incomplete))) ≡ false → typedef ≡ false → HasSize nothing unlinked incomplete
-size_said true nothing unlinked incomplete fine t = absurd cc
-size_said false true unlinked incomplete fine t = absurd cc
-size_said false false true incomplete fine t = record { some = refl; sized = λ is. fine }
-size_said false false false incomplete fine t = record { some = refl; sized = λ is. absurd cc }
+pub size_said : (typedef unlinked incomplete : Bool) → (not typedef && (unlinked && incomplete)) ≡ false → typedef ≡ false → unlinked ≡ true → incomplete ≡ false
+size_said true unlinked incomplete fine t linked = absurd cc
+size_said false true incomplete fine t linked = fine
+size_said false false incomplete fine t linked = absurd cc
 
 pub unlinked_is : (linkage : Linkage) → is_linked linkage ≡ false → is_unlinked linkage ≡ true
 unlinked_is External is = absurd cc
@@ -299,16 +295,16 @@ module _ (opens : List ℕ) (place : SpecsPlace) (specs : CSpecs) (line : ℕ) (
 
   ends_so : IsUnbroken behind behind.types node → (at : TextPlace) (puts : CPuts) → IsDeclaration opens scope (declared_meant scope behind at (begun_as scope one written) false puts) behind
   ends_so unbroken at puts =
-      let said = size_said (is_typedef specs) (is_void one.type) (is_unlinked one.linkage) (is_incomplete behind.types one.type) unbroken.k5 in
-      let fine = fine_is opens scope good orderly place specs name line written false known (unclashed scope name (is_typedef specs) written one.linkage false unbroken.k2) (λ typedef. (said typedef).some) in
+      let said = size_said (is_typedef specs) (is_unlinked one.linkage) (is_incomplete behind.types one.type) unbroken.k5 in
+      let fine = fine_is opens scope good orderly place specs name line written false known (unclashed scope name (is_typedef specs) written one.linkage false unbroken.k2) (λ typedef no_fun. declared_form behind.types one.linkage one.type no_fun (said typedef)) in
       let begun = begun_is opens scope good orderly one fine in
       subst (λ b. IsDeclaration opens scope
       (meaning_by b (is_linked one.linkage) (has_storage keyword.Static specs) (is_typedef specs) (is_function one.type) at false puts
       (if is_linked one.linkage then linked_number scope.next_object (thing_named name scope.things) else scope.next_object) (literals_since scope behind)) behind)
       (sym (begun.leads.in_function_is ∙ inside))
       (unfilled_by opens scope good orderly one fine refl
-      (λ typedef no_fun no_link. complete_object behind.types one.type no_fun ((said typedef).sized (unlinked_is one.linkage no_link)) unbroken.m3) (λ internal none. first_internal opens scope orderly name none place specs written few internal) at puts (is_typedef specs) (is_function one.type) (is_linked one.linkage) (has_storage keyword.Static specs) refl refl refl refl
-      (λ typedef no_fun no_link. complete_object behind.types one.type no_fun ((said typedef).sized (unlinked_is one.linkage no_link)) unbroken.m3))
+      (λ typedef no_fun no_link. complete_object behind.types one.type no_fun (said typedef (unlinked_is one.linkage no_link)) unbroken.m3) (λ internal none. first_internal opens scope orderly name none place specs written few internal) at puts (is_typedef specs) (is_function one.type) (is_linked one.linkage) (has_storage keyword.Static specs) refl refl refl refl
+      (λ typedef no_fun no_link. complete_object behind.types one.type no_fun (said typedef (unlinked_is one.linkage no_link)) unbroken.m3))
 
 pub unfilled_goes : (opens : List ℕ) (place : SpecsPlace) (specs : CSpecs) (line : ℕ) (written : CTy) (shape : CShape) (scope : CScope) → IsGood opens scope → IsOrderly opens scope → scope.in_function ≡ true
     → IsKnownType opens scope.types scope.unit written → nat_lt 1 (length specs.storage) ≡ false → Ends (s_named_walk place specs line written shape None) scope (IsDeclaration opens scope)

@@ -2,8 +2,8 @@
 use Rattle.std.specs.Prelude.{◌≡◌, ℕ, ◌<◌, Bool, true, false, ◌||◌, List, Option, Some, is_some, slice_get}
 use Rattle.cx_core.specs.declared.program.Linkage.{Linkage}
 use Rattle.cx_core.specs.declared.program.Linkage.TheVariants.{External, Internal}
+use Rattle.cx_core.specs.Linked.{IsDeclaredForm}
 use Rattle.cx_core.specs.Trees.{form_of_type, CTypes, CObject, CFun, CDoes, declares, defines, calls, uses, CMention}
-use Rattle.cx_core.specs.ValidTypes.{IsObjectForm}
 use Rattle.cx_rules.specs.Declare.{is_linked, thing_named}
 use Rattle.cx_rules.specs.Scope.{CMade, CThing, CScope}
 use Rattle.cx_typed.specs.Operands.{IsKnownType}
@@ -69,7 +69,7 @@ pub record IsObjectNamed (things : List CThing) (one : CObject) : Type 0 where
 pub record IsKnownObject (opens : List ℕ) (account : CAccount) (one : CObject) : Type 0 where
   pub here : one.unit ≡ account.unit
   pub known : IsKnownType opens account.types account.unit one.type
-  pub object : IsObjectForm (form_of_type one.type)
+  pub object : IsDeclaredForm one.linkage (form_of_type one.type)
   pub no_text : one.is_text ≡ false
   pub named : is_linked one.linkage ≡ true → IsObjectNamed account.things one
 
