@@ -1,5 +1,4 @@
 //! Tentative definitions that are left at the end of a unit (ISO C99, 6.9.2p2, p3).
-#![tactic(auto, unfolding(cx_rules::specs::Readings::check_chain, cx_rules::specs::Readings::check_gives, cx_rules::specs::Readings::check_here))]
 
 ghost use Rattle.std.specs.Prelude.{◌≡◌, map};
 ghost use Rattle.cx_context.specs.Checks.{Checks};

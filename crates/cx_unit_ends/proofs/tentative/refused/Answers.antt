@@ -1,4 +1,4 @@
-use Rattle.std.proofs.Common.{Option, None, Some, sym, ap, ◌∙◌}
+use Rattle.std.proofs.Common.{None, Some, ap, ◌∙◌}
 use Rattle.cx_context.specs.Checks.{refusal_of}
 use Rattle.cx_context.specs.Views.{scope_of}
 use Rattle.cx_core.specs.Views.{view_type}
