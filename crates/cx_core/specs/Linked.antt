@@ -40,8 +40,8 @@ has_linkage External = true
 has_linkage Internal = true
 has_linkage Nothing = false
 
--- the form of the type with which an object of such a linkage is declared: that of an object, and `void`, too, where it has linkage, since
--- only one without linkage has to be complete where it is declared (6.7p7)
+-- the type that an object with such a linkage has where it is declared: that of an object, or `void` where it has linkage. A declaration
+-- alone asks an object without linkage for a complete type (6.7p7), and what is stored in one (`static` below).
 abbrev pub IsDeclaredForm : Linkage → CTyForm → Type 0
 IsDeclaredForm linkage void = has_linkage linkage ≡ true
 IsDeclaredForm linkage form = IsObjectForm form
