@@ -36,7 +36,7 @@ begun_is F is_zero size align world got terms_are e = one_result F (object_begun
     one_result : (F : Type 0) (result : Result (Got Ptr) (Stop F)) (one other : Got Ptr) → result ≡ Ok one → result ≡ Ok other → one ≡ other
     one_result F result one other e f = cc
 
-place_of_next : (images : Images) (world : World) (image : ℕ) → length images.blocks ≡ length world.held.blocks → PlaceBelow (with_image image images) (next_place world.held.blocks) (record { block = image; offset = 0 })
+pub place_of_next : (images : Images) (world : World) (image : ℕ) → length images.blocks ≡ length world.held.blocks → PlaceBelow (with_image image images) (next_place world.held.blocks) (record { block = image; offset = 0 })
 place_of_next images world image mapped = record {
   block = subst (λ n. image_of (with_image image images) n ≡ Some image) mapped (next_image images image);
   offset = refl;

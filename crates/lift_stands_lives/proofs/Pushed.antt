@@ -1,8 +1,13 @@
 -- Memories and images with one more entry.
-use Rattle.std.proofs.Common.{◌≡◌, ℕ, zero, suc, ◌<◌, List, [], ◌∷◌, ◌++◌, length, All, Option, Some, None, slice_get, slice_set, refl, ap, subst, ◌⊎◌, ⊎_elim, inl, inr, arith}
-use Rattle.mem_bytes.specs.Laws.{IsHeld, HoldsCells}
+use Rattle.std.proofs.Common.{◌≡◌, ◌≢◌, ℕ, zero, suc, ◌<◌, List, [], ◌∷◌, ◌++◌, length, All, Option, Some, None, slice_get, slice_set, refl, sym, ap, ◌∙◌, subst, ◌⊎◌, ⊎_elim, inl, inr, arith}
+use Rattle.std.proofs.lemmas.Bool.{cases_eq}
+use Rattle.std.proofs.lemmas.List.{length-set}
+use Rattle.mem_bytes.specs.declared.value.Ptr.{Ptr}
+use Rattle.mem_bytes.specs.Laws.{IsHeld, HoldsCells, Writes}
 use Rattle.mem_bytes.specs.Memory.{Block, Blocks, live_block}
 use Rattle.mem_bytes.proofs.Held.{live_of_push, live_of_kill, held_set}
+use Rattle.mem_bytes.proofs.Slots.{live-set_same, live-set_other, live_within}
+use Rattle.lift_stands.specs.Stands.{Lives}
 use Rattle.lift_stands_lives.specs.Rooms.{IsHeldSlot}
 
 -- ---- lists with one more entry
@@ -57,3 +62,15 @@ pub killed : (memory : Blocks) (number : ℕ) → live_block (slice_set memory n
 killed [] number = refl
 killed (first ∷ others) zero = refl
 killed (first ∷ others) (suc number) = killed others number
+
+-- ---- after a write
+
+pub written_many : (memory after : Blocks) (at : Ptr) (count : ℕ) → Writes memory at count after → length after ≡ length memory
+written_many memory after at count writes = ap length writes.made ∙ length-set memory at.block _
+
+pub written_lives : (memory after : Blocks) (at : Ptr) (count : ℕ) → Writes memory at count after → (number : ℕ) → Lives memory number → Lives after number
+written_lives memory after at count writes number living =
+    ⊎_elim
+    (λ (same : at.block ≡ number). (_, ap (live_block after) (sym same) ∙ ap (λ m. live_block m at.block) writes.made ∙ live-set_same memory at.block _ (live_within memory at.block writes.block writes.live)))
+    (λ (away : at.block ≢ number). (living.0, ap (λ m. live_block m number) writes.made ∙ live-set_other memory at.block number _ away ∙ living.1))
+    (cases_eq at.block number)

@@ -16,7 +16,7 @@ use Rattle.lift_stands.proofs.Images.{extends_same, extends_one}
 use Rattle.lift_stands.proofs.Kept.{both_keep}
 use Rattle.lift_stands_lives.specs.Rooms.{MayChange}
 use Rattle.lift_stands_lives.proofs.HeldLives.{listed_cases, listed_without, listed_lives}
-use Rattle.lift_stands_lives.proofs.Pushed.{live_behind, entry_cases, killed}
+use Rattle.lift_stands_lives.proofs.Pushed.{written_many, live_behind, entry_cases, killed}
 
 pub image_may_change : (base : ℕ) (own : ℕ → Bool) (images : Images) (memory : Blocks) (number image : ℕ) → Lives memory number → image_of images number ≡ Some image → MayChange base own images memory image
 image_may_change base own images memory number image living entry p free = absurd (free number living entry)
@@ -82,9 +82,6 @@ module _ (base : ℕ) (own : ℕ → Bool) (images : Images) (held other : Held)
       let live : live_block memory number ≡ Some writes.block = subst (λ n. live_block memory n ≡ Some writes.block) same writes.live in
       cc in
       ap (λ m. live_block m number) writes.made ∙ live-set_other memory at.block number _ away ∙ e
-
-  written_many : (memory after : Blocks) (at : Ptr) (count : ℕ) → Writes memory at count after → length after ≡ length memory
-  written_many memory after at count writes = ap length writes.made ∙ length-set memory at.block _
 
   pub stores_keep : (at : Ptr) (count : ℕ) (after : Blocks) → Writes held.blocks at count after → KeepsOthers base own images images held (with_blocks after held) other other
   stores_keep at count after writes = in_c_alone base own images images held (with_blocks after held) other (record {
