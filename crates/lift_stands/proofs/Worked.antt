@@ -1,15 +1,13 @@
 -- Worked memories and cells: what stands for what, and what doesn't. Where a part of the relation is named, the example shows what goes wrong without it.
-use Rattle.std.proofs.Common.{◌≡◌, ℕ, zero, suc, ◌<◌, ◌/◌, ◌%◌, ◌^◌, pos, Bool, true, false, All, List, [], ◌∷◌, replicate, Option, Some, None, Ok, Err, refl, sym, ap, ◌∙◌, subst, arith}
+use Rattle.std.proofs.Common.{◌≡◌, ℕ, zero, suc, ◌<◌, pos, Bool, true, false, All, List, [], ◌∷◌, replicate, Some, None, Ok, Err, refl, sym, ◌∙◌, subst, arith}
 use Rattle.std.proofs.lemmas.List.Elements.{All-replicate}
 use Rattle.std.proofs.lemmas.Nat.Bits.{bit_at-zero}
 use Rattle.cr_base.specs.declared.scalar.Scalar.TheVariants.{Whole, Object as Address}
 use Rattle.cr_world.specs.Held.{Held, not_allocated}
 use Rattle.cr_world.specs.Known.{frees, fills, effect, gives, gives_nothing, fails}
-use Rattle.mem_bytes.specs.declared.cell.Cell.{Cell}
-use Rattle.mem_bytes.specs.declared.cell.Cell.TheVariants.{Bits, PtrByte}
+use Rattle.mem_bytes.specs.declared.cell.Cell.TheVariants.{Bits}
 use Rattle.mem_bytes.specs.declared.fault.Fault.TheVariants.{Dead, Misaligned}
 use Rattle.mem_bytes.specs.declared.value.Ptr.{Ptr}
-use Rattle.mem_bytes.specs.declared.value.Value.{Value}
 use Rattle.mem_bytes.specs.declared.value.Value.TheVariants.{Whole as Number, Null, Object, Code}
 use Rattle.mem_bytes.specs.Access.{value_at, field_at, after_put}
 use Rattle.mem_bytes.specs.Coding.{is_same_pointer, pointer_bytes}

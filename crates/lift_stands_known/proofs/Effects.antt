@@ -21,7 +21,8 @@ use Rattle.lift_stands.proofs.Kept.{nothing_keeps}
 use Rattle.lift_stands.proofs.Loads.{read_live}
 use Rattle.lift_stands.proofs.Stores.{store_copy, store_fill}
 use Rattle.lift_stands_known.specs.Effects.{ValuesBelow, GivesBelow, LeavesBelow, EffectStands}
-use Rattle.lift_stands_known.proofs.Values.{number_below, null_below, object_below, none_below, one_below, two_below, three_below}
+use Rattle.lift_stands.proofs.Forms.{number_below, null_below, object_below}
+use Rattle.lift_stands_known.proofs.Values.{none_below, one_below, two_below, three_below}
 use Rattle.lift_stands_lives.proofs.HeldLives.{held_changed, held_freed}
 use Rattle.lift_stands_lives.proofs.Pushed.{written_lives, written_many}
 use Rattle.lift_stands_lives.proofs.Steps.{both_store_keep, freed_keeps}

@@ -15,7 +15,7 @@ use Rattle.mem_bytes.proofs.Reached.{and_then_ok}
 use Rattle.lift_stands.specs.Stands.{Images, PlaceBelow, ValueBelow, CellsBelow, StandsFor}
 use Rattle.lift_stands.proofs.Cells.{drop_below}
 use Rattle.lift_stands.proofs.Loads.{block_there, read_live}
-use Rattle.lift_stands_known.proofs.Values.{object_below}
+use Rattle.lift_stands.proofs.Forms.{object_below}
 
 all_set : (set : ℕ) (is : Bool) → (set == 255) ≡ is → (text : List ℕ) (given : Result (List ℕ) Fault) → (if is then given else Err Unset) ≡ Ok text → (set ≡ 255) × (given ≡ Ok text)
 all_set set true p text given e = (eqb-true set 255 p, e)

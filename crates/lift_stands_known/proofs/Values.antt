@@ -1,34 +1,8 @@
--- What stands for a value or for values of a known form.
-use Rattle.std.proofs.Common.{◌≡◌, ℕ, ℤ, List, [], ◌∷◌, refl, ap}
-use Rattle.mem_bytes.specs.declared.value.Ptr.{Ptr}
+-- What stands for a list of values of a known length.
+use Rattle.std.proofs.Common.{◌≡◌, List, [], ◌∷◌, refl, ap}
 use Rattle.mem_bytes.specs.declared.value.Value.{Value}
-use Rattle.mem_bytes.specs.declared.value.Value.TheVariants.{Whole, Null, Object, Code}
-use Rattle.lift_stands.specs.Stands.{Images, PlaceBelow, ValueBelow}
+use Rattle.lift_stands.specs.Stands.{Images, ValueBelow}
 use Rattle.lift_stands_known.specs.Effects.{ValuesBelow}
-
--- what a value of a form is below
-abbrev Below : Images → Value → Value → Type 0
-Below images (Whole number) given = given ≡ Whole number
-Below images Null given = given ≡ Null
-Below images (Object at) given = (to : Ptr) × (given ≡ Object to) × PlaceBelow images at to
-Below images (Code number) given = (image : ℕ) × (given ≡ Code image)
-
-pub form_below : (images : Images) (value given : Value) → ValueBelow images value given → Below images value given
-form_below images value given (ValueBelow.same_number number) = refl
-form_below images value given ValueBelow.both_null = refl
-form_below images value given (ValueBelow.to_image at to below) = (to, refl, below)
-form_below images value given (ValueBelow.to_function number image e) = (image, refl)
-
-pub number_below : (images : Images) (number : ℤ) (given : Value) → ValueBelow images (Whole number) given → given ≡ Whole number
-number_below images number given below = form_below images (Whole number) given below
-
-pub null_below : (images : Images) (given : Value) → ValueBelow images Null given → given ≡ Null
-null_below images given below = form_below images Null given below
-
-pub object_below : (images : Images) (at : Ptr) (given : Value) → ValueBelow images (Object at) given → (to : Ptr) × (given ≡ Object to) × PlaceBelow images at to
-object_below images at given below = form_below images (Object at) given below
-
--- lists
 
 pub none_below : (images : Images) (given : List Value) → ValuesBelow images [] given → given ≡ []
 none_below images [] below = refl
