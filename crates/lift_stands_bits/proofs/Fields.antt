@@ -1,27 +1,31 @@
 -- Loads and stores of bit-fields, by the bytes of the crate.
-use Rattle.std.proofs.Common.{◌≡◌, ℕ, ◌+◌, ◌-◌, ◌*◌, ◌^◌, ◌<◌, ◌≤◌, ◌==◌, Bool, true, false, cond, All, List, map, length, drop, Some, Ok, Err, refl, sym, ap, ◌∙◌, subst, arith}
+use Rattle.std.proofs.Common.{◌≡◌, ℕ, ◌+◌, ◌-◌, ◌*◌, ◌^◌, ◌<◌, ◌≤◌, ◌==◌, Bool, true, false, cond, All, List, map, length, drop, Some, Result, Ok, Err, refl, sym, ap, ◌∙◌, subst, arith}
 use Rattle.std.specs.List.{list_all}
 use Rattle.std.proofs.lemmas.Bool.{eqb-true, cond-true}
 use Rattle.std.proofs.lemmas.List.{length-map}
 use Rattle.std.proofs.lemmas.List.Elements.{All-take, All-drop}
 use Rattle.std.proofs.lemmas.Nat.{pow_pos}
 use Rattle.mem_bytes.specs.declared.cell.Cell.{Cell}
+use Rattle.mem_bytes.specs.declared.fault.Fault.{Fault}
 use Rattle.mem_bytes.specs.declared.fault.Fault.TheVariants.{Unset, MixedPointer}
 use Rattle.mem_bytes.specs.declared.value.Ptr.{Ptr}
 use Rattle.mem_bytes.specs.Access.{and_then, part_of, live_read, block_field, block_with_field, field_at, after_put_bits}
 use Rattle.mem_bytes.specs.Bits.{bytes_touched, field_of, with_field, bit_cells, field_in, with_field_in}
 use Rattle.mem_bytes.specs.Coding.{is_bits, bits_of, set_of, bytes_of, number_of}
-use Rattle.mem_bytes.specs.Laws.{IsHeld}
+use Rattle.mem_bytes.specs.Laws.{IsHeld, Writes}
 use Rattle.mem_bytes.specs.Memory.{Block, Blocks, live_block, byte_cell, with_part}
 use Rattle.mem_bytes.proofs.Reached.{and_then_ok, part_ok, length_part}
 use Rattle.mem_bytes.proofs.Windows.{bytes_all}
 use Rattle.mem_bytes.proofs.Written.{bits_put, field_written, put_bits_writes}
-use Rattle.mem_bytes_bits.specs.Laws.{HoldsBytes}
+use Rattle.mem_bytes_bits.specs.Laws.{HoldsBytes, after_put_bytes, with_field_bytes}
 use Rattle.mem_bytes_bits.proofs.ByBytes.{all_bits, bits_back, all_set, set_cells, stays_set, touched, field_stored}
 use Rattle.lift_stands.specs.Stands.{Images, PlaceBelow, CellsBelow, BlockBelow, StandsFor}
 use Rattle.lift_stands.proofs.Loads.{block_there, part_there, read_live}
 use Rattle.lift_stands.proofs.Stores.{StepsTo, change_stands, part_steps}
-use Rattle.lift_stands_bits.specs.Laws.{FieldInBytes, FieldByBytes}
+use Rattle.lift_stands.specs.Worlds.{HeldStands}
+use Rattle.lift_stands_lives.proofs.Stored.{leaves}
+use Rattle.cr_world.specs.Held.{Held}
+use Rattle.lift_stands_bits.specs.Laws.{FieldInBytes, FieldByBytes, FieldLeaves}
 use Rattle.lift_stands_bits.proofs.Alike.{bytes_beside, numbers_alike, cells_below_bytes}
 use Rattle.lift_stands_bits.proofs.Numbers.{SetAlike, fields_alike, puts_alike}
 
@@ -148,3 +152,16 @@ module _ (images : Images) (memory after others : Blocks) (at to : Ptr) (bit wid
         writes = put_bits_writes others stored.other to bit width field stored.done;
         stands = stored.stands;
       }
+
+pub field_leaves : (images : Images) (held other : Held) (after : Blocks) (at to : Ptr) (bit width field : ℕ) → images.in_bytes ≡ true → HeldStands images held other → PlaceBelow images at to → field < 2 ^ width → after_put_bits held.blocks at bit width field ≡ Ok after → FieldLeaves images held other after to bit width field
+field_leaves images held other after at to bit width field in_bytes stands place small e =
+    let by_bytes = field_by_bytes images held.blocks after other.blocks at to bit width field in_bytes stands.memories place small e in
+    record {
+      bytes = by_bytes.bytes;
+      holds = by_bytes.holds;
+      stored = leaves images held other after at to stands place (bytes_touched bit width) (bytes_touched bit width) (after_put_bytes other.blocks to (with_field_bytes bit width field by_bytes.bytes)) (record { other = by_bytes.beyond; done = by_bytes.done; stands = by_bytes.stands }) (put_bits_writes held.blocks after at bit width field e)
+          (λ beyond f. subst (λ m. Writes other.blocks to (bytes_touched bit width) m) (one_memory (after_put_bytes other.blocks to (with_field_bytes bit width field by_bytes.bytes)) by_bytes.beyond beyond by_bytes.done f) by_bytes.writes);
+    }
+  where
+    one_memory : (result : Result Blocks Fault) (one two : Blocks) → result ≡ Ok one → result ≡ Ok two → one ≡ two
+    one_memory result one two e f = cc

@@ -4,5 +4,6 @@ pub mod Lives
 pub mod Pushed
 pub mod Rooms
 pub mod Steps
+pub mod Stored
 pub mod Vacant
 pub mod Worked

@@ -1,20 +1,24 @@
 -- Worked lives: what begins and dies, and what is wrong with the steps that no law has.
-use Rattle.std.proofs.Common.{◌≡◌, ℕ, ◌≤◌, pos, Bool, true, false, All, List, [], ◌∷◌, replicate, Option, Some, None, Ok, refl, ap, arith}
+use Rattle.std.proofs.Common.{◌≡◌, ℕ, ◌≤◌, pos, Bool, true, false, All, List, [], ◌∷◌, map, replicate, Option, Some, None, Ok, refl, ap, arith}
 use Rattle.std.proofs.lemmas.List.Elements.{All-replicate, All-head}
 use Rattle.cr_base.specs.declared.scalar.Scalar.TheVariants.{Whole}
 use Rattle.cr_world.specs.Held.{Held, fresh_block}
 use Rattle.cr_world.specs.World.{World, open_ended, object_begun}
-use Rattle.mem_bytes.specs.declared.cell.Cell.TheVariants.{Bits}
+use Rattle.mem_bytes.specs.declared.cell.Cell.{Cell}
+use Rattle.mem_bytes.specs.declared.cell.Cell.TheVariants.{Bits, PtrByte}
 use Rattle.mem_bytes.specs.declared.fault.Fault.{Fault}
 use Rattle.mem_bytes.specs.declared.value.Ptr.{Ptr}
-use Rattle.mem_bytes.specs.declared.value.Value.TheVariants.{Whole as Number}
-use Rattle.mem_bytes.specs.Access.{value_at}
+use Rattle.mem_bytes.specs.declared.value.Value.TheVariants.{Whole as Number, Object}
+use Rattle.mem_bytes.specs.Access.{value_at, after_put, after_fill}
 use Rattle.mem_bytes.specs.Laws.{IsHeld, Writes}
 use Rattle.mem_bytes.specs.Memory.{Block, Blocks, unset_cell, byte_cell, new_block}
+use Rattle.mem_bytes.specs.Coding.{IsValueOf, pointer_bytes}
 use Rattle.lift_stands.specs.Keeps.{KeepsOthers}
-use Rattle.lift_stands.specs.Stands.{Images, BlockBelow, IsByte, StandsFor, IsVacant}
+use Rattle.lift_stands.specs.Stands.{Images, BlockBelow, IsByte, StandsFor, IsVacant, ValueBelow}
 use Rattle.lift_stands.specs.Worlds.{HeapStands, HeldStands}
 use Rattle.lift_stands_lives.specs.LawsVacant.{LeavesVacant}
+use Rattle.lift_stands_lives.specs.LawsStored.{StoreLeaves}
+use Rattle.lift_stands_lives.proofs.Stored.{value_leaves}
 use Rattle.lift_stands_lives.specs.Rooms.{HasRoom, IsZeroEnough, KeepsImages, MayChange}
 use Rattle.lift_stands_lives.proofs.HeldLives.{held_freed, held_allocated}
 use Rattle.lift_stands_lives.proofs.Lives.{onto, both, beside, dies, both_die}
@@ -186,3 +190,45 @@ static_is_written =
 -- a piece that begins a block of C on a room of its caller takes what isn't its own
 onto_a_callers_room : KeepsOthers 1 (λ number. false) (imaged false []) (imaged false (0 ∷ [])) (held_as [] []) (held_as (Some (new_block 4 4) ∷ []) []) (held_as (Some sevens ∷ []) []) (held_as (Some sevens ∷ []) []) → ⊥
 onto_a_callers_room keeps = let late : 1 ≤ 0 = keeps.past 0 0 (omega arith) refl in omega (arith, late)
+
+-- ---- stores
+
+-- a local that held a pointer when its object died is no room for the next one where the program has a bit-field member ..
+abbrev pointer_local : Block
+pointer_local = record { align = 8; cells = pointer_bytes (Object (at 0 0)) }
+
+no_room_of_pointer : HasRoom true 8 8 pointer_local → ⊥
+no_room_of_pointer room =
+    let others : List Cell = map (λ index. PtrByte (Object (at 0 0)) index) (1 ∷ 2 ∷ 3 ∷ 4 ∷ 5 ∷ 6 ∷ 7 ∷ []) in
+    let byte : IsByte (PtrByte (Object (at 0 0)) 0) = All-head IsByte (PtrByte (Object (at 0 0)) 0) others (room.bytes refl) in
+    let same : PtrByte (Object (at 0 0)) 0 ≡ Bits byte.0 255 = byte.1 in
+    cc
+
+-- .. until it gets zero bytes, while it is vacant
+zeroed : after_fill (Some pointer_local ∷ []) (at 0 0) 0 8 ≡ Ok (Some (fresh_block true 8 8) ∷ [])
+zeroed = refl
+
+room_of_zeros : HasRoom true 8 8 (fresh_block true 8 8)
+room_of_zeros = record {
+  same_size = refl;
+  enough_align = omega arith;
+  aligned = omega arith;
+  bytes = λ e. All-replicate IsByte 8 (byte_cell 0) (0, refl);
+}
+
+-- `x = 9` in an object of which no bit was set, and in its local
+abbrev nine : Block
+nine = record { align = 4; cells = byte_cell 9 ∷ byte_cell 0 ∷ byte_cell 0 ∷ byte_cell 0 ∷ [] }
+
+stored_in_crate : after_put (Some sevens ∷ []) (at 0 0) (Whole 32 true) (Number (pos 9)) ≡ Ok (Some nine ∷ [])
+stored_in_crate = refl
+
+begun_held : HeldStands (imaged false (0 ∷ [])) (held_as (Some (new_block 4 4) ∷ []) []) (held_as (Some sevens ∷ []) [])
+begun_held = record { memories = begun; heaps = record { given = λ number e. cc; lives = tt; made = λ number e. cc } }
+
+nine_leaves : StoreLeaves (imaged false (0 ∷ [])) (held_as (Some (new_block 4 4) ∷ []) []) (held_as (Some sevens ∷ []) []) (Some nine ∷ []) (after_put (Some sevens ∷ []) (at 0 0) (Whole 32 true) (Number (pos 9)))
+nine_leaves =
+    value_leaves (imaged false (0 ∷ [])) (held_as (Some (new_block 4 4) ∷ []) []) (held_as (Some sevens ∷ []) []) (Some nine ∷ []) (at 0 0) (at 0 0) begun_held (record { block = refl; offset = refl }) (Whole 32 true) (Number (pos 9)) (Number (pos 9)) refl nine_in_range (ValueBelow.same_number (pos 9)) refl
+  where
+    nine_in_range : IsValueOf (Whole 32 true) (Number (pos 9))
+    nine_in_range = (omega arith, omega arith)

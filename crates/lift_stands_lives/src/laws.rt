@@ -3,6 +3,7 @@
 ghost use Rattle.lift_stands_lives.specs.LawsHeld.{HeldLivesStand, WorldsBegin};
 ghost use Rattle.lift_stands_lives.specs.LawsLives.{LivesStand};
 ghost use Rattle.lift_stands_lives.specs.LawsSteps.{StepsKeepOthers};
+ghost use Rattle.lift_stands_lives.specs.LawsStored.{StoresLeave};
 ghost use Rattle.lift_stands_lives.specs.LawsVacant.{VacantStays};
 
 /// Law: memories stand for each other after an object has begun or died, on both sides or on one.
@@ -28,4 +29,9 @@ pub fn worlds_begin<F, G>()
 /// Law: each step leaves what isn't its own.
 pub fn steps_keep_others()
     ensures { StepsKeepOthers }
+{}
+
+/// Law: a store that C may do the crate may do, what is held after it stands for what C holds, and both leave what isn't the piece's own.
+pub fn stores_leave()
+    ensures { StoresLeave }
 {}

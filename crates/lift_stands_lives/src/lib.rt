@@ -4,4 +4,6 @@
 
 mod laws;
 
-pub use laws::{held_lives_stand, lives_stand, steps_keep_others, vacant_stays, worlds_begin};
+pub use laws::{
+    held_lives_stand, lives_stand, steps_keep_others, stores_leave, vacant_stays, worlds_begin,
+};
