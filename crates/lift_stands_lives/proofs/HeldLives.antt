@@ -11,8 +11,8 @@ use Rattle.mem_bytes.proofs.Slots.{live-set_other, live_within}
 use Rattle.lift_stands.specs.Stands.{Images, image_of, with_image, Extends, BlockBelow, Lives, StandsFor, IsVacant}
 use Rattle.lift_stands.specs.Worlds.{IsGivenImage, HeapStands, HeldStands}
 use Rattle.lift_stands.proofs.Images.{extends_same, extends_one, next_image}
-use Rattle.lift_stands_lives.specs.Rooms.{IsZeroEnough, IsVacantBlock, KeepsImages, IsHeldSlot}
-use Rattle.lift_stands_lives.proofs.Lives.{aside, slot_keeps, beside_keeps, onto, both, dies, both_die}
+use Rattle.lift_stands_lives.specs.Rooms.{IsZeroEnough, IsVacantBlock, KeepsImages, LivesFewer, IsHeldSlot}
+use Rattle.lift_stands_lives.proofs.Lives.{aside, slot_keeps, beside_keeps, onto, both, fewer, dies, both_die}
 use Rattle.lift_stands_lives.proofs.Pushed.{live_behind}
 use Rattle.lift_stands_lives.proofs.Rooms.{fresh_below, fresh_held}
 
@@ -150,6 +150,10 @@ pub held_dies : (images : Images) (held other : Held) (number : ℕ) → HeldSta
 held_dies images held other number stands out =
     held_changed images held other (slice_set held.blocks number None) other.blocks stands (dies images held.blocks other.blocks number stands.memories)
     (λ one e living. lives_beside held.blocks number one (unlisted_apart number one held.heap out e) living) (omega arith)
+
+pub held_fewer : (images : Images) (held other : Held) (after : Blocks) → HeldStands images held other → LivesFewer held.blocks after → ((number : ℕ) → is_listed number held.heap ≡ true → Lives after number) → HeldStands images (with_blocks after held) other
+held_fewer images held other after stands less listed =
+    held_changed images held other after other.blocks stands (fewer images held.blocks after other.blocks stands.memories less) (λ number e living. listed number e) (omega arith)
 
 pub held_both_die : (images : Images) (held other : Held) (number image : ℕ) → HeldStands images held other → is_listed number held.heap ≡ false → Lives held.blocks number → image_of images number ≡ Some image → HeldStands images (with_blocks (slice_set held.blocks number None) held) (with_blocks (slice_set other.blocks image None) other)
 held_both_die images held other number image stands out living entry =

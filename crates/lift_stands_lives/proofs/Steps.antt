@@ -14,7 +14,7 @@ use Rattle.lift_stands.specs.Stands.{Images, image_of, with_image, Extends, Plac
 use Rattle.lift_stands.specs.Worlds.{HeldStands}
 use Rattle.lift_stands.proofs.Images.{extends_same, extends_one}
 use Rattle.lift_stands.proofs.Kept.{both_keep}
-use Rattle.lift_stands_lives.specs.Rooms.{MayChange}
+use Rattle.lift_stands_lives.specs.Rooms.{LivesFewer, MayChange}
 use Rattle.lift_stands_lives.proofs.HeldLives.{listed_cases, listed_without, listed_lives}
 use Rattle.lift_stands_lives.proofs.Pushed.{written_many, live_behind, entry_cases, killed}
 
@@ -188,6 +188,29 @@ dies_keeps base own images held other number mapped = in_c_alone base own images
   past = no_past base images held mapped;
   dead = λ one p e. kill_dead held.blocks number one e;
   heap = λ one p e. e;
+})
+
+dead_stays : (memory after : Blocks) (number : ℕ) (slot : Option Block) → LivesFewer memory after → live_block memory number ≡ None → live_block after number ≡ slot → live_block after number ≡ None
+dead_stays memory after number None less e is = is
+dead_stays memory after number (Some block) less e is =
+    let was : live_block memory number ≡ Some block = less.same number block is in
+    cc
+
+pub fewer_keeps : (base : ℕ) (own : ℕ → Bool) (images : Images) (held other : Held) (after : Blocks) → length images.blocks ≡ length held.blocks → LivesFewer held.blocks after → KeepsOthers base own images images held (with_blocks after held) other other
+fewer_keeps base own images held other after mapped less = in_c_alone base own images images held (with_blocks after held) other (record {
+  extends = extends_same images;
+  grows = omega (arith, less.many);
+  past = no_past base images held mapped;
+  dead = λ number p e. dead_stays held.blocks after number (live_block after number) less e refl;
+  heap = λ number p e. e;
+})
+
+pub newer_keeps : (base : ℕ) (own : ℕ → Bool) (images : Images) (held other : Held) (next : Blocks) → length images.blocks ≡ length held.blocks → length other.blocks ≤ length next → ((number : ℕ) → number < base → live_block next number ≡ live_block other.blocks number) → KeepsOthers base own images images held held other (with_blocks next other)
+newer_keeps base own images held other next mapped grows same = in_crate_alone base own images held other (with_blocks next other) mapped (record {
+  grows = grows;
+  heap = λ number p e. e;
+  vacant = λ number p free apart. same number p;
+  rooms = λ number block p live unlisted. record { block = block; live = same number p ∙ live; size = refl; align = refl };
 })
 
 pub ends_keeps : (base : ℕ) (own : ℕ → Bool) (images : Images) (held other : Held) (number : ℕ) → length images.blocks ≡ length held.blocks → base ≤ number → KeepsOthers base own images images held held other (with_blocks (slice_set other.blocks number None) other)

@@ -7,7 +7,7 @@ use Rattle.mem_bytes.specs.Laws.{IsHeld}
 use Rattle.mem_bytes.specs.Memory.{Block, Blocks}
 use Rattle.lift_stands.specs.Stands.{Images, image_of, with_image, PlaceBelow, BlockBelow, Lives, StandsFor, IsVacant}
 use Rattle.lift_stands.specs.Worlds.{HeldStands, WorldsStand}
-use Rattle.lift_stands_lives.specs.Rooms.{HasRoom, IsZeroEnough, IsVacantBlock, KeepsImages, IsHeldSlot}
+use Rattle.lift_stands_lives.specs.Rooms.{HasRoom, IsZeroEnough, IsVacantBlock, KeepsImages, LivesFewer, IsHeldSlot}
 
 pub record HeldLivesStand : Type 0 where
   -- memories that stand for each other, of which no allocated block died, as after a store
@@ -31,6 +31,9 @@ pub record HeldLivesStand : Type 0 where
   -- ---- an object of C dies, which no allocation gave
   pub dies : (images : Images) (held other : Held) (number : ℕ) → HeldStands images held other → is_listed number held.heap ≡ false →
       HeldStands images (with_blocks (without_block number held.blocks) held) other
+  -- any number of them
+  pub fewer : (images : Images) (held other : Held) (after : Blocks) → HeldStands images held other → LivesFewer held.blocks after →
+      ((number : ℕ) → is_listed number held.heap ≡ true → Lives after number) → HeldStands images (with_blocks after held) other
   pub both_die : (images : Images) (held other : Held) (number image : ℕ) → HeldStands images held other → is_listed number held.heap ≡ false →
       Lives held.blocks number → image_of images number ≡ Some image →
       HeldStands images (with_blocks (without_block number held.blocks) held) (with_blocks (without_block image other.blocks) other)

@@ -1,13 +1,13 @@
 -- Laws of single steps: what each leaves of what isn't its own. `base` and `own` are those of the piece (lift_stands/specs/Keeps.antt).
-use Rattle.std.specs.Prelude.{◌≡◌, ℕ, ◌≤◌, Bool, true, length, Some}
+use Rattle.std.specs.Prelude.{◌≡◌, ℕ, ◌<◌, ◌≤◌, Bool, true, length, Some}
 use Rattle.cr_world.specs.Held.{Held, with_blocks, with_block, without_block, with_allocated, is_listed, without_allocated}
 use Rattle.mem_bytes.specs.declared.value.Ptr.{Ptr}
 use Rattle.mem_bytes.specs.Laws.{Writes}
-use Rattle.mem_bytes.specs.Memory.{Block, Blocks}
+use Rattle.mem_bytes.specs.Memory.{Block, Blocks, live_block}
 use Rattle.lift_stands.specs.Keeps.{KeepsOthers}
 use Rattle.lift_stands.specs.Stands.{Images, image_of, with_image, PlaceBelow, Lives}
 use Rattle.lift_stands.specs.Worlds.{HeldStands}
-use Rattle.lift_stands_lives.specs.Rooms.{MayChange}
+use Rattle.lift_stands_lives.specs.Rooms.{LivesFewer, MayChange}
 
 pub record StepsKeepOthers : Type 0 where
   -- ---- which blocks a piece may change
@@ -39,6 +39,13 @@ pub record StepsKeepOthers : Type 0 where
       (with_blocks (with_block room other.blocks) other)
   pub dies : (base : ℕ) (own : ℕ → Bool) (images : Images) (held other : Held) (number : ℕ) → length images.blocks ≡ length held.blocks →
       KeepsOthers base own images images held (with_blocks (without_block number held.blocks) held) other other
+  -- any number of them
+  pub fewer : (base : ℕ) (own : ℕ → Bool) (images : Images) (held other : Held) (after : Blocks) → length images.blocks ≡ length held.blocks →
+      LivesFewer held.blocks after → KeepsOthers base own images images held (with_blocks after held) other other
+  -- the crate may do anything to what was made since the function was entered, as where its locals end
+  pub newer : (base : ℕ) (own : ℕ → Bool) (images : Images) (held other : Held) (next : Blocks) → length images.blocks ≡ length held.blocks →
+      length other.blocks ≤ length next → ((number : ℕ) → number < base → live_block next number ≡ live_block other.blocks number) →
+      KeepsOthers base own images images held held other (with_blocks next other)
   -- a block of the crate that was made since the function was entered
   pub ends : (base : ℕ) (own : ℕ → Bool) (images : Images) (held other : Held) (number : ℕ) → length images.blocks ≡ length held.blocks → base ≤ number →
       KeepsOthers base own images images held held other (with_blocks (without_block number other.blocks) other)

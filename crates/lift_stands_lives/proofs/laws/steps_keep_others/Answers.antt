@@ -1,4 +1,4 @@
-use Rattle.lift_stands_lives.proofs.Steps.{image_may_change, since_may_change, stores_keep, stores_aside_keep, both_store_keep, onto_keeps, beside_keeps, both_keeps, dies_keeps, ends_keeps, both_die_keep, allocated_keeps, freed_keeps}
+use Rattle.lift_stands_lives.proofs.Steps.{image_may_change, since_may_change, stores_keep, stores_aside_keep, both_store_keep, onto_keeps, beside_keeps, both_keeps, dies_keeps, fewer_keeps, newer_keeps, ends_keeps, both_die_keep, allocated_keeps, freed_keeps}
 use Rattle.lift_stands_lives.proofs.laws.steps_keep_others.Goals as goal
 
 pub returns : goal.returns
@@ -12,6 +12,8 @@ returns c = record {
   beside = beside_keeps;
   both = both_keeps;
   dies = dies_keeps;
+  fewer = fewer_keeps;
+  newer = newer_keeps;
   ends = ends_keeps;
   both_die = both_die_keep;
   allocated = allocated_keeps;
