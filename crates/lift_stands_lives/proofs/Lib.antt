@@ -1,4 +1,5 @@
 pub mod Begun
+pub mod Copied
 pub mod HeldLives
 pub mod Lives
 pub mod Pushed

@@ -1,5 +1,5 @@
 -- Worked lives: what begins and dies, and what is wrong with the steps that no law has.
-use Rattle.std.proofs.Common.{◌≡◌, ℕ, ◌≤◌, pos, Bool, true, false, All, List, [], ◌∷◌, map, replicate, Option, Some, None, Ok, refl, ap, arith}
+use Rattle.std.proofs.Common.{◌≡◌, ℕ, ◌≤◌, pos, Bool, true, false, All, List, [], ◌∷◌, map, replicate, Option, Some, None, Ok, refl, ap, arith, Result, sym, subst}
 use Rattle.std.proofs.lemmas.List.Elements.{All-replicate, All-head}
 use Rattle.cr_base.specs.declared.scalar.Scalar.TheVariants.{Whole}
 use Rattle.cr_world.specs.Held.{Held, fresh_block}
@@ -9,16 +9,17 @@ use Rattle.mem_bytes.specs.declared.cell.Cell.TheVariants.{Bits, PtrByte}
 use Rattle.mem_bytes.specs.declared.fault.Fault.{Fault}
 use Rattle.mem_bytes.specs.declared.value.Ptr.{Ptr}
 use Rattle.mem_bytes.specs.declared.value.Value.TheVariants.{Whole as Number, Object}
-use Rattle.mem_bytes.specs.Access.{value_at, after_put, after_fill}
+use Rattle.mem_bytes.specs.Access.{value_at, after_put, after_fill, after_put_record, after_copy, record_at}
 use Rattle.mem_bytes.specs.Laws.{IsHeld, Writes}
 use Rattle.mem_bytes.specs.Memory.{Block, Blocks, unset_cell, byte_cell, new_block}
 use Rattle.mem_bytes.specs.Coding.{IsValueOf, pointer_bytes}
 use Rattle.lift_stands.specs.Keeps.{KeepsOthers}
-use Rattle.lift_stands.specs.Stands.{Images, BlockBelow, IsByte, StandsFor, IsVacant, ValueBelow}
+use Rattle.lift_stands.specs.Stands.{Images, BlockBelow, IsByte, StandsFor, IsVacant, ValueBelow, PlaceHolds, CellsBelow, bit_of}
 use Rattle.lift_stands.specs.Worlds.{HeapStands, HeldStands}
 use Rattle.lift_stands_lives.specs.LawsVacant.{LeavesVacant}
 use Rattle.lift_stands_lives.specs.LawsStored.{StoreLeaves}
 use Rattle.lift_stands_lives.proofs.Stored.{value_leaves}
+use Rattle.lift_stands_lives.proofs.Copied.{one_place}
 use Rattle.lift_stands_lives.specs.Rooms.{HasRoom, IsZeroEnough, KeepsImages, MayChange}
 use Rattle.lift_stands_lives.proofs.HeldLives.{held_freed, held_allocated}
 use Rattle.lift_stands_lives.proofs.Lives.{onto, both, beside, dies, both_die}
@@ -232,3 +233,32 @@ nine_leaves =
   where
     nine_in_range : IsValueOf (Whole 32 true) (Number (pos 9))
     nine_in_range = (omega arith, omega arith)
+
+-- a structure of three bytes that is stored one byte behind where it was read: C stores the cells that it read, the crate copies them
+abbrev one_to_four : List ℕ → Block
+one_to_four numbers = record { align = 1; cells = map byte_cell numbers }
+
+record_in_c : after_put_record (Some (one_to_four (1 ∷ 2 ∷ 3 ∷ 4 ∷ [])) ∷ []) (at 0 1) 1 (map byte_cell (1 ∷ 2 ∷ 3 ∷ [])) ≡ Ok (Some (one_to_four (1 ∷ 1 ∷ 2 ∷ 3 ∷ [])) ∷ [])
+record_in_c = refl
+
+record_in_crate : after_copy (Some (one_to_four (1 ∷ 2 ∷ 3 ∷ 4 ∷ [])) ∷ []) (at 0 0) (at 0 1) 3 ≡ Ok (Some (one_to_four (1 ∷ 1 ∷ 2 ∷ 3 ∷ [])) ∷ [])
+record_in_crate = refl
+
+abbrev found_as : List Cell → Result (List Cell) Fault
+found_as cells = Ok cells
+
+-- a place whose bytes are others holds no such structure
+holds_no_other : PlaceHolds (imaged false (0 ∷ [])) (Some (one_to_four (1 ∷ 2 ∷ [])) ∷ []) 1 (Object (at 0 0)) (byte_cell 2 ∷ []) → ⊥
+holds_no_other holds =
+    let here : at 0 0 ≡ holds.at = one_place (at 0 0) holds.at holds.value_is in
+    let found : record_at (Some (one_to_four (1 ∷ 2 ∷ [])) ∷ []) (at 0 0) 1 1 ≡ Ok holds.cells = subst (λ p. record_at (Some (one_to_four (1 ∷ 2 ∷ [])) ∷ []) p 1 1 ≡ Ok holds.cells) (sym here) holds.found in
+    let cells : byte_cell 1 ∷ [] ≡ holds.cells = one_list (byte_cell 1 ∷ []) holds.cells found in
+    let below : CellsBelow (imaged false (0 ∷ [])) (byte_cell 2 ∷ []) (byte_cell 1 ∷ []) = subst (CellsBelow (imaged false (0 ∷ [])) (byte_cell 2 ∷ [])) (sym cells) holds.below in
+    let bit : 1 ≡ 0 = (below.0.each 0 (omega arith) is_bit).1 in
+    omega (arith, bit)
+  where
+    one_list : (first second : List Cell) → found_as first ≡ found_as second → first ≡ second
+    one_list first second e = cc
+
+    is_bit : bit_of 0 255 ≡ 1
+    is_bit = refl
