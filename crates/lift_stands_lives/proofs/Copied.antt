@@ -39,7 +39,7 @@ copy_changes others source to n from live =
 -- ---- the place that is copied from
 
 -- a part that may hold a structure is a part
-part_found : (block : Block) (offset size align : ℕ) (cells : List Cell) → record_part_of block offset size align ≡ Ok cells → part_of block offset size ≡ Ok cells
+pub part_found : (block : Block) (offset size align : ℕ) (cells : List Cell) → record_part_of block offset size align ≡ Ok cells → part_of block offset size ≡ Ok cells
 part_found block offset size align cells e =
     let parts = and_then_ok (part_of block offset size) (λ held. cond (is_record_aligned align block offset) (Ok held) (Err Misaligned)) cells e in
     parts.1 ∙ ap Ok (same_part (is_record_aligned align block offset) parts.0 parts.2)
