@@ -107,6 +107,19 @@ held_changed images held other after next stands memories stays grows = record {
   heaps = heaps_stay images images held other after next (extends_same images) stands.heaps stays grows;
 }
 
+pub held_unlisted : (images : Images) (held other : Held) → HeldStands images held other → (is_listed (length held.blocks) held.heap ≡ false) × (is_listed (length other.blocks) other.heap ≡ false)
+held_unlisted images held other stands = (
+  none_listed (length held.blocks) held.heap (is_listed (length held.blocks) held.heap) refl (λ is.
+      let living = listed_lives held.blocks (length held.blocks) held.heap stands.heaps.lives is in
+      omega (arith, live_within held.blocks (length held.blocks) living.0 living.1)),
+  none_listed (length other.blocks) other.heap (is_listed (length other.blocks) other.heap) refl (λ is.
+      omega (arith, stands.heaps.made (length other.blocks) is)),
+)
+  where
+    none_listed : (number : ℕ) (heap : List ℕ) (listed : Bool) → is_listed number heap ≡ listed → (is_listed number heap ≡ true → ⊥) → is_listed number heap ≡ false
+    none_listed number heap true is none = absurd (none is)
+    none_listed number heap false is none = is
+
 pub held_aside : (images : Images) (held other : Held) (next : Blocks) → HeldStands images held other → KeepsImages images held.blocks other.blocks next → HeldStands images held (with_blocks next other)
 held_aside images held other next stands keeps =
     held_changed images held other held.blocks next stands (aside images held.blocks other.blocks next stands.memories keeps) (λ number e living. living) keeps.grows

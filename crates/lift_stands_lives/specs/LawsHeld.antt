@@ -14,6 +14,9 @@ pub record HeldLivesStand : Type 0 where
   pub changed : (images : Images) (held other : Held) (after next : Blocks) → HeldStands images held other → StandsFor images after next →
       ((number : ℕ) → is_listed number held.heap ≡ true → Lives held.blocks number → Lives after number) → length other.blocks ≤ length next →
       HeldStands images (with_blocks after held) (with_blocks next other)
+  -- the next block of either is none that an allocation gave, so what begins there isn't, either
+  pub unlisted : (images : Images) (held other : Held) → HeldStands images held other →
+      (is_listed (length held.blocks) held.heap ≡ false) × (is_listed (length other.blocks) other.heap ≡ false)
   -- ---- the crate alone
   pub aside : (images : Images) (held other : Held) (next : Blocks) → HeldStands images held other → KeepsImages images held.blocks other.blocks next →
       HeldStands images held (with_blocks next other)

@@ -1,9 +1,10 @@
-use Rattle.lift_stands_lives.proofs.HeldLives.{held_changed, held_aside, held_slot, held_beside, held_onto, held_both, held_dies, held_fewer, held_both_die, held_allocated, held_freed}
+use Rattle.lift_stands_lives.proofs.HeldLives.{held_changed, held_unlisted, held_aside, held_slot, held_beside, held_onto, held_both, held_dies, held_fewer, held_both_die, held_allocated, held_freed}
 use Rattle.lift_stands_lives.proofs.laws.held_lives_stand.Goals as goal
 
 pub returns : goal.returns
 returns c = record {
   changed = held_changed;
+  unlisted = held_unlisted;
   aside = held_aside;
   slot = held_slot;
   beside = held_beside;
