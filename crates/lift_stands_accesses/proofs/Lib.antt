@@ -1,0 +1,4 @@
+pub mod Loads
+pub mod Results
+pub mod Stores
+pub mod Worked
