@@ -295,7 +295,7 @@ module _ (opens : List ℕ) (scope : CScope) (good : IsGood opens scope) (orderl
 
   pub fine_is : IsUnclashed scope name written linkage
       → (is_typedef specs ≡ false → is_function (declaring scope place specs name line written has_init).type ≡ false
-          → IsDeclaredForm (declaring scope place specs name line written has_init).linkage (form_of_type (declaring scope place specs name line written has_init).type))
+      → IsDeclaredForm (declaring scope place specs name line written has_init).linkage (form_of_type (declaring scope place specs name line written has_init).type))
       → IsFine opens scope (declaring scope place specs name line written has_init)
   fine_is apart form =
       let joined = joined_by (is_linked linkage) refl apart in
