@@ -24,5 +24,5 @@ returns-in_err-program-clause-wanting g c = on_fault c.from_residual.result (λ 
 
 pub returns-in_err-run_program-clause-wanting : goal.returns-in_err-run_program-clause-wanting
 returns-in_err-run_program-clause-wanting g c =
-    on_fault c.from_residual.result (λ why. may_want c.args.sources.now (view_program c.in_ok-program.program.now) c.args.order.now c.args.steps why (g.H.Host.state c.args.host.now) (g.H.Host.state c.run_program.new.host)
+    on_fault c.from_residual-in_err-run_program.result (λ why. may_want c.args.sources.now (view_program c.in_ok-program.program.now) c.args.order.now c.args.steps why (g.H.Host.state c.args.host.now) (g.H.Host.state c.run_program.new.host)
     c.in_ok-program.ensures.program c.in_err-run_program.ensures.wanting)
