@@ -2,7 +2,6 @@ use Rattle.std.proofs.Common.{◌≡◌, ◌<◌, map, length, sym, subst}
 use Rattle.std.proofs.lemmas.List.{length-map}
 use Rattle.c_job.specs.Ends.{MayEnd}
 use Rattle.c_job.proofs.Checked.{are_of, bytes_of, may_want, never_begun, on_fault, ran}
-use Rattle.cx_core.specs.Views.{view_program}
 use Rattle.c_job.proofs.Placed.{may_end}
 use Rattle.c_job.proofs.run.run_units.Goals as goal
 
@@ -24,5 +23,5 @@ returns-in_err-program-clause-wanting g c = on_fault c.from_residual.result (λ 
 
 pub returns-in_err-run_program-clause-wanting : goal.returns-in_err-run_program-clause-wanting
 returns-in_err-run_program-clause-wanting g c =
-    on_fault c.from_residual-in_err-run_program.result (λ why. may_want c.args.sources.now (view_program c.in_ok-program.program.now) c.args.order.now c.args.steps why (g.H.Host.state c.args.host.now) (g.H.Host.state c.run_program.new.host)
-    c.in_ok-program.ensures.program c.in_err-run_program.ensures.wanting)
+    on_fault c.from_residual-in_err-run_program.result
+    (λ why. may_want c.args.sources.now _ c.args.order.now c.args.steps why _ _ c.in_ok-program.ensures.program c.in_err-run_program.ensures.wanting)
