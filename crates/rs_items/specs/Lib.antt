@@ -1,0 +1,4 @@
+pub mod LawsNames
+pub mod Names
+pub mod Records
+pub mod Types

@@ -1,0 +1,12 @@
+//! The names of the things of a written crate, and what each of them has become: names of modules' items, of locals and of fields, the Rust
+//! types of C types, and the records that structures and unions are written as (ISO C99, 6.2.1, 6.2.3, 6.7.2.1; the Rust Reference,
+//! "Identifiers", "Keywords" and "The C representation").
+#![tactic(auto)]
+
+mod candidates;
+mod laws;
+mod scope;
+mod words;
+
+pub use laws::names_are_first;
+pub use scope::NameScope;
