@@ -1,2 +1,3 @@
 mod FirstFree
 mod Pigeons
+mod Taken

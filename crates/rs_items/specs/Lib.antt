@@ -1,4 +1,5 @@
 pub mod LawsNames
 pub mod Names
 pub mod Records
+pub mod Sets
 pub mod Types

@@ -6,6 +6,7 @@
 mod candidates;
 mod laws;
 mod scope;
+mod sets;
 mod words;
 
 pub use laws::names_are_first;
