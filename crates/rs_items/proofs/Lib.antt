@@ -1,3 +1,4 @@
 mod FirstFree
+mod Found
 mod Pigeons
 mod Taken

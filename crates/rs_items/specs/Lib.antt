@@ -1,5 +1,6 @@
 pub mod LawsNames
 pub mod Names
 pub mod Records
+pub mod Scopes
 pub mod Sets
 pub mod Types

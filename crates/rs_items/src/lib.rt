@@ -6,6 +6,7 @@
 mod candidates;
 mod laws;
 mod scope;
+mod scopes;
 mod sets;
 mod words;
 

@@ -1,10 +1,13 @@
-ghost use Rattle.std.specs.Prelude.{◌≡◌, ℕ, List, ◌++◌, ◌∷◌, [], false, if◌then◌else◌, bytes_eq, OnErr, OnOk};
-ghost use Rattle.rs_items.specs.Sets.{names_in, passed_in};
+ghost use Rattle.std.specs.Prelude.{◌≡◌, ◌≤◌, ℕ, List, length, ◌++◌, ◌∷◌, [], false, if◌then◌else◌, bytes_eq, OnErr, OnOk};
+ghost use Rattle.rs_items.specs.Sets.{most_names, names_in, passed_in, Notes};
 ghost use Rattle.rs_text.specs.Names.{is_among};
 
 use cr_base::Memory;
 use indexmap::{IndexMap, IndexSet};
 use std::alloc::Global;
+
+// The most names of a set.
+const MOST_NAMES: usize = 4_294_967_295;
 
 /// The names that are taken in a set, in the order in which they were, and for a name of C how many of its candidates with a suffix are
 /// known to be gone, so that many names of one kind are found in time in proportion.
@@ -43,8 +46,8 @@ impl NameSet {
         }
     }
 
-    /// Notes that so many candidates with a suffix of a name are gone. Refused only for want of memory; then nothing changed.
-    pub(crate) fn pass(&mut self, name: Vec<u8>, count: u64) -> Result<(), Memory>
+    // Notes that so many candidates with a suffix of a name are gone.
+    fn pass(&mut self, name: Vec<u8>, count: u64) -> Result<(), Memory>
         ensures names { names_in self.new.taken.keys ≡ names_in self.old.taken.keys }
         ensures passed { OnOk result ((other : List ℕ) → passed_in self.new.passed other ≡ if bytes_eq other name.items then count else passed_in self.old.passed other) }
         ensures err { OnErr result ((other : List ℕ) → passed_in self.new.passed other ≡ passed_in self.old.passed other) }
@@ -53,15 +56,32 @@ impl NameSet {
         Ok(())
     }
 
-    /// Takes a name. Refused only for want of memory; then nothing changed.
-    pub(crate) fn take(&mut self, name: Vec<u8>) -> Result<(), Memory>
+    // Takes a name, where there aren't too many.
+    fn take(&mut self, name: Vec<u8>) -> Result<(), Memory>
         requires { is_among (names_in self.old.taken.keys) name.items ≡ false }
         ensures names { OnOk result (names_in self.new.taken.keys ≡ names_in self.old.taken.keys ++ name.items ∷ []) }
+        ensures few { OnOk result (length (names_in self.new.taken.keys) ≤ most_names) }
         ensures passed { self.new.passed ≡ self.old.passed }
         ensures err { OnErr result (names_in self.new.taken.keys ≡ names_in self.old.taken.keys) }
     {
+        if self.taken.len() >= MOST_NAMES {
+            return Err(Memory);
+        }
         self.taken.insert(name)?;
         Ok(())
+    }
+
+    /// Takes a name that was found for a name of C when so many candidates with a suffix of that were gone. Refused only for want of memory, as which more names
+    /// than a number of 32 bits tells count, too; then no name was taken.
+    pub(crate) fn add(&mut self, wanted: Vec<u8>, passed: u64, name: Vec<u8>) -> Result<(), Memory>
+        requires { is_among (names_in self.old.taken.keys) name.items ≡ false }
+        ensures names { OnOk result (names_in self.new.taken.keys ≡ names_in self.old.taken.keys ++ name.items ∷ []) }
+        ensures few { OnOk result (length (names_in self.new.taken.keys) ≤ most_names) }
+        ensures noted { (other : List ℕ) → Notes (passed_in self.old.passed other) (passed_in self.new.passed other) wanted.items passed other }
+        ensures err { OnErr result (names_in self.new.taken.keys ≡ names_in self.old.taken.keys) }
+    {
+        self.pass(wanted, passed)?;
+        self.take(name)
     }
 
     /// Leaves no name taken.
