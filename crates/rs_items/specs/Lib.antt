@@ -1,3 +1,4 @@
+pub mod Known
 pub mod LawsNames
 pub mod Names
 pub mod Records

@@ -4,11 +4,15 @@
 #![tactic(auto)]
 
 mod candidates;
+mod known;
 mod laws;
+mod map;
 mod scope;
 mod scopes;
 mod sets;
 mod words;
 
+pub use known::{Known, Named};
 pub use laws::names_are_first;
+pub use map::NameMap;
 pub use scope::NameScope;
