@@ -1,5 +1,5 @@
 -- The Rust name of a name is its first candidate that isn't taken.
-use Rattle.std.proofs.Common.{◌≡◌, ◌≢◌, ℕ, zero, suc, ◌+◌, ◌<◌, ◌≤◌, ◌^◌, Bool, true, false, not, cond, ◌&&◌, ◌||◌, List, [], ◌∷◌, ◌++◌, length, codes, Option, Some, None, bytes_eq, refl, sym, ap, ◌∙◌, arith, inl, inr, subst}
+use Rattle.std.proofs.Common.{◌≡◌, ℕ, zero, suc, ◌+◌, ◌<◌, ◌≤◌, ◌^◌, Bool, true, false, not, cond, ◌&&◌, ◌||◌, List, [], ◌∷◌, ◌++◌, length, codes, Option, Some, None, bytes_eq, refl, sym, ap, ◌∙◌, arith, inl, inr, subst}
 use Rattle.std.specs.Fmt.{decimal}
 use Rattle.std.specs.List.{list_all}
 use Rattle.std.specs.Str.Parse.{AllDigits}
@@ -12,7 +12,7 @@ use Rattle.rs_items.specs.LawsNames.{AreFew, NamesAreFirst}
 use Rattle.rs_items.specs.Names.{reserved, is_excluded, is_entry_in, is_main_in, raw_or_same, unless, suffixed, candidate, free, name_or, first_free, rust_name, IsGone, AreGone, IsRustName}
 use Rattle.rs_items.specs.declared.scope.NameScope.{NameScope}
 use Rattle.rs_items.specs.declared.scope.NameScope.TheVariants.{Module, Function, Fields}
-use Rattle.rs_items.proofs.Pigeons.{IsFound, pigeon}
+use Rattle.rs_items.proofs.Pigeons.{pigeon}
 use Rattle.rs_text.specs.Names.{is_among, is_digit, is_word, is_word_byte, is_identifier, is_plain_identifier, is_raw_identifier, path_words, keywords}
 
 -- ---- the search
@@ -60,7 +60,7 @@ there_next taken scope name from count gone at = record {
   reached = elim (cases_lt from at.number) [
     | inl less ↦ less
     | inr more ↦ (let here : from ≡ at.number = omega (arith, more, at.reached) in
-    absurd (not_gone taken at.one (candidate scope name from) (ap (candidate scope name) here ∙ at.is) at.free gone))
+        absurd (not_gone taken at.one (candidate scope name from) (ap (candidate scope name) here ∙ at.is) at.free gone))
   ];
   below = omega (arith, at.below);
   one = at.one;
@@ -141,8 +141,8 @@ only_first taken scope name one other a b = elim (cases_lt a.number b.number) [
   | inr more ↦ elim (cases_lt b.number a.number) [
     | inl less ↦ absurd (not_behind taken scope name other one b a less)
     | inr most ↦ let same : a.number ≡ b.number = omega (arith, more, most) in
-    let shown : Some one ≡ Some other = sym a.is ∙ ap (candidate scope name) same ∙ b.is in
-    cc
+        let shown : Some one ≡ Some other = sym a.is ∙ ap (candidate scope name) same ∙ b.is in
+        cc
   ]
 ]
 

@@ -1,5 +1,5 @@
 -- What was found free is the first candidate that is.
-use Rattle.std.proofs.Common.{◌≡◌, ℕ, zero, suc, ◌+◌, ◌<◌, ◌≤◌, Bool, true, false, not, IsTrue, List, ◌++◌, length, Option, Some, None, refl, sym, ap, ◌∙◌, arith, subst, Result, Ok, Err, IfOk}
+use Rattle.std.proofs.Common.{◌≡◌, ℕ, zero, suc, Bool, true, false, not, List, Option, Some, None, refl, sym, ap, ◌∙◌, arith, subst, Result, Ok, Err, IfOk}
 use Rattle.std.proofs.lemmas.List.{length-append}
 use Rattle.rs_items.specs.LawsNames.{AreFew}
 use Rattle.rs_items.specs.Names.{candidate, free, unless, IsGone, AreGone, IsRustName, rust_name}

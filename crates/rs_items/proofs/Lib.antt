@@ -1,4 +1,5 @@
 mod FirstFree
 mod Found
+mod Kept
 mod Pigeons
 mod Taken

@@ -1,9 +1,9 @@
 -- The record of the written crate for a structure or union of C (ISO C99, 6.7.2.1; the Rust Reference, "The C representation"): a field for
 -- each member that is no bit-field, and fields of bytes where bit-fields stand, so that each member stands where it stands in C.
-use Rattle.std.specs.Prelude.{ℕ, ◌+◌, ◌-◌, ◌*◌, ◌/◌, max, nat_lt, Bool, true, false, if◌then◌else◌, List, [], ◌∷◌, ◌++◌, drop, length, map, Option, None, Some, codes}
+use Rattle.std.specs.Prelude.{ℕ, ◌+◌, ◌-◌, ◌*◌, ◌/◌, max, nat_lt, Bool, true, false, if◌then◌else◌, List, [], ◌∷◌, ◌++◌, map, Option, None, Some, codes}
 use Rattle.cr_base.specs.declared.layout.Laid.{Laid}
 use Rattle.cr_base.specs.declared.layout.Spot.{Spot}
-use Rattle.cx_core.specs.Trees.{CTy, unqualified, CMember, CRecord}
+use Rattle.cx_core.specs.Trees.{CTy}
 use Rattle.rs_text.specs.Tree.{Ty, Integer, Array, FieldTree, RecordTree}
 use Rattle.rs_text.specs.declared.integer.IntegerTy.TheVariants.{U8}
 use Rattle.rs_items.specs.Names.{names_from}

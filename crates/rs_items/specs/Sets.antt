@@ -1,5 +1,5 @@
 -- The names that are taken in a set, as they are kept with an index.
-use Rattle.std.specs.Prelude.{◌≡◌, ℕ, suc, ◌<◌, ◌≤◌, ◌⊎◌, List, [], ◌∷◌, ◌++◌, length, map, unwrap_or, bytes_eq}
+use Rattle.std.specs.Prelude.{◌≡◌, ℕ, suc, ◌<◌, ◌⊎◌, List, [], ◌∷◌, ◌++◌, map, unwrap_or, bytes_eq}
 use Rattle.std.specs.Global.{Vec}
 use Rattle.indexmap.specs.IndexMap.{IndexMap, get_by}
 use Rattle.rs_items.specs.Names.{candidate, IsGone}

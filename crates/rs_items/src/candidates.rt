@@ -7,7 +7,11 @@ use cr_base::Memory;
 use std::alloc::Global;
 
 /// The first candidate for a name: itself, behind `r#` where it is a keyword, or none where it is kept for something else.
-pub(crate) fn itself(alloc: Global, scope: NameScope, name: &[u8]) -> Result<Option<Vec<u8>>, Memory>
+pub(crate) fn itself(
+    alloc: Global,
+    scope: NameScope,
+    name: &[u8],
+) -> Result<Option<Vec<u8>>, Memory>
     ensures { IfOk result (λ one. option_map (λ v. v.items) one ≡ candidate scope name.now 0) }
 {
     if is_excluded(scope, name) {

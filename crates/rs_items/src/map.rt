@@ -1,5 +1,6 @@
-ghost use Rattle.std.specs.Prelude.{◌≡◌, [], None, IfOk, OnErr, OnOk, option_map};
-ghost use Rattle.rs_items.specs.Known.{Begins, KeepsAll, KeepsOne, Names, view_known, view_names};
+ghost use Rattle.std.specs.Prelude.{◌≡◌, ℕ, ◌==◌, if◌then◌else◌, [], None, Some, IfOk, OnErr, OnOk, option_map};
+ghost use Rattle.indexmap.specs.IndexMap.{get_by};
+ghost use Rattle.rs_items.specs.Known.{Begins, KeepsAll, KeepsOne, Names, same_named, view_known, view_names};
 ghost use Rattle.rs_items.specs.Known as known;
 ghost use Rattle.rs_items.specs.Names.{rust_name};
 ghost use Rattle.rs_items.specs.Sets.{begun, set_of, with_name};
@@ -83,6 +84,30 @@ impl NameMap {
         }
     }
 
+    // Keeps what a temporary has become.
+    fn keep_temporary(&mut self, number: u32, one: Known) -> Result<(), Memory>
+        ensures known { OnOk result ((other : ℕ) → option_map view_known (get_by (λ key. other == key) self.new.temporaries) ≡
+            if other == number then Some (view_known one) else option_map view_known (get_by (λ key. other == key) self.old.temporaries)) }
+        ensures err { OnErr result ((other : ℕ) → option_map view_known (get_by (λ key. other == key) self.new.temporaries) ≡
+            option_map view_known (get_by (λ key. other == key) self.old.temporaries)) }
+        ensures others { self.new ≡ record self.old { temporaries = self.new.temporaries } }
+    {
+        self.temporaries.insert(number, one)?;
+        Ok(())
+    }
+
+    // Keeps what a thing has become that is no temporary.
+    fn keep_other(&mut self, named: Named, one: Known) -> Result<(), Memory>
+        ensures known { OnOk result ((other : Named) → option_map view_known (get_by (same_named other) self.new.kept) ≡
+            if same_named other named then Some (view_known one) else option_map view_known (get_by (same_named other) self.old.kept)) }
+        ensures err { OnErr result ((other : Named) → option_map view_known (get_by (same_named other) self.new.kept) ≡
+            option_map view_known (get_by (same_named other) self.old.kept)) }
+        ensures others { self.new ≡ record self.old { kept = self.new.kept } }
+    {
+        self.kept.insert(named, one)?;
+        Ok(())
+    }
+
     /// Keeps what a thing has become. It is the newest entry of that thing. Refused only for want of memory; then nothing changed.
     pub fn keep(&mut self, one: Known) -> Result<(), Memory>
         ensures known { OnOk result (KeepsOne (view_names self.old) (view_names self.new) (view_known one)) }
@@ -92,14 +117,9 @@ impl NameMap {
         ensures bits { (view_names self.new).has_bits ≡ (view_names self.old).has_bits }
     {
         match one.named {
-            Named::Temporary(number) => {
-                self.temporaries.insert(number, one)?;
-            }
-            named => {
-                self.kept.insert(named, one)?;
-            }
+            Named::Temporary(number) => self.keep_temporary(number, one),
+            named => self.keep_other(named, one),
         }
-        Ok(())
     }
 
     /// The newest entry of a thing, or none where none is kept.

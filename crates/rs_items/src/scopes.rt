@@ -98,7 +98,12 @@ impl Scopes {
     }
 
     // The name itself, where it is a candidate and free.
-    fn itself(&self, alloc: Global, scope: NameScope, name: &[u8]) -> Result<Option<Vec<u8>>, Memory>
+    fn itself(
+        &self,
+        alloc: Global,
+        scope: NameScope,
+        name: &[u8],
+    ) -> Result<Option<Vec<u8>>, Memory>
         ensures { IfOk result (λ one. option_map (λ v. v.items) one ≡ free (set_of self.now scope) (candidate scope name.now 0)) }
     {
         let Some(bytes) = itself(alloc, scope, name)? else {
@@ -141,7 +146,12 @@ impl Scopes {
 
     /// The Rust name of a name of C in a set: its first candidate that is free, which is taken from then on. Refused only for want of memory; then
     /// nothing changed.
-    pub(crate) fn rust_name(&mut self, alloc: Global, scope: NameScope, name: &[u8]) -> Result<Name, Memory>
+    pub(crate) fn rust_name(
+        &mut self,
+        alloc: Global,
+        scope: NameScope,
+        name: &[u8],
+    ) -> Result<Name, Memory>
         ensures name { IfOk result (λ one. one ≡ rust_name (set_of self.old scope) scope name.now) }
         ensures taken { IfOk result (λ one. self.new ≡ with_name self.old scope one) }
         ensures err { OnErr result (self.new ≡ self.old) }

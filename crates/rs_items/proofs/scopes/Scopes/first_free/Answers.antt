@@ -1,7 +1,5 @@
-use Rattle.std.proofs.Common.{IfOk, Result, Ok, Err}
-use Rattle.rs_items.specs.Names.{IsRustName}
 use Rattle.rs_items.specs.Sets.{set_of}
-use Rattle.rs_items.proofs.Found.{suffixed_first, suffixed_ok}
+use Rattle.rs_items.proofs.Found.{suffixed_ok}
 use Rattle.rs_items.proofs.scopes.Scopes.first_free.Goals as goal
 
 pub returns-in-None-clause-name : goal.returns-in-None-clause-name
