@@ -2,4 +2,5 @@ mod FirstFree
 mod Found
 mod Kept
 mod Pigeons
+mod Several
 mod Taken

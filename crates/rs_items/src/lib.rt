@@ -13,6 +13,6 @@ mod sets;
 mod words;
 
 pub use known::{Known, Named};
-pub use laws::names_are_first;
+pub use laws::{names_are_first, names_differ};
 pub use map::NameMap;
 pub use scope::NameScope;
