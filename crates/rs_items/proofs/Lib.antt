@@ -2,5 +2,5 @@ mod FirstFree
 mod Found
 mod Kept
 mod Pigeons
-mod Several
+pub mod Several
 mod Taken

@@ -1,0 +1,5 @@
+pub mod Calls
+pub mod FunctionNames
+pub mod Keys
+pub mod Laws
+pub mod ModuleNames
