@@ -4,3 +4,4 @@ mod Kept
 mod Pigeons
 mod Several
 mod Taken
+mod TypeLists
