@@ -13,7 +13,7 @@ mod sets;
 mod types;
 mod words;
 
-pub use known::{Known, Named};
+pub use known::{Known, MemberField, Named};
 pub use laws::{names_are_first, names_differ};
 pub use map::NameMap;
 pub use scope::NameScope;
