@@ -4,3 +4,4 @@ mod Kept
 mod Pigeons
 pub mod Several
 mod Taken
+mod TypeLists

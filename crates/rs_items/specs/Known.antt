@@ -1,10 +1,11 @@
 -- What the things of a C program have become in a written crate.
-use Rattle.std.specs.Prelude.{◌≡◌, ℕ, ◌==◌, Bool, true, false, if◌then◌else◌, List, Option, Some, None, option_map}
-use Rattle.indexmap.specs.IndexMap.{get_by}
+use Rattle.std.specs.Prelude.{◌≡◌, ℕ, ◌==◌, Bool, true, false, if◌then◌else◌, List, map, Option, Some, None, option_map}
+use Rattle.indexmap.specs.IndexMap.{IndexMap, get_by}
 use Rattle.rs_items.specs.Sets.{TakenNames}
 use Rattle.rs_items.specs.declared.known.Known.{Known}
 use Rattle.rs_items.specs.declared.known.Named.{Named}
 use Rattle.rs_items.specs.declared.known.Named.TheVariants.{Object, Function, Record, Enum, Temporary, Result}
+use Rattle.rs_items.specs.declared.known.MemberField.{MemberField as FieldOfMember}
 use Rattle.rs_items.specs.declared.map.NameMap.{NameMap}
 use Rattle.rs_items.specs.declared.scope.NameScope.{NameScope}
 use Rattle.rs_items.specs.declared.scope.NameScope.TheVariants.{Module, Fields, Function as FunctionNames}
@@ -41,16 +42,33 @@ same_named (Temporary one) (Temporary other) = one == other
 same_named Result Result = true
 same_named _ _ = false
 
+-- the field of a member that is no bit-field: the byte at which it stands, and its Rust type; two members of a union may be alike in both, and then
+-- they are one and the same in memory
+pub record MemberField : Type 0 where
+  pub byte : ℕ
+  pub ty : Ty
+  pub name : List ℕ
+
+abbrev pub view_field : FieldOfMember → MemberField
+view_field one = record { byte = one.byte; ty = ty_view one.ty; name = one.name }
+
 -- ---- the names of a module
 
 -- what is told of a thing: temporaries are kept apart from all else
+abbrev pub known_of : {S : Type 0} → IndexMap Named Known S → IndexMap ℕ Known S → Named → Option KnownThing
+known_of kept temporaries (Object number) = option_map view_known (get_by (same_named (Object number)) kept)
+known_of kept temporaries (Function number) = option_map view_known (get_by (same_named (Function number)) kept)
+known_of kept temporaries (Record number) = option_map view_known (get_by (same_named (Record number)) kept)
+known_of kept temporaries (Enum number) = option_map view_known (get_by (same_named (Enum number)) kept)
+known_of kept temporaries (Temporary number) = option_map view_known (get_by (λ other. number == other) temporaries)
+known_of kept temporaries Result = option_map view_known (get_by (same_named Result) kept)
+
 abbrev pub known_in : NameMap → Named → Option KnownThing
-known_in names (Object number) = option_map view_known (get_by (same_named (Object number)) names.kept)
-known_in names (Function number) = option_map view_known (get_by (same_named (Function number)) names.kept)
-known_in names (Record number) = option_map view_known (get_by (same_named (Record number)) names.kept)
-known_in names (Enum number) = option_map view_known (get_by (same_named (Enum number)) names.kept)
-known_in names (Temporary number) = option_map view_known (get_by (λ other. number == other) names.temporaries)
-known_in names Result = option_map view_known (get_by (same_named Result) names.kept)
+known_in names = known_of names.kept names.temporaries
+
+-- the fields of the members of a record
+abbrev pub fields_of : {S : Type 0} → IndexMap ℕ (List FieldOfMember) S → ℕ → Option (List MemberField)
+fields_of fields number = option_map (map view_field) (get_by (λ other. number == other) fields)
 
 -- the names of a module of the written crate
 pub record Names : Type 0 where
@@ -61,9 +79,17 @@ pub record Names : Type 0 where
   pub taken : TakenNames
   -- the newest entry of a thing
   pub known : Named → Option KnownThing
+  -- the fields of the members of a record that was written, by its number
+  pub fields : ℕ → Option (List MemberField)
 
 abbrev pub view_names : NameMap → Names
-view_names names = record { unit = names.unit; has_bits = names.has_bits; taken = names.scopes; known = known_in names }
+view_names names = record {
+  unit = names.unit;
+  has_bits = names.has_bits;
+  taken = names.scopes;
+  known = known_in names;
+  fields = fields_of names.fields;
+}
 
 -- ---- what calls leave
 

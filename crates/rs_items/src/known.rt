@@ -1,4 +1,4 @@
-use cr_base::Name;
+use cr_base::{Boxed, Name};
 use rs_tree::RTy;
 
 /// A thing that has a name or a type of its own in the written crate: a thing of the C program by its number there, a temporary of a function by its number
@@ -30,4 +30,14 @@ pub struct Known {
     pub ty: RTy,
     /// The size of an object or a record in bytes.
     pub size: u64,
+}
+
+/// The field of a member of a structure or union that is no bit-field.
+#[derive(Drop)]
+pub struct MemberField {
+    /// The byte at which it stands, from 0.
+    pub byte: u64,
+    /// Its Rust type.
+    pub ty: Boxed<RTy>,
+    pub name: Name,
 }

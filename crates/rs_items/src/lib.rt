@@ -10,9 +10,11 @@ mod map;
 mod scope;
 mod scopes;
 mod sets;
+mod types;
 mod words;
 
-pub use known::{Known, Named};
+pub use known::{Known, MemberField, Named};
 pub use laws::{names_are_first, names_differ};
 pub use map::NameMap;
 pub use scope::NameScope;
+pub use types::rust_type;

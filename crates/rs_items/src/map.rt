@@ -5,10 +5,10 @@ ghost use Rattle.rs_items.specs.Known as known;
 ghost use Rattle.rs_items.specs.Names.{rust_name};
 ghost use Rattle.rs_items.specs.Sets.{begun, set_of, with_name};
 
-use crate::known::{Known, Named};
+use crate::known::{Known, MemberField, Named};
 use crate::scope::NameScope;
 use crate::scopes::Scopes;
-use cr_base::{Memory, Name};
+use cr_base::{Items, Memory, Name};
 use indexmap::IndexMap;
 use std::alloc::Global;
 
@@ -22,6 +22,7 @@ pub struct NameMap {
     scopes: Scopes,
     kept: IndexMap<Named, Known>,
     temporaries: IndexMap<u32, Known>,
+    fields: IndexMap<u32, Items<MemberField>>,
 }
 
 impl NameMap {
@@ -31,6 +32,7 @@ impl NameMap {
         ensures bits { (view_names result).has_bits ≡ has_bits }
         ensures taken { (view_names result).taken ≡ record { module_names = []; own_names = []; field_names = [] } }
         ensures known { (one : Named) → (view_names result).known one ≡ None }
+        ensures fields { (number : ℕ) → (view_names result).fields number ≡ None }
     {
         NameMap {
             alloc,
@@ -39,6 +41,7 @@ impl NameMap {
             scopes: Scopes::new(alloc),
             kept: IndexMap::new(alloc),
             temporaries: IndexMap::new(alloc),
+            fields: IndexMap::new(alloc),
         }
     }
 
@@ -62,9 +65,10 @@ impl NameMap {
         ensures name { IfOk result (λ name. name ≡ rust_name (set_of (view_names self.old).taken scope) scope c_name.now) }
         ensures taken { IfOk result (λ name. (view_names self.new).taken ≡ with_name (view_names self.old).taken scope name) }
         ensures err { OnErr result ((view_names self.new).taken ≡ (view_names self.old).taken) }
-        ensures known { KeepsAll (view_names self.old) (view_names self.new) }
+        ensures known { (view_names self.new).known ≡ (view_names self.old).known }
         ensures unit { (view_names self.new).unit ≡ (view_names self.old).unit }
         ensures bits { (view_names self.new).has_bits ≡ (view_names self.old).has_bits }
+        ensures fields { (view_names self.new).fields ≡ (view_names self.old).fields }
     {
         self.scopes.rust_name(self.alloc, scope, c_name.bytes())
     }
@@ -76,6 +80,7 @@ impl NameMap {
         ensures known { Begins scope (view_names self.old) (view_names self.new) }
         ensures unit { (view_names self.new).unit ≡ (view_names self.old).unit }
         ensures bits { (view_names self.new).has_bits ≡ (view_names self.old).has_bits }
+        ensures fields { (view_names self.new).fields ≡ (view_names self.old).fields }
     {
         self.scopes.begin(scope);
         match scope {
@@ -115,6 +120,7 @@ impl NameMap {
         ensures taken { (view_names self.new).taken ≡ (view_names self.old).taken }
         ensures unit { (view_names self.new).unit ≡ (view_names self.old).unit }
         ensures bits { (view_names self.new).has_bits ≡ (view_names self.old).has_bits }
+        ensures fields { (view_names self.new).fields ≡ (view_names self.old).fields }
     {
         match one.named {
             Named::Temporary(number) => self.keep_temporary(number, one),

@@ -1,5 +1,5 @@
 use Rattle.std.proofs.Common.{ap}
-use Rattle.rs_items.specs.Known.{view_known}
+use Rattle.rs_items.specs.Known.{fields_of, view_known}
 use Rattle.rs_items.specs.declared.map.NameMap.{NameMap}
 use Rattle.rs_items.proofs.Kept.{leaves_err, puts_ok}
 use Rattle.rs_items.proofs.map.NameMap.keep.Goals as goal
@@ -13,4 +13,5 @@ returns-in_default c =
       taken = ap (λ (names : NameMap). names.scopes) c.keep_other.ensures.others;
       unit = ap (λ (names : NameMap). names.unit) c.keep_other.ensures.others;
       bits = ap (λ (names : NameMap). names.has_bits) c.keep_other.ensures.others;
+      fields = ap (λ (names : NameMap). fields_of names.fields) c.keep_other.ensures.others;
     }
