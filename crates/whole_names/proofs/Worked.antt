@@ -1,7 +1,7 @@
 -- The names of a program of two units, computed:
 --   a.c  extern int x; int fn(void); static int self; struct s { int m; }; struct { int m; } v; int main(void) { static int x; int x_0; { int x; "t"; } }
 --   b.c  int x; struct s { int k; };
-use Rattle.std.proofs.Common.{◌≡◌, ℕ, true, false, List, [], ◌∷◌, map, Some, None, codes, refl}
+use Rattle.std.proofs.Common.{◌≡◌, ℕ, true, false, List, [], ◌∷◌, map, option_map, Some, None, codes, refl}
 use Rattle.std.specs.Fmt.{digits}
 use Rattle.cr_base.specs.declared.refusal.Place.{Place}
 use Rattle.cx_core.specs.declared.program.Linkage.TheVariants.{External, Internal, Nothing}
@@ -10,7 +10,10 @@ use Rattle.cx_core.specs.Trees.{CTy, ty, void, basic, array, record_type, functi
 use Rattle.rs_items.specs.Names.{reserved}
 use Rattle.rs_text.specs.Names.{keywords, path_words}
 use Rattle.whole_names.specs.FunctionNames.{LocalName, local_names}
+use Rattle.rs_items.specs.Known.{KnownThing}
+use Rattle.rs_items.specs.declared.known.Named.TheVariants.{Object}
 use Rattle.whole_names.specs.Keys as key
+use Rattle.whole_names.specs.Kept.{NamedProgram, known_thing, no_locals, record_path}
 use Rattle.whole_names.specs.ModuleNames.{GivenName, module_names, names_only}
 
 abbrev int_type : CTy
@@ -79,3 +82,21 @@ names_of_second = refl
 names_of_main : map (λ (one : LocalName). one.name) (local_names program main_function 2) ≡ codes "x_0" ∷ codes "x_1" ∷ codes "t" ∷ codes "t_0" ∷ []
 unfolding digits reserved keywords path_words
 names_of_main = refl
+
+-- ---- what things have become
+
+abbrev whole : NamedProgram
+whole = record { program = program; module_names = codes "a" ∷ codes "b" ∷ [] }
+
+-- the object of the other unit is that unit's item
+x_of_other : option_map (λ (one : KnownThing). one.module_name) (known_thing whole 0 no_locals (Object 6)) ≡ Some (Some (codes "b"))
+x_of_other = refl
+
+-- records of one tag in two units
+records_apart : record_path whole 0 ≡ Some (record { home = codes "a"; name = codes "s" })
+unfolding digits reserved keywords path_words
+records_apart = refl
+
+other_record : record_path whole 2 ≡ Some (record { home = codes "b"; name = codes "s" })
+unfolding digits reserved keywords path_words
+other_record = refl
