@@ -1,12 +1,13 @@
 -- What is known of a thing after an entry is kept.
-use Rattle.std.proofs.Common.{◌≡◌, ℕ, Bool, true, false, cond, if◌then◌else◌, List, [], ◌∷◌, Option, Some, None, option_map, nat_eq, ◌==◌, Bor, Result as Answer, Ok, Err, OnOk, OnErr, refl, sym, ap, ◌∙◌}
+use Rattle.std.proofs.Common.{◌≡◌, ℕ, Bool, true, false, cond, if◌then◌else◌, List, [], ◌∷◌, map, Option, Some, None, option_map, nat_eq, ◌==◌, Bor, Result as Answer, Ok, Err, OnOk, OnErr, refl, sym, ap, ◌∙◌}
 use Rattle.std.proofs.lemmas.Cmp.{nat_eq_equiv}
 use Rattle.std.specs.Option.{option_copied}
 use Rattle.std.specs.HashMap.{HashMap, get, get_by}
 use Rattle.std.specs.Map.{lookup}
-use Rattle.rs_items.specs.Known.{KnownThing, known_in, same_named, view_known}
+use Rattle.rs_items.specs.Known.{KnownThing, fields_of, known_in, same_named, view_field, view_known}
 use Rattle.rs_items.specs.contracts.known.NamedPartialEq.TheImpl.{ghosts}
 use Rattle.rs_items.specs.declared.known.Known.{Known}
+use Rattle.rs_items.specs.declared.known.MemberField.{MemberField as FieldOfMember}
 use Rattle.rs_items.specs.declared.map.NameMap.{NameMap}
 use Rattle.rs_items.specs.declared.known.Named.{Named}
 use Rattle.rs_items.specs.declared.known.Named.TheVariants.{Object, Function, Record, Enum, Temporary, Result}
@@ -95,13 +96,17 @@ turned Result (Enum other) = refl
 turned Result (Temporary other) = refl
 turned Result Result = refl
 
+newest_of : {X Y : Type 0} (view : X → Y) (new_test : Bool) (test : Bool) (one : X) (old new : Option X) → test ≡ new_test → new ≡ cond new_test (Some one) old
+    → option_map view new ≡ if test then Some (view one) else option_map view old
+newest_of view true true one old new same is = ap (option_map view) is
+newest_of view false false one old new same is = ap (option_map view) is
+newest_of view true false one old new same is = cc
+newest_of view false true one old new same is = cc
+
 -- an entry of another thing is as it was, and the new one is the newest of its thing
 pub newest : (new_test : Bool) (test : Bool) (one : Known) (old new : Option Known) → test ≡ new_test → new ≡ cond new_test (Some one) old
     → option_map view_known new ≡ if test then Some (view_known one) else option_map view_known old
-newest true true one old new same is = ap (option_map view_known) is
-newest false false one old new same is = ap (option_map view_known) is
-newest true false one old new same is = cc
-newest false true one old new same is = cc
+newest new_test test one old new same is = newest_of view_known new_test test one old new same is
 
 pub named_alike : {S : Type 0} (names : HashMap Named Known S) (one : Named) → get ghosts.eq names one ≡ get_by (same_named one) names
 named_alike names one = same_found (ghosts.eq one) (same_named one) (derived one) names.entries
@@ -119,6 +124,13 @@ pub kept_temporary : {S : Type 0} (old new : HashMap ℕ Known S) (number : ℕ)
     → option_map view_known (get_by (λ key. other == key) new) ≡ if other == number then Some (view_known one) else option_map view_known (get_by (λ key. other == key) old)
 kept_temporary old new number one other is =
     newest (nat_eq number other) (other == number) one (get_by (λ key. other == key) old) (get_by (λ key. other == key) new) (nat_eq_equiv.symm other number) is
+
+pub kept_fields : {S : Type 0} (old new : HashMap ℕ (List FieldOfMember) S) (number : ℕ) (one : List FieldOfMember) (other : ℕ)
+    → get nat_eq new other ≡ cond (nat_eq number other) (Some one) (get nat_eq old other)
+    → fields_of new other ≡ if other == number then Some (map view_field one) else fields_of old other
+kept_fields old new number one other is =
+    newest_of (map view_field) (nat_eq number other) (other == number) one (get_by (λ key. other == key) old) (get_by (λ key. other == key) new)
+    (nat_eq_equiv.symm other number) is
 
 -- what a look-up gives is seen through a reference
 pub seen : (found : Option (Bor Known)) (of : Option Known) → option_copied found ≡ of → option_map (λ one. view_known one.now) found ≡ option_map view_known of

@@ -1,3 +1,4 @@
+mod Aligns
 mod FirstFree
 mod Found
 mod Kept

@@ -5,3 +5,4 @@ pub mod Records
 pub mod Scopes
 pub mod Sets
 pub mod Types
+pub mod Walks

@@ -7,14 +7,18 @@ mod candidates;
 mod known;
 mod laws;
 mod map;
+mod records;
 mod scope;
 mod scopes;
 mod sets;
+mod sizes;
 mod types;
+mod walk;
 mod words;
 
 pub use known::{Known, MemberField, Named};
 pub use laws::{names_are_first, names_differ};
 pub use map::NameMap;
+pub use records::record_item;
 pub use scope::NameScope;
 pub use types::rust_type;

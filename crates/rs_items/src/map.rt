@@ -1,9 +1,11 @@
-ghost use Rattle.std.specs.Prelude.{◌≡◌, ℕ, ◌==◌, if◌then◌else◌, [], None, Some, IfOk, OnErr, OnOk, option_map};
+ghost use Rattle.std.specs.Prelude.{◌≡◌, ℕ, ◌==◌, if◌then◌else◌, [], ◌∷◌, ◌++◌, map, None, Some, IfOk, OnErr, OnOk, option_map};
 ghost use Rattle.indexmap.specs.IndexMap.{get_by};
-ghost use Rattle.rs_items.specs.Known.{Begins, KeepsAll, KeepsOne, Names, same_named, view_known, view_names};
+ghost use Rattle.rs_items.specs.Known.{Begins, KeepsAll, KeepsOne, Names, same_named, view_field, view_known, view_names};
 ghost use Rattle.rs_items.specs.Known as known;
 ghost use Rattle.rs_items.specs.Names.{rust_name};
 ghost use Rattle.rs_items.specs.Sets.{begun, set_of, with_name};
+ghost use Rattle.rs_items.specs.Walks.{with_field_names};
+ghost use Rattle.rs_items.specs.declared.scope.NameScope.TheVariants.{Fields};
 
 use crate::known::{Known, MemberField, Named};
 use crate::scope::NameScope;
@@ -87,6 +89,38 @@ impl NameMap {
             NameScope::Module | NameScope::Function => self.temporaries.clear(),
             NameScope::Fields => {}
         }
+    }
+
+    /// The name of a field, which is taken among those of fields from then on.
+    pub(crate) fn field_name(&mut self, wanted: &Name) -> Result<Name, Memory>
+        ensures name { IfOk result (λ name. name ≡ rust_name self.old.scopes.field_names Fields wanted.now) }
+        ensures taken { IfOk result (λ name. self.new ≡ with_field_names self.old (self.old.scopes.field_names ++ name ∷ [])) }
+    {
+        self.scopes.rust_name(self.alloc, NameScope::Fields, wanted.bytes())
+    }
+
+    /// Leaves no name taken among those of fields.
+    pub(crate) fn begin_fields(&mut self)
+        ensures { self.new ≡ with_field_names self.old [] }
+    {
+        self.scopes.begin(NameScope::Fields);
+    }
+
+    /// Keeps the fields of the members of a record.
+    pub(crate) fn keep_fields(&mut self, number: u32, members: Items<MemberField>) -> Result<(), Memory>
+        ensures fields { OnOk result ((other : ℕ) → (view_names self.new).fields other ≡
+            if other == number then Some (map view_field members) else (view_names self.old).fields other) }
+        ensures rest { self.new ≡ record self.old { fields = self.new.fields } }
+    {
+        self.fields.insert(number, members)?;
+        Ok(())
+    }
+
+    /// The fields of the members of a record that was written, in their order, or None where none of that number was.
+    pub fn fields(&self, number: u32) -> Option<&Items<MemberField>>
+        ensures { option_map (λ list. map view_field list.now) result ≡ (view_names self.now).fields number }
+    {
+        self.fields.get(&number)
     }
 
     // Keeps what a temporary has become.
