@@ -1,10 +1,10 @@
 -- The greatest alignment of fields.
-use Rattle.std.proofs.Common.{◌≡◌, ℕ, ◌≤◌, List, [], ◌∷◌, drop, length, map, max, refl, ap, sym, ◌∙◌, arith}
+use Rattle.std.proofs.Common.{◌≡◌, ℕ, ◌≤◌, List, [], ◌∷◌, drop, length, map, max, ap, sym, ◌∙◌, arith}
 use Rattle.std.proofs.Math.ListN.{drop_of_length-le}
 use Rattle.cx_core.specs.Trees.{CMember}
 use Rattle.cx_core.specs.Views.{view_member}
 use Rattle.cx_core.specs.declared.ty.Member.{Member}
-use Rattle.rs_items.specs.Records.{fields_align, member_align}
+use Rattle.rs_items.specs.Records.{fields_align}
 
 pub some_align : (members : List CMember) → 1 ≤ fields_align members
 some_align [] = omega arith

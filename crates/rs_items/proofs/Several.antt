@@ -1,9 +1,8 @@
 -- Names that are taken one behind the other differ.
-use Rattle.std.proofs.Common.{◌≡◌, ℕ, ◌+◌, ◌<◌, ◌^◌, Bool, true, false, not, ◌&&◌, ◌||◌, List, [], ◌∷◌, ◌++◌, length, take, bytes_eq, refl, sym, ap, ◌∙◌, arith}
-use Rattle.std.specs.List.{list_all, list_any}
+use Rattle.std.proofs.Common.{◌≡◌, ℕ, ◌+◌, Bool, true, false, not, ◌&&◌, ◌||◌, List, [], ◌∷◌, ◌++◌, length, take, bytes_eq, refl, ap, ◌∙◌, arith}
+use Rattle.std.specs.List.{list_all}
 use Rattle.std.proofs.lemmas.List.{length-append}
 use Rattle.std.proofs.lemmas.List.Folds.{list_any-append, list_all-append}
-
 use Rattle.std.proofs.lemmas.Cmp.{nat_list_eq_equiv}
 use Rattle.std.proofs.Math.Seq.{take-append_seam}
 use Rattle.rs_items.specs.LawsNames.{AreFew, AreFewWith, NamesDiffer}
@@ -72,7 +71,7 @@ identifiers_all taken scope [] few all words = all
 identifiers_all taken scope (name ∷ names) few all words =
     identifiers_all (taken ++ rust_name taken scope name ∷ []) scope names (few_later taken (rust_name taken scope name) name names few)
     (all_last taken (rust_name taken scope name) all
-        (names_first.identifier taken scope name (few_now taken name names few) (first_of (is_word name) (list_all is_word names) words)))
+    (names_first.identifier taken scope name (few_now taken name names few) (first_of (is_word name) (list_all is_word names) words)))
     (second_of (is_word name) (list_all is_word names) words)
 
 count_all : (taken : List (List ℕ)) (scope : NameScope) (names : List (List ℕ)) → length (names_from taken scope names) ≡ length taken + length names

@@ -22,5 +22,5 @@ pub listed_all : (names : TypeNames) (types : List CTyTree) (made : List RTy) (i
     → tys (map ty_view made) ≡ rust_types names (types_of (map view_type types))
 listed_all names types made index end is =
     ap tys (sym (no_more (map ty_view made))
-        ∙ ap (λ list. map ty_view made ++ map (λ one. param_type names (view_type one)) list) (sym (drop_of_length-le types end)) ∙ is)
+    ∙ ap (λ list. map ty_view made ++ map (λ one. param_type names (view_type one)) list) (sym (drop_of_length-le types end)) ∙ is)
     ∙ listed_types names types

@@ -54,6 +54,10 @@ view_field one = record { byte = one.byte; ty = ty_view one.ty; name = one.name 
 
 -- ---- the names of a module
 
+-- what is known of each thing
+abbrev pub Knows : Type 0
+Knows = Named → Option KnownThing
+
 -- what is told of a thing: temporaries are kept apart from all else
 abbrev pub known_of : {S : Type 0} → IndexMap Named Known S → IndexMap ℕ Known S → Named → Option KnownThing
 known_of kept temporaries (Object number) = option_map view_known (get_by (same_named (Object number)) kept)
@@ -63,7 +67,7 @@ known_of kept temporaries (Enum number) = option_map view_known (get_by (same_na
 known_of kept temporaries (Temporary number) = option_map view_known (get_by (λ other. number == other) temporaries)
 known_of kept temporaries Result = option_map view_known (get_by (same_named Result) kept)
 
-abbrev pub known_in : NameMap → Named → Option KnownThing
+abbrev pub known_in : NameMap → Knows
 known_in names = known_of names.kept names.temporaries
 
 -- the fields of the members of a record
@@ -78,7 +82,7 @@ pub record Names : Type 0 where
   pub has_bits : Bool
   pub taken : TakenNames
   -- the newest entry of a thing
-  pub known : Named → Option KnownThing
+  pub known : Knows
   -- the fields of the members of a record that was written, by its number
   pub fields : ℕ → Option (List MemberField)
 

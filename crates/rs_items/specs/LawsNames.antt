@@ -1,6 +1,6 @@
 -- Laws of names: the Rust name of a name is its first candidate that isn't taken, an identifier, and none of those that are taken. Fewer names are taken than a
 -- 64-bit number can tell.
-use Rattle.std.specs.Prelude.{◌≡◌, ℕ, ◌+◌, ◌<◌, ◌^◌, true, false, List, ◌++◌, length, take}
+use Rattle.std.specs.Prelude.{◌≡◌, ℕ, ◌+◌, ◌<◌, ◌^◌, true, false, List, length, take}
 use Rattle.std.specs.List.{list_all}
 use Rattle.rs_items.specs.Names.{IsRustName, names_from, rust_name}
 use Rattle.rs_items.specs.declared.scope.NameScope.{NameScope}

@@ -4,9 +4,9 @@ use Rattle.std.specs.Prelude.{ℕ, ◌+◌, ◌-◌, ◌*◌, ◌/◌, max, nat_
 use Rattle.cr_base.specs.declared.layout.Spot.{Spot}
 use Rattle.cx_core.specs.Conversions.{width_of_basic}
 use Rattle.cx_core.specs.Trees.{CTy, ty, CTyForm, void, basic, enum_type, pointer, array, record_type, function, CMember, CRecord}
-use Rattle.rs_text.specs.Tree.{Ty, Integer, Array, Record, FieldTree, RecordTree}
+use Rattle.rs_text.specs.Tree.{Ty, Integer, Array, FieldTree, RecordTree}
 use Rattle.rs_text.specs.declared.integer.IntegerTy.TheVariants.{U8}
-use Rattle.rs_items.specs.Known.{KnownThing, MemberField, Names}
+use Rattle.rs_items.specs.Known.{KnownThing, Knows, MemberField}
 use Rattle.rs_items.specs.Names.{rust_name}
 use Rattle.rs_items.specs.Types.{path_in, rust_type, type_names}
 use Rattle.rs_items.specs.declared.known.Named.TheVariants.{Record as RecordNamed}
@@ -26,17 +26,17 @@ elements_size (Some count) element = count * element
 
 abbrev mutual
   -- the size of a type of C in bytes, where structures and unions have those that are kept: 0 for what has none
-  pub size_of : Names → CTy → ℕ
-  size_of names (ty form is_const) = form_size names form
+  pub size_of : Knows → CTy → ℕ
+  size_of known (ty form is_const) = form_size known form
 
-  pub form_size : Names → CTyForm → ℕ
-  form_size names void = 0
-  form_size names (basic which) = width_of_basic which / 8
-  form_size names (enum_type number) = 4
-  form_size names (pointer to) = 8
-  form_size names (array element length) = elements_size length (size_of names element)
-  form_size names (record_type number) = kept_size (names.known (RecordNamed number))
-  form_size names (function result params variadic) = 0
+  pub form_size : Knows → CTyForm → ℕ
+  form_size known void = 0
+  form_size known (basic which) = width_of_basic which / 8
+  form_size known (enum_type number) = 4
+  form_size known (pointer to) = 8
+  form_size known (array element length) = elements_size length (size_of known element)
+  form_size known (record_type number) = kept_size (known (RecordNamed number))
+  form_size known (function result params variadic) = 0
 
 abbrev mutual
   -- the alignment that a type is known to have: that of a structure or union isn't kept
@@ -132,10 +132,14 @@ reached spot = spot.byte + whole_bytes (spot.bit + spot.width)
 abbrev pub filled : FieldsWalk → ℕ → FieldsWalk
 filled walk end = record walk { taken = end; due = end }
 
--- One more member of a structure. Bytes that are due and not taken hold bit-fields; padding in front of a field isn't due, since `repr(C)` has it too.
-abbrev pub struct_step : FieldsWalk → PlacedMember → FieldsWalk
+-- Bytes that are due and not taken hold bit-fields. Padding in front of a field isn't due, since `repr(C)` has it too.
+unfoldable pub struct_end : FieldsWalk → FieldsWalk
+struct_end walk = put_bytes walk (walk.due - walk.taken)
+
+-- one more member of a structure
+unfoldable pub struct_step : FieldsWalk → PlacedMember → FieldsWalk
 struct_step walk one = elim one.bits as (λ _. FieldsWalk) [
-  | None ↦ filled (put_member (put_bytes walk (walk.due - walk.taken)) one) (one.spot.byte + one.size)
+  | None ↦ filled (put_member (struct_end walk) one) (one.spot.byte + one.size)
   | Some width ↦ record walk { due = reached one.spot }
 ]
 
@@ -154,10 +158,6 @@ abbrev pub union_walk : FieldsWalk → List PlacedMember → FieldsWalk
 union_walk walk [] = walk
 union_walk walk (one ∷ others) = union_walk (union_step walk one) others
 
--- bit-fields at the end of a structure
-abbrev pub struct_end : FieldsWalk → FieldsWalk
-struct_end walk = put_bytes walk (walk.due - walk.taken)
-
 abbrev pub record_walk : Bool → List PlacedMember → FieldsWalk
 record_walk true members = union_walk no_fields members
 record_walk false members = struct_end (struct_walk no_fields members)
@@ -165,20 +165,20 @@ record_walk false members = struct_end (struct_walk no_fields members)
 -- ---- the record
 
 -- a member at its spot
-abbrev pub placed_member : Names → CMember → Spot → PlacedMember
-placed_member names one spot = record {
+abbrev pub placed_member : Knows → CMember → Spot → PlacedMember
+placed_member known one spot = record {
   name = one.name;
   bits = one.bits;
-  ty = rust_type (type_names names) one.type;
-  size = size_of names one.type;
+  ty = rust_type (type_names known) one.type;
+  size = size_of known one.type;
   spot = spot;
 }
 
 -- members at their spots, as many as there are of both
-abbrev pub placed_members : Names → List CMember → List Spot → List PlacedMember
-placed_members names [] spots = []
-placed_members names (one ∷ members) [] = []
-placed_members names (one ∷ members) (spot ∷ spots) = placed_member names one spot ∷ placed_members names members spots
+abbrev pub placed_members : Knows → List CMember → List Spot → List PlacedMember
+placed_members known [] spots = []
+placed_members known (one ∷ members) [] = []
+placed_members known (one ∷ members) (spot ∷ spots) = placed_member known one spot ∷ placed_members known members spots
 
 -- the name of a record: that of the record that is kept
 abbrev pub path_name : Option RPath → List ℕ
@@ -190,14 +190,14 @@ record_name None = []
 record_name (Some one) = path_name (path_in one.ty)
 
 -- what the members of a structure or union become where they stand at these spots
-abbrev pub fields_walk : Names → CRecord → List Spot → FieldsWalk
-fields_walk names one spots = record_walk one.is_union (placed_members names one.members spots)
+abbrev pub fields_walk : Knows → CRecord → List Spot → FieldsWalk
+fields_walk known one spots = record_walk one.is_union (placed_members known one.members spots)
 
 -- the record of a structure or union, of which the members stand at these spots and which has this alignment
-abbrev pub record_tree : Names → CRecord → List Spot → (align : ℕ) → RecordTree
-record_tree names one spots align = record {
+abbrev pub record_tree : Knows → CRecord → List Spot → (align : ℕ) → RecordTree
+record_tree known one spots align = record {
   align = raised_to align one.members;
   is_union = one.is_union;
-  name = record_name (names.known (RecordNamed one.number));
-  fields = (fields_walk names one spots).fields;
+  name = record_name (known (RecordNamed one.number));
+  fields = (fields_walk known one spots).fields;
 }

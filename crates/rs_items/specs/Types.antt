@@ -8,7 +8,7 @@ use Rattle.rs_text.specs.declared.integer.IntegerTy.{IntegerTy}
 use Rattle.rs_text.specs.declared.integer.IntegerTy.TheVariants.{I8, I16, I32, I64, U8, U16, U32, U64}
 use Rattle.rs_text.specs.Valid.{is_void}
 use Rattle.rs_tree.specs.declared.ty.RPath.{RPath}
-use Rattle.rs_items.specs.Known.{KnownThing, Names}
+use Rattle.rs_items.specs.Known.{KnownThing, Knows}
 use Rattle.rs_items.specs.declared.known.Named.TheVariants.{Record as RecordNamed, Enum as EnumNamed}
 
 -- what the types of a C program are in one module of the written crate
@@ -144,8 +144,8 @@ enum_integer None = I32
 enum_integer (Some one) = integer_in one.ty
 
 -- what the types of a C program are by what is kept of them
-abbrev pub type_names : Names → TypeNames
-type_names names = record {
-  records = λ number. record_path (names.known (RecordNamed number));
-  enums = λ number. enum_integer (names.known (EnumNamed number));
+abbrev pub type_names : Knows → TypeNames
+type_names known = record {
+  records = λ number. record_path (known (RecordNamed number));
+  enums = λ number. enum_integer (known (EnumNamed number));
 }

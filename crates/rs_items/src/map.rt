@@ -96,7 +96,8 @@ impl NameMap {
         ensures name { IfOk result (λ name. name ≡ rust_name self.old.scopes.field_names Fields wanted.now) }
         ensures taken { IfOk result (λ name. self.new ≡ with_field_names self.old (self.old.scopes.field_names ++ name ∷ [])) }
     {
-        self.scopes.rust_name(self.alloc, NameScope::Fields, wanted.bytes())
+        self.scopes
+            .rust_name(self.alloc, NameScope::Fields, wanted.bytes())
     }
 
     /// Leaves no name taken among those of fields.
@@ -107,7 +108,11 @@ impl NameMap {
     }
 
     /// Keeps the fields of the members of a record.
-    pub(crate) fn keep_fields(&mut self, number: u32, members: Items<MemberField>) -> Result<(), Memory>
+    pub(crate) fn keep_fields(
+        &mut self,
+        number: u32,
+        members: Items<MemberField>,
+    ) -> Result<(), Memory>
         ensures fields { OnOk result ((other : ℕ) → (view_names self.new).fields other ≡
             if other == number then Some (map view_field members) else (view_names self.old).fields other) }
         ensures rest { self.new ≡ record self.old { fields = self.new.fields } }

@@ -1,9 +1,9 @@
 //! The record of a structure or union.
 
-ghost use Rattle.std.specs.Prelude.{◌≡◌, ℕ, ◌==◌, if◌then◌else◌, true, false, [], Some, map, IfOk, OnOk};
+ghost use Rattle.std.specs.Prelude.{◌≡◌, ℕ, ◌==◌, if◌then◌else◌, [], Some, map, IfOk, OnOk};
 ghost use Rattle.cx_core.specs.Views.{view_member, view_record};
 ghost use Rattle.rs_items.specs.Known.{view_names};
-ghost use Rattle.rs_items.specs.Records.{fields_walk, path_name, placed_members, record_name, record_tree, record_walk, struct_end, struct_walk, union_walk};
+ghost use Rattle.rs_items.specs.Records.{fields_walk, no_fields, path_name, placed_members, record_name, record_tree, record_walk, struct_end, struct_walk, union_walk};
 ghost use Rattle.rs_items.specs.Types.{path_in};
 ghost use Rattle.rs_items.specs.Walks.{view_walk, with_field_names};
 ghost use Rattle.rs_items.specs.declared.known.Named.TheVariants as named;
@@ -29,16 +29,20 @@ pub fn record_item(
     align: u64,
     names: &mut NameMap,
 ) -> Result<Item, Memory>
-    ensures item { IfOk result (λ item. item_view item ≡ tree.RecordItem (record_tree (view_names names.old) (view_record r.now) spots.now align)) }
+    ensures item { IfOk result (λ item. item_view item ≡ tree.RecordItem (record_tree (view_names names.old).known (view_record r.now) spots.now align)) }
     ensures fields { OnOk result ((number : ℕ) → (view_names names.new).fields number ≡
-        if number == r.now.number then Some (fields_walk (view_names names.old) (view_record r.now) spots.now).members else (view_names names.old).fields number) }
+        if number == r.now.number then Some (fields_walk (view_names names.old).known (view_record r.now) spots.now).members else (view_names names.old).fields number) }
     ensures taken { OnOk result ((view_names names.new).taken ≡
-        record (view_names names.old).taken { field_names = (fields_walk (view_names names.old) (view_record r.now) spots.now).names }) }
+        record (view_names names.old).taken { field_names = (fields_walk (view_names names.old).known (view_record r.now) spots.now).names }) }
     ensures known { OnOk result ((view_names names.new).known ≡ (view_names names.old).known) }
     ensures unit { OnOk result ((view_names names.new).unit ≡ (view_names names.old).unit) }
     ensures bits { OnOk result ((view_names names.new).has_bits ≡ (view_names names.old).has_bits) }
 {
-    let Walk { fields, members, .. } = walk_all(alloc, r, spots, names)?;
+    let Walk {
+        fields,
+        members,
+        ..
+    } = walk_all(alloc, r.is_union, r.members.as_slice(), spots, names)?;
     let name = record_name(alloc, r.number, names)?;
     let align = raised_to(align, r.members.as_slice())?;
     names.keep_fields(r.number, members)?;
@@ -51,15 +55,22 @@ pub fn record_item(
 }
 
 // The fields of a structure or union.
-fn walk_all(alloc: Global, r: &RecordTy, spots: &[Spot], names: &mut NameMap) -> Result<Walk, Memory>
+fn walk_all(
+    alloc: Global,
+    is_union: bool,
+    members: &[Member],
+    spots: &[Spot],
+    names: &mut NameMap,
+) -> Result<Walk, Memory>
     ensures rest { OnOk result (names.new ≡ with_field_names names.old names.new.scopes.field_names) }
-    ensures walk { IfOk result (λ walk. view_walk names.new.scopes.field_names walk ≡ fields_walk (view_names names.old) (view_record r.now) spots.now) }
+    ensures walk { IfOk result (λ walk. view_walk names.new.scopes.field_names walk ≡
+        record_walk is_union (placed_members (view_names names.old).known (map view_member members.now) spots.now)) }
 {
     names.begin_fields();
-    if r.is_union {
-        walk_union(alloc, r.members.as_slice(), spots, names)
+    if is_union {
+        walk_union(alloc, members, spots, names)
     } else {
-        walk_struct(alloc, r.members.as_slice(), spots, names)
+        walk_struct(alloc, members, spots, names)
     }
 }
 
@@ -73,7 +84,7 @@ fn walk_union(
     requires { names.old.scopes.field_names ≡ [] }
     ensures rest { OnOk result (names.new ≡ with_field_names names.old names.new.scopes.field_names) }
     ensures walk { IfOk result (λ walk. view_walk names.new.scopes.field_names walk ≡
-        record_walk true (placed_members (view_names names.old) (map view_member members.now) spots.now)) }
+        union_walk no_fields (placed_members (view_names names.old).known (map view_member members.now) spots.now)) }
 {
     let mut walk = Walk::new(alloc);
     let mut left = spots;
@@ -97,10 +108,9 @@ fn walk_struct(
     requires { names.old.scopes.field_names ≡ [] }
     ensures rest { OnOk result (names.new ≡ with_field_names names.old names.new.scopes.field_names) }
     ensures walk { IfOk result (λ walk. view_walk names.new.scopes.field_names walk ≡
-        record_walk false (placed_members (view_names names.old) (map view_member members.now) spots.now)) }
+        struct_end (struct_walk no_fields (placed_members (view_names names.old).known (map view_member members.now) spots.now))) }
 {
-    let mut walk = Walk::new(alloc);
-    walk_members(alloc, members, spots, names, &mut walk)?;
+    let mut walk = walk_members(alloc, members, spots, names)?;
     walk.struct_end(alloc, names)?;
     Ok(walk)
 }
@@ -111,21 +121,22 @@ fn walk_members(
     members: &[Member],
     spots: &[Spot],
     names: &mut NameMap,
-    walk: &mut Walk,
-) -> Result<(), Memory>
+) -> Result<Walk, Memory>
+    requires { names.old.scopes.field_names ≡ [] }
     ensures rest { OnOk result (names.new ≡ with_field_names names.old names.new.scopes.field_names) }
-    ensures walk { OnOk result (view_walk names.new.scopes.field_names walk.new ≡
-        struct_walk (view_walk names.old.scopes.field_names walk.old) (placed_members (view_names names.old) (map view_member members.now) spots.now)) }
+    ensures walk { IfOk result (λ walk. view_walk names.new.scopes.field_names walk ≡
+        struct_walk no_fields (placed_members (view_names names.old).known (map view_member members.now) spots.now)) }
 {
+    let mut walk = Walk::new(alloc);
     let mut left = spots;
     for one in members {
         let Some((spot, others)) = left.split_first() else {
-            return Ok(());
+            return Ok(walk);
         };
         walk.struct_step(alloc, one, *spot, names)?;
         left = others;
     }
-    Ok(())
+    Ok(walk)
 }
 
 // The name of the record that is kept.

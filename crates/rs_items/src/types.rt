@@ -19,7 +19,7 @@ use std::alloc::Global;
 /// known, and an `Option` of a function for a pointer to one. Refused only for want of memory.
 #[cycle(types)]
 pub fn rust_type(alloc: Global, t: &Ty, names: &NameMap) -> Result<Boxed<RTy>, Memory>
-    ensures { IfOk result (λ made. ty_view made ≡ rust_type (type_names (view_names names.now)) (view_type t.now)) }
+    ensures { IfOk result (λ made. ty_view made ≡ rust_type (type_names (view_names names.now).known) (view_type t.now)) }
 {
     match &t.form {
         TyForm::Void => boxed(alloc, RTy::Void),
@@ -29,7 +29,13 @@ pub fn rust_type(alloc: Global, t: &Ty, names: &NameMap) -> Result<Boxed<RTy>, M
             TyForm::Function(held) => rust_code(alloc, held.get(), names),
             _ => pointer_to(alloc, to.get(), names, rust_type(alloc, to.get(), names)),
         },
-        TyForm::Array(element, length) => array_of(alloc, element.get(), names, rust_type(alloc, element.get(), names), *length),
+        TyForm::Array(element, length) => array_of(
+            alloc,
+            element.get(),
+            names,
+            rust_type(alloc, element.get(), names),
+            *length,
+        ),
         TyForm::Record(number) => record_type(alloc, *number, names),
         TyForm::Function(_) => boxed(alloc, RTy::Void),
     }
@@ -38,16 +44,22 @@ pub fn rust_type(alloc: Global, t: &Ty, names: &NameMap) -> Result<Boxed<RTy>, M
 // The Rust type of a pointer to a function.
 #[cycle(types)]
 fn rust_code(alloc: Global, fun: &FunctionTy, names: &NameMap) -> Result<Boxed<RTy>, Memory>
-    ensures { IfOk result (λ made. ty_view made ≡ rust_pointer_form (type_names (view_names names.now)) (view_function_type fun.now)) }
+    ensures { IfOk result (λ made. ty_view made ≡ rust_pointer_form (type_names (view_names names.now).known) (view_function_type fun.now)) }
 {
     let given = rust_type(alloc, &fun.result_ty, names);
-    code_of(alloc, fun, names, given, rust_params(alloc, &fun.params, names))
+    code_of(
+        alloc,
+        fun,
+        names,
+        given,
+        rust_params(alloc, &fun.params, names),
+    )
 }
 
 // The Rust types of the parameters of a function.
 #[cycle(types)]
 fn rust_params(alloc: Global, params: &Params, names: &NameMap) -> Result<Items<RTy>, Memory>
-    ensures { IfOk result (λ made. tys (map ty_view made) ≡ rust_params (type_names (view_names names.now)) (view_params params.now)) }
+    ensures { IfOk result (λ made. tys (map ty_view made) ≡ rust_params (type_names (view_names names.now).known) (view_params params.now)) }
 {
     match params {
         Params::Unlisted => Ok(Items::new(alloc)),
@@ -58,7 +70,7 @@ fn rust_params(alloc: Global, params: &Params, names: &NameMap) -> Result<Items<
 // The Rust types of parameters of these types.
 #[cycle(types)]
 fn param_types(alloc: Global, types: &[Ty], names: &NameMap) -> Result<Items<RTy>, Memory>
-    ensures { IfOk result (λ made. tys (map ty_view made) ≡ rust_types (type_names (view_names names.now)) (types_of (map view_type types.now))) }
+    ensures { IfOk result (λ made. tys (map ty_view made) ≡ rust_types (type_names (view_names names.now).known) (types_of (map view_type types.now))) }
 {
     let mut made = Items::new(alloc);
     for one in types {
@@ -92,9 +104,14 @@ fn basic_type(which: Basic) -> RTy
 }
 
 // The pointer to what a type has become.
-fn pointer_to(alloc: Global, to: &Ty, names: &NameMap, made: Result<Boxed<RTy>, Memory>) -> Result<Boxed<RTy>, Memory>
-    requires { IfOk made (λ target. ty_view target ≡ rust_type (type_names (view_names names.now)) (view_type to.now)) }
-    ensures { IfOk result (λ pointer. ty_view pointer ≡ tree.Pointer (rust_type (type_names (view_names names.now)) (view_type to.now))) }
+fn pointer_to(
+    alloc: Global,
+    to: &Ty,
+    names: &NameMap,
+    made: Result<Boxed<RTy>, Memory>,
+) -> Result<Boxed<RTy>, Memory>
+    requires { IfOk made (λ target. ty_view target ≡ rust_type (type_names (view_names names.now).known) (view_type to.now)) }
+    ensures { IfOk result (λ pointer. ty_view pointer ≡ tree.Pointer (rust_type (type_names (view_names names.now).known) (view_type to.now))) }
 {
     boxed(alloc, RTy::Pointer(made?))
 }
@@ -107,8 +124,8 @@ fn array_of(
     made: Result<Boxed<RTy>, Memory>,
     length: Option<u64>,
 ) -> Result<Boxed<RTy>, Memory>
-    requires { IfOk made (λ element. ty_view element ≡ rust_type (type_names (view_names names.now)) (view_type of.now)) }
-    ensures { IfOk result (λ array. ty_view array ≡ array_or_void length (rust_type (type_names (view_names names.now)) (view_type of.now))) }
+    requires { IfOk made (λ element. ty_view element ≡ rust_type (type_names (view_names names.now).known) (view_type of.now)) }
+    ensures { IfOk result (λ array. ty_view array ≡ array_or_void length (rust_type (type_names (view_names names.now).known) (view_type of.now))) }
 {
     match length {
         Some(length) => boxed(alloc, RTy::Array(made?, length)),
@@ -124,11 +141,14 @@ fn code_of(
     given: Result<Boxed<RTy>, Memory>,
     params: Result<Items<RTy>, Memory>,
 ) -> Result<Boxed<RTy>, Memory>
-    requires given { IfOk given (λ one. ty_view one ≡ rust_type (type_names (view_names names.now)) (view_type fun.now.result_ty)) }
-    requires params { IfOk params (λ made. tys (map ty_view made) ≡ rust_params (type_names (view_names names.now)) (view_params fun.now.params)) }
-    ensures { IfOk result (λ made. ty_view made ≡ rust_pointer_form (type_names (view_names names.now)) (view_function_type fun.now)) }
+    requires given { IfOk given (λ one. ty_view one ≡ rust_type (type_names (view_names names.now).known) (view_type fun.now.result_ty)) }
+    requires params { IfOk params (λ made. tys (map ty_view made) ≡ rust_params (type_names (view_names names.now).known) (view_params fun.now.params)) }
+    ensures { IfOk result (λ made. ty_view made ≡ rust_pointer_form (type_names (view_names names.now).known) (view_function_type fun.now)) }
 {
-    boxed(alloc, code_type(is_record(&fun.result_ty), given?, params?)?)
+    boxed(
+        alloc,
+        code_type(is_record(&fun.result_ty), given?, params?)?,
+    )
 }
 
 // Whether a type is a structure or union.
@@ -200,7 +220,7 @@ fn in_front(first: RTy, others: Items<RTy>) -> Result<Items<RTy>, Memory>
 
 // The integer type of an enumerated type.
 fn enum_type(number: u32, names: &NameMap) -> IntegerTy
-    ensures { result ≡ (type_names (view_names names.now)).enums number }
+    ensures { result ≡ (type_names (view_names names.now).known).enums number }
 {
     match names.known(Named::Enum(number)) {
         Some(one) => integer_in(&one.ty),
@@ -219,7 +239,7 @@ fn integer_in(ty: &RTy) -> IntegerTy
 
 // The type of a structure or union.
 fn record_type(alloc: Global, number: u32, names: &NameMap) -> Result<Boxed<RTy>, Memory>
-    ensures { IfOk result (λ made. ty_view made ≡ record_or_void ((type_names (view_names names.now)).records number)) }
+    ensures { IfOk result (λ made. ty_view made ≡ record_or_void ((type_names (view_names names.now).known).records number)) }
 {
     match names.known(Named::Record(number)) {
         Some(one) => path_or_void(alloc, &one.ty),

@@ -43,7 +43,12 @@ impl Walk {
     }
 
     // One more field, which gets the first name that is free: that name.
-    fn put_field(&mut self, wanted: &Name, ty: Boxed<RTy>, names: &mut NameMap) -> Result<Name, Memory>
+    fn put_field(
+        &mut self,
+        wanted: &Name,
+        ty: Boxed<RTy>,
+        names: &mut NameMap,
+    ) -> Result<Name, Memory>
         ensures rest { OnOk result (names.new ≡ with_field_names names.old names.new.scopes.field_names) }
         ensures walk { OnOk result (view_walk names.new.scopes.field_names self.new ≡ put_field (view_walk names.old.scopes.field_names self.old) wanted.now (ty_view ty)) }
         ensures name { IfOk result (λ name. name ≡ field_name (view_walk names.old.scopes.field_names self.old) wanted.now) }
@@ -69,10 +74,16 @@ impl Walk {
     }
 
     // The field of a member that is no bit-field.
-    fn put_member(&mut self, alloc: Global, one: &Member, spot: Spot, names: &mut NameMap) -> Result<(), Memory>
+    fn put_member(
+        &mut self,
+        alloc: Global,
+        one: &Member,
+        spot: Spot,
+        names: &mut NameMap,
+    ) -> Result<(), Memory>
         ensures rest { OnOk result (names.new ≡ with_field_names names.old names.new.scopes.field_names) }
         ensures walk { OnOk result (view_walk names.new.scopes.field_names self.new ≡
-            put_member (view_walk names.old.scopes.field_names self.old) (placed_member (view_names names.old) (view_member one.now) spot)) }
+            put_member (view_walk names.old.scopes.field_names self.old) (placed_member (view_names names.old).known (view_member one.now) spot)) }
     {
         let wanted = member_name(alloc, one)?;
         let ty = rust_type(alloc, &one.ty, names)?;
@@ -87,10 +98,17 @@ impl Walk {
     }
 
     /// One more member of a structure.
-    pub(crate) fn struct_step(&mut self, alloc: Global, one: &Member, spot: Spot, names: &mut NameMap) -> Result<(), Memory>
+    #[tactic(auto, unfolding(crate::specs::Records::struct_step))]
+    pub(crate) fn struct_step(
+        &mut self,
+        alloc: Global,
+        one: &Member,
+        spot: Spot,
+        names: &mut NameMap,
+    ) -> Result<(), Memory>
         ensures rest { OnOk result (names.new ≡ with_field_names names.old names.new.scopes.field_names) }
         ensures walk { OnOk result (view_walk names.new.scopes.field_names self.new ≡
-            struct_step (view_walk names.old.scopes.field_names self.old) (placed_member (view_names names.old) (view_member one.now) spot)) }
+            struct_step (view_walk names.old.scopes.field_names self.old) (placed_member (view_names names.old).known (view_member one.now) spot)) }
     {
         match one.bits {
             Some(_) => self.reach(spot),
@@ -99,11 +117,17 @@ impl Walk {
     }
 
     // One more member of a structure that is no bit-field.
-    fn plain_step(&mut self, alloc: Global, one: &Member, spot: Spot, names: &mut NameMap) -> Result<(), Memory>
+    fn plain_step(
+        &mut self,
+        alloc: Global,
+        one: &Member,
+        spot: Spot,
+        names: &mut NameMap,
+    ) -> Result<(), Memory>
         ensures rest { OnOk result (names.new ≡ with_field_names names.old names.new.scopes.field_names) }
         ensures walk { OnOk result (view_walk names.new.scopes.field_names self.new ≡
-            filled (put_member (struct_end (view_walk names.old.scopes.field_names self.old)) (placed_member (view_names names.old) (view_member one.now) spot))
-                (spot.byte + size_of (view_names names.old) (view_member one.now).type)) }
+            filled (put_member (struct_end (view_walk names.old.scopes.field_names self.old)) (placed_member (view_names names.old).known (view_member one.now) spot))
+            (spot.byte + size_of (view_names names.old).known (view_member one.now).type)) }
     {
         let size = size_of(&one.ty, names)?;
         self.struct_end(alloc, names)?;
@@ -124,6 +148,7 @@ impl Walk {
     }
 
     /// Bit-fields at the end of a structure, or in front of a member that is none.
+    #[tactic(auto, unfolding(crate::specs::Records::struct_end))]
     pub(crate) fn struct_end(&mut self, alloc: Global, names: &mut NameMap) -> Result<(), Memory>
         ensures rest { OnOk result (names.new ≡ with_field_names names.old names.new.scopes.field_names) }
         ensures walk { OnOk result (view_walk names.new.scopes.field_names self.new ≡ struct_end (view_walk names.old.scopes.field_names self.old)) }
@@ -132,10 +157,16 @@ impl Walk {
     }
 
     /// One more member of a union.
-    pub(crate) fn union_step(&mut self, alloc: Global, one: &Member, spot: Spot, names: &mut NameMap) -> Result<(), Memory>
+    pub(crate) fn union_step(
+        &mut self,
+        alloc: Global,
+        one: &Member,
+        spot: Spot,
+        names: &mut NameMap,
+    ) -> Result<(), Memory>
         ensures rest { OnOk result (names.new ≡ with_field_names names.old names.new.scopes.field_names) }
         ensures walk { OnOk result (view_walk names.new.scopes.field_names self.new ≡
-            union_step (view_walk names.old.scopes.field_names self.old) (placed_member (view_names names.old) (view_member one.now) spot)) }
+            union_step (view_walk names.old.scopes.field_names self.old) (placed_member (view_names names.old).known (view_member one.now) spot)) }
     {
         match one.bits {
             Some(width) => self.put_bytes(alloc, whole_bytes(u64::from(width)), names),

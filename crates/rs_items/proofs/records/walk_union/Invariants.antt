@@ -9,5 +9,5 @@ use Rattle.rs_items.proofs.records.walk_union.Given as goal
 abbrev pub invariant-loop-one : goal.invariant-loop-one
 invariant-loop-one l =
     (l.names ≡ with_field_names l.initial.names l.names.scopes.field_names)
-    × (union_walk (view_walk l.names.scopes.field_names l.walk) (placed_members (view_names l.initial.names) (map view_member (drop l.one-index l.members)) l.left)
-        ≡ union_walk no_fields (placed_members (view_names l.initial.names) (map view_member l.members) l.spots))
+    × (union_walk (view_walk l.names.scopes.field_names l.walk) (placed_members (view_names l.initial.names).known (map view_member (drop l.one-index l.members)) l.left)
+    ≡ union_walk no_fields (placed_members (view_names l.initial.names).known (map view_member l.members) l.spots))

@@ -7,5 +7,5 @@ use Rattle.rs_items.proofs.types.+types.Given as goal
 
 abbrev pub invariant-param_types-loop-one : goal.invariant-param_types-loop-one
 invariant-param_types-loop-one l =
-    map ty_view l.made ++ map (λ one. param_type (type_names (view_names l.names)) (view_type one)) (drop l.one-index l.types)
-    ≡ map (λ one. param_type (type_names (view_names l.names)) (view_type one)) l.types
+    map ty_view l.made ++ map (λ one. param_type (type_names (view_names l.names).known) (view_type one)) (drop l.one-index l.types)
+    ≡ map (λ one. param_type (type_names (view_names l.names).known) (view_type one)) l.types
