@@ -184,10 +184,6 @@ count_of (one ∷ others) = suc (count_of others)
 abbrev pub names_of_body : NamedProgram → CFun → WrittenBody → List LocalName
 names_of_body program fun body = local_names program.program fun (count_of body.temporaries)
 
-abbrev pub local_named : Option (List ℕ) → Ty → List LocalTree
-local_named None ty = []
-local_named (Some name) ty = record { name = name; ty = ty } ∷ []
-
 abbrev pub type_of_object : NamedProgram → Option CObject → Ty
 type_of_object program None = Void
 type_of_object program (Some one) = rust_type (types_of program) one.type
@@ -195,32 +191,43 @@ type_of_object program (Some one) = rust_type (types_of program) one.type
 abbrev pub is_param : List ℕ → ℕ → Bool
 is_param params number = list_any (λ other. other == number) params
 
+abbrev pub named : List ℕ → Ty → List LocalTree
+named name ty = record { name = name; ty = ty } ∷ []
+
+abbrev pub result_param : NamedProgram → List ℕ → Option CTy → List LocalTree
+result_param program name None = []
+result_param program name (Some result) = named name (Pointer (rust_type (types_of program) result))
+
+-- an object is a parameter of the crate's function, too: it isn't a structure or union, which is passed by a pointer
+abbrev pub is_plain_param : NamedProgram → CFun → ℕ → Bool
+is_plain_param program fun number = is_param fun.params number && not (object_is_record (object_with number program.program.objects))
+
+abbrev pub object_local : NamedProgram → List ℕ → ℕ → List LocalTree
+object_local program name number = named name (type_of_object program (object_with number program.program.objects))
+
 -- the parameter that a key is: the place of the result, the pointer to a structure or union that is passed, or a parameter with a scalar type
+abbrev pub param_by : NamedProgram → CFun → List ℕ → LocalKey → List LocalTree
+param_by program fun name a_result = result_param program name (result_of_form (form_of_type fun.type))
+param_by program fun name (a_passed number) = named name (Pointer (type_of_object program (object_with number program.program.objects)))
+param_by program fun name (a_local number) = if is_plain_param program fun number then object_local program name number else []
+param_by program fun name (a_temporary number) = []
+
 abbrev pub param_of : NamedProgram → CFun → LocalName → List LocalTree
-param_of program fun one = elim one.key as (λ _. List LocalTree) [
-  | a_result ↦ elim result_of_form (form_of_type fun.type) as (λ _. List LocalTree) [
-    | None ↦ []
-    | Some result ↦ record { name = one.name; ty = Pointer (rust_type (types_of program) result) } ∷ []
-  ]
-  | a_passed number ↦ record { name = one.name; ty = Pointer (type_of_object program (object_with number program.program.objects)) } ∷ []
-  | a_local number ↦ if is_param fun.params number && not (object_is_record (object_with number program.program.objects))
-    then record { name = one.name; ty = type_of_object program (object_with number program.program.objects) } ∷ [] else []
-  | a_temporary number ↦ []
-]
+param_of program fun one = param_by program fun one.name one.key
 
 abbrev pub temporary_named : List ℕ → Option Ty → List LocalTree
 temporary_named name None = []
-temporary_named name (Some ty) = record { name = name; ty = ty } ∷ []
+temporary_named name (Some ty) = named name ty
 
 -- the local that a key is
+abbrev pub local_by : NamedProgram → CFun → WrittenBody → List ℕ → LocalKey → List LocalTree
+local_by program fun body name a_result = []
+local_by program fun body name (a_passed number) = []
+local_by program fun body name (a_local number) = if is_plain_param program fun number then [] else object_local program name number
+local_by program fun body name (a_temporary number) = temporary_named name (slice_get body.temporaries number)
+
 abbrev pub local_of : NamedProgram → CFun → WrittenBody → LocalName → List LocalTree
-local_of program fun body one = elim one.key as (λ _. List LocalTree) [
-  | a_result ↦ []
-  | a_passed number ↦ []
-  | a_local number ↦ if is_param fun.params number && not (object_is_record (object_with number program.program.objects)) then []
-    else record { name = one.name; ty = type_of_object program (object_with number program.program.objects) } ∷ []
-  | a_temporary number ↦ temporary_named one.name (slice_get body.temporaries number)
-]
+local_of program fun body one = local_by program fun body one.name one.key
 
 -- where the function goes on, by a number
 abbrev pub dispatch_local : Bool → List LocalTree
