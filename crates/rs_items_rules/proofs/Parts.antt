@@ -1,16 +1,18 @@
 -- The members of a structure or union beside how they are laid out.
-use Rattle.std.proofs.Common.{◌≡◌, ℕ, ◌+◌, ◌*◌, ◌≤◌, ◌<◌, Bool, List, [], ◌∷◌, ◌++◌, Option, None, Some, is_some, max, arith, refl, ap, ◌∙◌}
+use Rattle.std.proofs.Common.{◌≡◌, ℕ, ◌+◌, ◌*◌, ◌≤◌, ◌<◌, Bool, true, false, nat_lt, codes, if◌then◌else◌, List, [], ◌∷◌, ◌++◌, Option, None, Some, is_some, max, arith, refl, ap, ◌∙◌}
+use Rattle.std.proofs.lemmas.Bool.Decides.{nat_tests}
 use Rattle.cr_base.specs.declared.layout.Front.{Front}
 use Rattle.cr_base.specs.declared.layout.Laid.{Laid}
 use Rattle.cr_base.specs.declared.layout.Piece.{Piece}
 use Rattle.cr_base.specs.declared.layout.Piece.TheVariants.{Plain, Bits}
-use Rattle.cr_base.specs.Layout.{after}
+use Rattle.cr_base.specs.Layout.{after, most_bytes}
 use Rattle.cx_core.specs.Trees.{CMember, CTy}
 use Rattle.rs_items.specs.Known.{Knows}
-use Rattle.rs_items.specs.Records.{FieldsWalk, put_field}
-use Rattle.rs_items_rules.specs.Agree.{Agrees}
-use Rattle.rs_mean.specs.Layout.{behind, front_after, piece_of}
-use Rattle.rs_text.specs.Tree.{FieldTree, Ty}
+use Rattle.rs_items.specs.Records.{FieldsWalk, put_bytes, put_field}
+use Rattle.rs_items_rules.specs.Agree.{Agrees, Records}
+use Rattle.rs_mean.specs.Layout.{behind, even, front_after, laid_with, piece_of, repeated}
+use Rattle.rs_text.specs.Tree.{Array, FieldTree, Integer, Ty}
+use Rattle.rs_text.specs.declared.integer.IntegerTy.TheVariants.{U8}
 
 abbrev pub member : Option (List ℕ) → CTy → Option ℕ → CMember
 member name type bits = record { name = name; type = type; bits = bits }
@@ -47,3 +49,23 @@ pub put_behind : (layout : Ty → Option Laid) (begun : Option Front) (walk : Fi
     → front_after layout begun walk.fields ≡ Some taken → layout given ≡ Some laid → front_after layout begun (put_field walk wanted given).fields ≡ Some (after taken (piece_of laid))
 put_behind layout begun walk wanted given laid taken fields is =
     front_last layout begun walk.fields _ ∙ ap (λ one. behind one (front_after layout begun walk.fields)) is ∙ ap (λ all. behind (Some laid) all) fields
+
+bytes_laid : (count : ℕ) → 0 < count → count ≤ most_bytes → repeated count (even 1) ≡ Some (record { size = count; align = 1 })
+bytes_laid count some few = grind (arith, nat_tests, some, few)
+
+-- bytes stand behind the other fields
+pub bytes_behind : (records : Records) (begun : Option Front) (walk : FieldsWalk) (count : ℕ) (taken next : Front) → front_after (laid_with records) begun walk.fields ≡ Some taken
+    → count ≤ most_bytes → (0 < count → after taken (Plain count 1) ≡ next) → (count ≡ 0 → taken ≡ next) → front_after (laid_with records) begun (put_bytes walk count).fields ≡ Some next
+bytes_behind records begun walk count taken next fields few put same = by_test (nat_lt 0 count) refl
+  where
+    told : (r : Bool) → nat_lt 0 count ≡ r
+        → front_after (laid_with records) begun (put_bytes walk count).fields
+        ≡ front_after (laid_with records) begun (if r then put_field walk (codes "bits") (Array (Integer U8) count) else walk).fields
+    told r test = ap (λ (t : Bool). front_after (laid_with records) begun (if t then put_field walk (codes "bits") (Array (Integer U8) count) else walk).fields) test
+    by_test : (r : Bool) → nat_lt 0 count ≡ r → front_after (laid_with records) begun (put_bytes walk count).fields ≡ Some next
+    by_test true test =
+        let some : 0 < count = grind (arith, nat_tests, test) in
+        told true test
+        ∙ put_behind (laid_with records) begun walk (codes "bits") (Array (Integer U8) count) (record { size = count; align = 1 }) taken fields (bytes_laid count some few)
+        ∙ ap Some (put some)
+    by_test false test = told false test ∙ fields ∙ ap Some (same (grind (arith, nat_tests, test)))

@@ -1,6 +1,5 @@
 -- The record of a structure is laid out as the structure.
 use Rattle.std.proofs.Common.{◌≡◌, ℕ, zero, suc, ◌+◌, ◌-◌, ◌*◌, ◌/◌, ◌%◌, ◌≤◌, ◌<◌, Bool, true, false, nat_lt, nat_le, if◌then◌else◌, List, [], ◌∷◌, Option, None, Some, is_some, codes, max, arith, refl, sym, ap, ◌∙◌}
-use Rattle.std.proofs.lemmas.Bool.Decides.{nat_tests}
 use Rattle.std.specs.Int.{next_multiple_of}
 use Rattle.cr_base.proofs.Layouts.{taken_grows}
 use Rattle.cr_base.specs.declared.layout.Front.{Front}
@@ -10,20 +9,16 @@ use Rattle.cr_base.specs.declared.layout.Piece.TheVariants.{Plain, Bits}
 use Rattle.cr_base.specs.Layout.{after, after_all, bits_start, most_bytes, no_front, spot, spots_behind, spots_of}
 use Rattle.cx_core.specs.Trees.{CMember, CTy}
 use Rattle.rs_items.specs.Known.{Knows}
-use Rattle.rs_items.specs.Records.{FieldsWalk, member_name, no_fields, placed_member, placed_members, put_bytes, put_field, size_of, struct_end, struct_step, struct_walk, whole_bytes}
+use Rattle.rs_items.specs.Records.{FieldsWalk, member_name, no_fields, placed_member, placed_members, put_bytes, size_of, struct_end, struct_step, struct_walk, whole_bytes}
 use Rattle.rs_items.specs.Types.{rust_type, type_names}
-use Rattle.rs_items_rules.proofs.Parts.{Parts, front, member, plain_align, plain_align_some, put_behind}
+use Rattle.rs_items_rules.proofs.Parts.{Parts, bytes_behind, front, member, plain_align, plain_align_some, put_behind}
 use Rattle.rs_items_rules.proofs.Parts.Parts.{no_part, plain_part, bits_part}
 use Rattle.rs_items_rules.proofs.Rounds.{bits_above, same_up, up, whole_high, whole_low}
 use Rattle.rs_items_rules.specs.Agree.{Agrees, Records}
-use Rattle.rs_mean.specs.Layout.{even, front_after, laid_with, piece_of, repeated}
-use Rattle.rs_text.specs.Tree.{Array, Integer, Ty}
-use Rattle.rs_text.specs.declared.integer.IntegerTy.TheVariants.{U8}
+use Rattle.rs_mean.specs.Layout.{front_after, laid_with}
+use Rattle.rs_text.specs.Tree.{Ty}
 
 module _ (known : Knows) (records : Records) where
-  bytes_laid : (count : ℕ) → 0 < count → count ≤ most_bytes → repeated count (even 1) ≡ Some (record { size = count; align = 1 })
-  bytes_laid count some few = grind (arith, nat_tests, some, few)
-
   -- fields in front that take so many bytes, one behind the other
   abbrev FieldsTake : FieldsWalk → (taken align : ℕ) → Type 0
   FieldsTake walk taken align = front_after (laid_with records) (Some (no_front false)) walk.fields ≡ Some (front false (8 * taken) align)
@@ -36,20 +31,10 @@ module _ (known : Knows) (records : Records) where
 
   -- bytes are put behind the others
   bytes_take : (walk : FieldsWalk) (taken count align : ℕ) → FieldsTake walk taken align → 1 ≤ align → count ≤ most_bytes → FieldsTake (put_bytes walk count) (taken + count) align
-  bytes_take walk taken count align fields low few = by_test (nat_lt 0 count) refl
-    where
-      by_test : (r : Bool) → nat_lt 0 count ≡ r → FieldsTake (put_bytes walk count) (taken + count) align
-      by_test true test =
-          let some : 0 < count = grind (arith, nat_tests, test) in
-          ap (λ (r : Bool). front_after (laid_with records) (Some (no_front false)) (if r then put_field walk (codes "bits") (Array (Integer U8) count) else walk).fields) test
-          ∙ put_behind (laid_with records) (Some (no_front false)) walk (codes "bits") (Array (Integer U8) count) (record { size = count; align = 1 }) (front false (8 * taken) align)
-              fields (bytes_laid count some few)
-          ∙ ap Some (after_bytes taken count align some low)
-      by_test false test =
-          let none_more : count ≡ 0 = grind (arith, nat_tests, test) in
-          let whole : 8 * taken ≡ 8 * (taken + count) = omega (arith, none_more) in
-          ap (λ (r : Bool). front_after (laid_with records) (Some (no_front false)) (if r then put_field walk (codes "bits") (Array (Integer U8) count) else walk).fields) test
-          ∙ fields ∙ ap (λ n. Some (front false n align)) whole
+  bytes_take walk taken count align fields low few =
+      bytes_behind records (Some (no_front false)) walk count (front false (8 * taken) align) (front false (8 * (taken + count)) align) fields few
+      (λ some. after_bytes taken count align some low)
+      (λ none. let whole : 8 * taken ≡ 8 * (taken + count) = omega (arith, none) in ap (λ n. front false n align) whole)
 
   -- where a walk over the members of a structure stands: bit-fields reach over whole bytes
   record StandsAt (walk : FieldsWalk) (bits align : ℕ) : Type 0 where
