@@ -6,7 +6,7 @@ use Rattle.std.specs.Option.{option_and_then}
 use Rattle.cr_base.specs.declared.layout.Laid.{Laid}
 use Rattle.cr_base.specs.Layout.{most_bytes}
 use Rattle.cx_core.specs.Conversions.{width_of_basic}
-use Rattle.cx_core.specs.Layouts.{CLayouts, CRow, bytes, elements, row_at, whole_extent, whole_extent_of}
+use Rattle.cx_core.specs.Layouts.{CLayouts, CRow, bytes, elements, extent, row_at, whole_extent, whole_extent_of, within_most as within_bound}
 use Rattle.cx_core.specs.Trees.{CTy, ty, CTyForm, void, basic, enum_type, pointer, array, record_type, function}
 use Rattle.cx_core.specs.declared.ty.Basic.{Basic}
 use Rattle.cx_core.specs.declared.ty.Basic.TheVariants.{Truth, Char, SignedChar, UnsignedChar, Short, UnsignedShort, Int, Unsigned, Long, UnsignedLong, LongLong, UnsignedLongLong}
@@ -112,3 +112,18 @@ module _ (known : Knows) (records : Records) where
               let whole : row.laid ≡ laid = cc in
               subst (Fits (ty (record_type number) q)) whole (record_fits number q row.laid (kept.kept number row found))
       form_fits (function given params variadic) q laid is few = cc
+
+    -- what isn't too large
+    pub complete_fits : (type : CTy) (laid : Laid) → extent layouts type ≡ Some laid → Fits type laid
+    complete_fits type laid is = by_whole (whole_extent layouts type) refl is
+      where
+        by_test : (one : Laid) → whole_extent layouts type ≡ Some one → (r : Bool) → nat_le one.size most_bytes ≡ r → (if r then Some one else None) ≡ Some laid → Fits type laid
+        by_test one found true test same =
+            let few : one.size ≤ most_bytes = grind (arith, nat_tests, test) in
+            let the_same : one ≡ laid = cc in
+            subst (Fits type) the_same (type_fits type one found few)
+        by_test one found false test same = cc
+        by_whole : (found : Option Laid) → whole_extent layouts type ≡ found → option_and_then within_bound found ≡ Some laid → Fits type laid
+        by_whole None found same = cc
+        by_whole (Some one) found same =
+            by_test one found (nat_le one.size most_bytes) refl same

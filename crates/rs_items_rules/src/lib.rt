@@ -4,4 +4,4 @@
 
 mod laws;
 
-pub use laws::records_agree;
+pub use laws::{records_agree, types_agree};
