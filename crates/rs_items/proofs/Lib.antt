@@ -1,8 +1,8 @@
 mod Aligns
-mod FirstFree
+pub mod FirstFree
 mod Found
 mod Kept
 mod Pigeons
-mod Several
+pub mod Several
 mod Taken
 mod TypeLists

@@ -1,5 +1,7 @@
 pub mod Aligns
+pub mod Found
 pub mod Parts
+pub mod Places
 pub mod Rounds
 pub mod Rows
 pub mod Structs

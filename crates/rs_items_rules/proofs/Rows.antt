@@ -1,5 +1,5 @@
 -- The record of a structure or union is laid out as the structure or union.
-use Rattle.std.proofs.Common.{◌≡◌, ℕ, zero, suc, ◌+◌, ◌*◌, ◌/◌, ◌≤◌, ◌<◌, Bool, true, false, nat_le, if◌then◌else◌, List, [], ◌∷◌, Option, None, Some, option_map, is_some, max, arith, refl, sym, ap, ◌∙◌, subst}
+use Rattle.std.proofs.Common.{◌≡◌, ℕ, zero, suc, ◌+◌, ◌*◌, ◌/◌, ◌≤◌, ◌<◌, Bool, true, false, nat_le, if◌then◌else◌, List, [], ◌∷◌, length, ◌^◌, Option, None, Some, option_map, is_some, max, arith, refl, sym, ap, ◌∙◌, subst}
 use Rattle.std.proofs.lemmas.Bool.Decides.{nat_tests}
 use Rattle.std.proofs.Math.Nat.{suc-mul}
 use Rattle.std.specs.Int.{next_multiple_of}
@@ -15,11 +15,13 @@ use Rattle.cx_core.specs.Layouts.{CLayouts, CRow, bytes, elements, piece, pieces
 use Rattle.cx_core.specs.Conversions.{width_of_basic}
 use Rattle.cx_core.specs.Trees.{CMember, CRecord, CTy, ty, CTyForm, void, basic, enum_type, pointer, array, record_type, function}
 use Rattle.rs_items.specs.Known.{Knows}
-use Rattle.rs_items.specs.Records.{FieldsWalk, has_named_bits, placed_members, raised_to, record_name, record_tree, record_walk, whole_bytes}
+use Rattle.rs_items.specs.Records.{FieldsWalk, fields_walk, has_named_bits, placed_members, raised_to, record_name, record_tree, record_walk, whole_bytes}
 use Rattle.rs_items.specs.declared.known.Named.TheVariants.{Record as RecordNamed}
 use Rattle.rs_items_rules.proofs.Aligns.{least_below, raised_align, rust_below, same_align}
 use Rattle.rs_items_rules.proofs.Parts.{Parts, front, member, plain_align}
 use Rattle.rs_items_rules.proofs.Parts.Parts.{no_part, plain_part, bits_part}
+use Rattle.rs_items_rules.proofs.Found.{AllStand, names_in}
+use Rattle.rs_items_rules.proofs.Places.{placed_fewer, walk_named, walk_stands}
 use Rattle.rs_items_rules.proofs.Rounds.{same_up, up, whole_high, whole_low}
 use Rattle.rs_items_rules.proofs.Structs.{struct_takes}
 use Rattle.rs_items_rules.proofs.Types.{basic_fits, type_fits}
@@ -27,6 +29,7 @@ use Rattle.rs_items_rules.proofs.Unions.{union_takes}
 use Rattle.rs_items_rules.specs.Agree.{Agrees, AreKept, Records}
 use Rattle.rs_mean.specs.Layout.{front_after, laid_with, raised_by, record_laid, within_most}
 use Rattle.rs_text.specs.Tree.{RecordTree}
+use Rattle.rs_text.specs.Valid.{all_differ}
 
 -- whole bytes are rounded up as the bits in them
 rounded_same : (is_union : Bool) (bits align : ℕ) → 0 < align → laid_front (front is_union (8 * whole_bytes bits) align) ≡ laid_front (front is_union bits align)
@@ -172,3 +175,30 @@ module _ (known : Knows) (records : Records) where
 
     pub row_laid : (one : CRecord) (row : CRow) → row_of layouts one ≡ Some row → IsLaidAs one row
     row_laid one row is = by_pieces one row (pieces_of layouts one.members) refl is
+
+    -- ---- fields
+
+    abbrev pub HasPlaces : CRecord → CRow → Type 0
+    HasPlaces one row = AllStand (laid_with records) one.is_union (fields_walk known one row.spots)
+
+    places_by_laid : (one : CRecord) (row : CRow) (pieces : List Piece) → 2 * length one.members + 4 < 2 ^ 64 → pieces_of layouts one.members ≡ Some pieces → (found : Option Laid)
+        → laid_record one.is_union pieces ≡ found → option_map (λ (laid : Laid). row_with laid (spots_of one.is_union pieces)) found ≡ Some row → HasPlaces one row
+    places_by_laid one row pieces short are None found is = cc
+    places_by_laid one row pieces short are (Some own) found is =
+        let same : row_with own (spots_of one.is_union pieces) ≡ row = cc in
+        let layout = has_layout one.is_union pieces own found in
+        let few = few_bits one.is_union pieces layout.test in
+        subst (HasPlaces one) same (walk_stands known records one.is_union (parts_of one.members pieces (no_front one.is_union) are few) few short)
+
+    places_by_pieces : (one : CRecord) (row : CRow) → 2 * length one.members + 4 < 2 ^ 64 → (found : Option (List Piece)) → pieces_of layouts one.members ≡ found
+        → option_and_then (row_of_pieces one.is_union) found ≡ Some row → HasPlaces one row
+    places_by_pieces one row short None found is = cc
+    places_by_pieces one row short (Some pieces) found is = places_by_laid one row pieces short found (laid_record one.is_union pieces) refl is
+
+    pub fields_stand : (one : CRecord) (row : CRow) → row_of layouts one ≡ Some row → 2 * length one.members + 4 < 2 ^ 64 → HasPlaces one row
+    fields_stand one row is short = places_by_pieces one row short (pieces_of layouts one.members) refl is
+
+pub fields_differ : (known : Knows) (one : CRecord) (spots : List Spot) (align : ℕ) → 2 * length one.members + 4 < 2 ^ 64 → all_differ (names_in (record_tree known one spots align).fields) ≡ true
+fields_differ known one spots align short =
+    let named = walk_named one.is_union (placed_members known one.members spots) (length one.members) (placed_fewer known one.members spots) short in
+    ap all_differ named.names ∙ named.differ

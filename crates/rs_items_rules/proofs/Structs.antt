@@ -20,7 +20,7 @@ use Rattle.rs_text.specs.Tree.{Ty}
 
 module _ (known : Knows) (records : Records) where
   -- fields in front that take so many bytes, one behind the other
-  abbrev FieldsTake : FieldsWalk → (taken align : ℕ) → Type 0
+  abbrev pub FieldsTake : FieldsWalk → (taken align : ℕ) → Type 0
   FieldsTake walk taken align = front_after (laid_with records) (Some (no_front false)) walk.fields ≡ Some (front false (8 * taken) align)
 
   after_bytes : (taken count align : ℕ) → 0 < count → 1 ≤ align → after (front false (8 * taken) align) (Plain count 1) ≡ front false (8 * (taken + count)) align
@@ -37,12 +37,12 @@ module _ (known : Knows) (records : Records) where
       (λ none. let whole : 8 * taken ≡ 8 * (taken + count) = omega (arith, none) in ap (λ n. front false n align) whole)
 
   -- where a walk over the members of a structure stands: bit-fields reach over whole bytes
-  record StandsAt (walk : FieldsWalk) (bits align : ℕ) : Type 0 where
+  pub record StandsAt (walk : FieldsWalk) (bits align : ℕ) : Type 0 where
     pub fields : FieldsTake walk walk.taken align
     pub due : walk.due ≡ whole_bytes bits
     pub order : walk.taken ≤ walk.due
 
-  end_takes : (walk : FieldsWalk) (bits align : ℕ) → StandsAt walk bits align → 1 ≤ align → bits ≤ 8 * most_bytes → FieldsTake (struct_end walk) (whole_bytes bits) align
+  pub end_takes : (walk : FieldsWalk) (bits align : ℕ) → StandsAt walk bits align → 1 ≤ align → bits ≤ 8 * most_bytes → FieldsTake (struct_end walk) (whole_bytes bits) align
   unfolding struct_end
   end_takes walk bits align at low few =
       let due = at.due in
@@ -70,7 +70,7 @@ module _ (known : Knows) (records : Records) where
       let low = round.low in
       omega (arith, is, low)
 
-  plain_within : (bits size own : ℕ) → bits ≤ max bits (next_multiple_of bits (8 * own) + 8 * size)
+  pub plain_within : (bits size own : ℕ) → bits ≤ max bits (next_multiple_of bits (8 * own) + 8 * size)
   plain_within bits size own = omega arith
 
   bits_due : (bits begins width : ℕ) → bits ≤ begins → begins / 8 + whole_bytes (begins % 8 + width) ≡ whole_bytes (max bits (begins + width))
@@ -79,11 +79,11 @@ module _ (known : Knows) (records : Records) where
   whole_grows : (first second : ℕ) → first ≤ second → whole_bytes first ≤ whole_bytes second
   whole_grows first second low = omega (arith, low)
 
-  later : (piece : Piece) (pieces : List Piece) (at : Front) → (after_all at (piece ∷ pieces)).bits ≤ 8 * most_bytes → (after at piece).bits ≤ 8 * most_bytes
+  pub later : (piece : Piece) (pieces : List Piece) (at : Front) → (after_all at (piece ∷ pieces)).bits ≤ 8 * most_bytes → (after at piece).bits ≤ 8 * most_bytes
   later piece pieces at few = let more = taken_grows pieces (after at piece) in omega (arith, few, more)
 
   -- a member that is no bit-field stands behind the bit-fields in front of it
-  plain_step : (walk : FieldsWalk) (bits all align : ℕ) (name : Option (List ℕ)) (type : CTy) (own : Laid) → Agrees known (laid_with records) type own → 1 ≤ align
+  pub plain_step : (walk : FieldsWalk) (bits all align : ℕ) (name : Option (List ℕ)) (type : CTy) (own : Laid) → Agrees known (laid_with records) type own → 1 ≤ align
       → StandsAt walk bits align → (after (front false bits all) (Plain own.size own.align)).bits ≤ 8 * most_bytes
       → StandsAt (struct_step walk (placed_member known (member name type None) (spot (front false bits all) (Plain own.size own.align))))
           (after (front false bits all) (Plain own.size own.align)).bits (max align own.align)
@@ -104,7 +104,7 @@ module _ (known : Knows) (records : Records) where
       }
 
   -- a bit-field reaches over the bytes in which it stands
-  bits_step : (walk : FieldsWalk) (bits all align : ℕ) (name : Option (List ℕ)) (type : CTy) (width size : ℕ) → StandsAt walk bits align
+  pub bits_step : (walk : FieldsWalk) (bits all align : ℕ) (name : Option (List ℕ)) (type : CTy) (width size : ℕ) → StandsAt walk bits align
       → StandsAt (struct_step walk (placed_member known (member name type (Some width)) (spot (front false bits all) (Bits size width (is_some name)))))
           (after (front false bits all) (Bits size width (is_some name))).bits align
   unfolding struct_step
@@ -130,7 +130,7 @@ module _ (known : Knows) (records : Records) where
       (after (front false bits all) (Bits size width (is_some name))).bits (after (front false bits all) (Bits size width (is_some name))).align align low
       (bits_step walk bits all align name type width size at) few
 
-  begun : StandsAt no_fields 0 1
+  pub begun : StandsAt no_fields 0 1
   begun = record { fields = refl; due = omega arith; order = omega arith }
 
   -- all fields of a structure

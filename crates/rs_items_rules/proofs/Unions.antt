@@ -20,7 +20,7 @@ module _ (known : Knows) (records : Records) where
   abbrev pub UnionTakes : FieldsWalk → (bits align : ℕ) → Type 0
   UnionTakes walk bits align = front_after (laid_with records) (Some (no_front true)) walk.fields ≡ Some (front true (8 * whole_bytes bits) align)
 
-  bits_step : (walk : FieldsWalk) (bits all align width size : ℕ) (is_named : Bool) → UnionTakes walk bits align → 1 ≤ align
+  pub bits_step : (walk : FieldsWalk) (bits all align width size : ℕ) (is_named : Bool) → UnionTakes walk bits align → 1 ≤ align
       → (after (front true bits all) (Bits size width is_named)).bits ≤ 8 * most_bytes → UnionTakes (put_bytes walk (whole_bytes width)) (max bits (0 + width)) align
   bits_step walk bits all align width size is_named fields low few =
       bytes_behind records (Some (no_front true)) walk (whole_bytes width) (front true (8 * whole_bytes bits) align) (front true (8 * whole_bytes (max bits (0 + width))) align) fields
@@ -31,14 +31,14 @@ module _ (known : Knows) (records : Records) where
           ap (λ n. front true n (max align 1)) ends ∙ ap (λ n. front true (8 * whole_bytes (max bits (0 + width))) n) greatest)
       (λ none. let whole : 8 * whole_bytes bits ≡ 8 * whole_bytes (max bits (0 + width)) = omega (arith, none) in ap (λ n. front true n align) whole)
 
-  plain_step : (walk : FieldsWalk) (bits align : ℕ) (name : Option (List ℕ)) (type : CTy) (own : Laid) → Agrees known (laid_with records) type own → UnionTakes walk bits align
+  pub plain_step : (walk : FieldsWalk) (bits align : ℕ) (name : Option (List ℕ)) (type : CTy) (own : Laid) → Agrees known (laid_with records) type own → UnionTakes walk bits align
       → UnionTakes (union_step walk (placed_member known (member name type None) (spot (front true bits align) (Plain own.size own.align)))) (max bits (0 + 8 * own.size)) (max align own.align)
   plain_step walk bits align name type own agrees fields =
       let ends : max (8 * whole_bytes bits) (0 + 8 * own.size) ≡ 8 * whole_bytes (max bits (0 + 8 * own.size)) = omega arith in
       put_behind (laid_with records) (Some (no_front true)) walk (member_name name) (rust_type (type_names known) type) own (front true (8 * whole_bytes bits) align) fields agrees.rust
       ∙ ap (λ n. Some (front true n (max align own.align))) ends
 
-  later : (piece : Piece) (pieces : List Piece) (at : Front) → (after_all at (piece ∷ pieces)).bits ≤ 8 * most_bytes → (after at piece).bits ≤ 8 * most_bytes
+  pub later : (piece : Piece) (pieces : List Piece) (at : Front) → (after_all at (piece ∷ pieces)).bits ≤ 8 * most_bytes → (after at piece).bits ≤ 8 * most_bytes
   later piece pieces at few = let more = taken_grows pieces (after at piece) in omega (arith, few, more)
 
   union_parts : {members : List CMember} {pieces : List Piece} → Parts known (laid_with records) members pieces → (walk : FieldsWalk) (bits all align : ℕ) → 1 ≤ align → UnionTakes walk bits align

@@ -1,4 +1,4 @@
-ghost use Rattle.rs_items_rules.specs.LawsRecords.{RecordsAgree, TypesAgree};
+ghost use Rattle.rs_items_rules.specs.LawsRecords.{FieldsStand, RecordsAgree, TypesAgree};
 
 /// Law: the Rust type of a complete type has its size and alignment.
 pub fn types_agree()
@@ -8,4 +8,9 @@ pub fn types_agree()
 /// Law: the record of a structure or union has its size and alignment.
 pub fn records_agree()
     ensures { RecordsAgree }
+{}
+
+/// Law: each member that is no bit-field has a field of its own name, which stands where the member stands.
+pub fn fields_stand()
+    ensures { FieldsStand }
 {}

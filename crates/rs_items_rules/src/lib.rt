@@ -4,4 +4,4 @@
 
 mod laws;
 
-pub use laws::{records_agree, types_agree};
+pub use laws::{fields_stand, records_agree, types_agree};
