@@ -27,17 +27,22 @@ same_name : (name : List ℕ) → bytes_eq name name ≡ true
 same_name name = (bytes_eq-Decides name name).1 refl
 
 module _ (layout : Ty → Option Laid) where
+  stays_by : (name : List ℕ) (begun : Option Front) (first : FieldTree) (fields more : List FieldTree) (place : FieldPlace)
+      → (field_behind layout name (behind (layout first.ty) begun) fields ≡ Some place → field_behind layout name (behind (layout first.ty) begun) more ≡ Some place)
+      → (r : Bool) → bytes_eq first.name name ≡ r → field_behind layout name begun (first ∷ fields) ≡ Some place → field_behind layout name begun (first ∷ more) ≡ Some place
+  stays_by name begun first fields more place others true test is =
+      ap (λ t. if t then option_and_then (λ taken. placed (layout first.ty) taken first) begun else field_behind layout name (behind (layout first.ty) begun) more) test
+      ∙ (sym (ap (λ t. if t then option_and_then (λ taken. placed (layout first.ty) taken first) begun else field_behind layout name (behind (layout first.ty) begun) fields) test) ∙ is)
+  stays_by name begun first fields more place others false test is =
+      ap (λ t. if t then option_and_then (λ taken. placed (layout first.ty) taken first) begun else field_behind layout name (behind (layout first.ty) begun) more) test
+      ∙ others (sym (ap (λ t. if t then option_and_then (λ taken. placed (layout first.ty) taken first) begun else field_behind layout name (behind (layout first.ty) begun) fields) test) ∙ is)
+
   -- what was found is found with more fields behind it
   pub found_stays : (name : List ℕ) (begun : Option Front) (fields : List FieldTree) (last : FieldTree) (place : FieldPlace) → field_behind layout name begun fields ≡ Some place
       → field_behind layout name begun (fields ++ last ∷ []) ≡ Some place
   found_stays name begun [] last place is = cc
-  found_stays name begun (first ∷ fields) last place is = by_test (bytes_eq first.name name) refl
-    where
-      told : List FieldTree → Bool → Option FieldPlace
-      told list t = if t then option_and_then (λ taken. placed (layout first.ty) taken first) begun else field_behind layout name (behind (layout first.ty) begun) list
-      by_test : (r : Bool) → bytes_eq first.name name ≡ r → told (fields ++ last ∷ []) (bytes_eq first.name name) ≡ Some place
-      by_test true test = ap (told (fields ++ last ∷ [])) test ∙ (sym (ap (told fields) test) ∙ is)
-      by_test false test = ap (told (fields ++ last ∷ [])) test ∙ found_stays name (behind (layout first.ty) begun) fields last place (sym (ap (told fields) test) ∙ is)
+  found_stays name begun (first ∷ fields) last place is =
+      stays_by name begun first fields (fields ++ last ∷ []) place (found_stays name (behind (layout first.ty) begun) fields last place) (bytes_eq first.name name) refl is
 
   not_first : (a b : Bool) → (a || b) ≡ false → a ≡ false
   not_first true b e = e
