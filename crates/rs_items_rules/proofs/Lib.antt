@@ -1,4 +1,5 @@
 pub mod Aligns
+pub mod Covered
 pub mod Found
 pub mod Parts
 pub mod Places

@@ -50,7 +50,7 @@ pub put_behind : (layout : Ty → Option Laid) (begun : Option Front) (walk : Fi
 put_behind layout begun walk wanted given laid taken fields is =
     front_last layout begun walk.fields _ ∙ ap (λ one. behind one (front_after layout begun walk.fields)) is ∙ ap (λ all. behind (Some laid) all) fields
 
-bytes_laid : (count : ℕ) → 0 < count → count ≤ most_bytes → repeated count (even 1) ≡ Some (record { size = count; align = 1 })
+pub bytes_laid : (count : ℕ) → 0 < count → count ≤ most_bytes → repeated count (even 1) ≡ Some (record { size = count; align = 1 })
 bytes_laid count some few = grind (arith, nat_tests, some, few)
 
 -- bytes stand behind the other fields

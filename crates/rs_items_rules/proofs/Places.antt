@@ -28,7 +28,7 @@ use Rattle.rs_text.specs.declared.integer.IntegerTy.TheVariants.{U8}
 
 -- ---- names
 
-bytes_named : (walk : FieldsWalk) (count left : ℕ) → AreNamed walk (1 + left) → AreNamed (put_bytes walk count) left
+pub bytes_named : (walk : FieldsWalk) (count left : ℕ) → AreNamed walk (1 + left) → AreNamed (put_bytes walk count) left
 bytes_named walk count left named = by_test (nat_lt 0 count)
   where
     by_test : (r : Bool) → AreNamed (if r then put_field walk (codes "bits") (Array (Integer U8) count) else walk) left
@@ -40,11 +40,11 @@ member_named walk one left named =
     let more = named_more walk (member_name one.name) one.ty left named in
     record { names = more.names; differ = more.differ; few = more.few }
 
-end_named : (walk : FieldsWalk) (left : ℕ) → AreNamed walk (1 + left) → AreNamed (struct_end walk) left
+pub end_named : (walk : FieldsWalk) (left : ℕ) → AreNamed walk (1 + left) → AreNamed (struct_end walk) left
 unfolding struct_end
 end_named walk left named = bytes_named walk (walk.due - walk.taken) left named
 
-step_named : (walk : FieldsWalk) (one : PlacedMember) (left : ℕ) → AreNamed walk (1 + (1 + left)) → AreNamed (struct_step walk one) left
+pub step_named : (walk : FieldsWalk) (one : PlacedMember) (left : ℕ) → AreNamed walk (1 + (1 + left)) → AreNamed (struct_step walk one) left
 unfolding struct_step
 step_named walk one left named = by_bits one.bits
   where
@@ -56,14 +56,14 @@ step_named walk one left named = by_bits one.bits
         let fewer = named_fewer walk (1 + (1 + left)) left (omega arith) named in
         record { names = fewer.names; differ = fewer.differ; few = fewer.few }
 
-union_named : (walk : FieldsWalk) (one : PlacedMember) (left : ℕ) → AreNamed walk (1 + left) → AreNamed (union_step walk one) left
+pub union_named : (walk : FieldsWalk) (one : PlacedMember) (left : ℕ) → AreNamed walk (1 + left) → AreNamed (union_step walk one) left
 union_named walk one left named = by_bits one.bits
   where
     by_bits : (width : Option ℕ) → AreNamed (union_step walk (record one { bits = width })) left
     by_bits None = member_named walk one left named
     by_bits (Some width) = bytes_named walk (whole_bytes width) left named
 
-struct_named : (list : List PlacedMember) (walk : FieldsWalk) → AreNamed walk (2 * length list + 1) → AreNamed (struct_walk walk list) 1
+pub struct_named : (list : List PlacedMember) (walk : FieldsWalk) → AreNamed walk (2 * length list + 1) → AreNamed (struct_walk walk list) 1
 struct_named [] walk named = named_fewer walk (2 * 0 + 1) 1 (omega arith) named
 struct_named (one ∷ list) walk named =
     struct_named list (struct_step walk one) (step_named walk one (2 * length list + 1) (named_fewer walk (2 * length (one ∷ list) + 1) (1 + (1 + (2 * length list + 1))) (omega arith) named))
@@ -73,7 +73,7 @@ unions_named [] walk named = named_fewer walk (2 * 0 + 1) 1 (omega arith) named
 unions_named (one ∷ list) walk named =
     unions_named list (union_step walk one) (union_named walk one (2 * length list + 1) (named_fewer walk (2 * length (one ∷ list) + 1) (1 + (2 * length list + 1)) (omega arith) named))
 
-none_named : (left : ℕ) → left + 3 < 2 ^ 64 → AreNamed no_fields left
+pub none_named : (left : ℕ) → left + 3 < 2 ^ 64 → AreNamed no_fields left
 none_named left few = record { names = refl; differ = refl; few = omega (arith, few) }
 
 pub walk_named : (is_union : Bool) (list : List PlacedMember) (count : ℕ) → length list ≤ count → 2 * count + 4 < 2 ^ 64 → AreNamed (record_walk is_union list) 0

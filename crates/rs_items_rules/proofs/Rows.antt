@@ -3,6 +3,7 @@ use Rattle.std.proofs.Common.{◌≡◌, ℕ, zero, suc, ◌+◌, ◌*◌, ◌/�
 use Rattle.std.proofs.lemmas.Bool.Decides.{nat_tests}
 use Rattle.std.proofs.Math.Nat.{suc-mul}
 use Rattle.std.specs.Int.{next_multiple_of}
+use Rattle.std.specs.List.{All}
 use Rattle.std.specs.Option.{option_and_then}
 use Rattle.cr_base.proofs.Layouts.{align_grows, taken_grows}
 use Rattle.cr_base.specs.declared.layout.Front.{Front}
@@ -20,6 +21,7 @@ use Rattle.rs_items.specs.declared.known.Named.TheVariants.{Record as RecordName
 use Rattle.rs_items_rules.proofs.Aligns.{least_below, raised_align, rust_below, same_align}
 use Rattle.rs_items_rules.proofs.Parts.{Parts, front, member, plain_align}
 use Rattle.rs_items_rules.proofs.Parts.Parts.{no_part, plain_part, bits_part}
+use Rattle.rs_items_rules.proofs.Covered.{bits_covered}
 use Rattle.rs_items_rules.proofs.Found.{AllStand, names_in}
 use Rattle.rs_items_rules.proofs.Places.{placed_fewer, walk_named, walk_stands}
 use Rattle.rs_items_rules.proofs.Rounds.{same_up, up, whole_high, whole_low}
@@ -27,6 +29,7 @@ use Rattle.rs_items_rules.proofs.Structs.{struct_takes}
 use Rattle.rs_items_rules.proofs.Types.{basic_fits, type_fits}
 use Rattle.rs_items_rules.proofs.Unions.{union_takes}
 use Rattle.rs_items_rules.specs.Agree.{Agrees, AreKept, Records}
+use Rattle.rs_items_rules.specs.LawsRecords.{IsCovered, bits_spots}
 use Rattle.rs_mean.specs.Layout.{front_after, laid_with, raised_by, record_laid, within_most}
 use Rattle.rs_text.specs.Tree.{RecordTree}
 use Rattle.rs_text.specs.Valid.{all_differ}
@@ -197,6 +200,28 @@ module _ (known : Knows) (records : Records) where
 
     pub fields_stand : (one : CRecord) (row : CRow) → row_of layouts one ≡ Some row → 2 * length one.members + 4 < 2 ^ 64 → HasPlaces one row
     fields_stand one row is short = places_by_pieces one row short (pieces_of layouts one.members) refl is
+
+    -- ---- bit-fields
+
+    abbrev pub HasBits : CRecord → CRow → Type 0
+    HasBits one row = All (IsCovered (laid_with records) one.is_union (fields_walk known one row.spots).fields) (bits_spots (placed_members known one.members row.spots))
+
+    bits_by_laid : (one : CRecord) (row : CRow) (pieces : List Piece) → 2 * length one.members + 4 < 2 ^ 64 → pieces_of layouts one.members ≡ Some pieces → (found : Option Laid)
+        → laid_record one.is_union pieces ≡ found → option_map (λ (laid : Laid). row_with laid (spots_of one.is_union pieces)) found ≡ Some row → HasBits one row
+    bits_by_laid one row pieces short are None found is = cc
+    bits_by_laid one row pieces short are (Some own) found is =
+        let same : row_with own (spots_of one.is_union pieces) ≡ row = cc in
+        let layout = has_layout one.is_union pieces own found in
+        let few = few_bits one.is_union pieces layout.test in
+        subst (HasBits one) same (bits_covered known records one.is_union (parts_of one.members pieces (no_front one.is_union) are few) few short)
+
+    bits_by_pieces : (one : CRecord) (row : CRow) → 2 * length one.members + 4 < 2 ^ 64 → (found : Option (List Piece)) → pieces_of layouts one.members ≡ found
+        → option_and_then (row_of_pieces one.is_union) found ≡ Some row → HasBits one row
+    bits_by_pieces one row short None found is = cc
+    bits_by_pieces one row short (Some pieces) found is = bits_by_laid one row pieces short found (laid_record one.is_union pieces) refl is
+
+    pub bits_are_covered : (one : CRecord) (row : CRow) → row_of layouts one ≡ Some row → 2 * length one.members + 4 < 2 ^ 64 → HasBits one row
+    bits_are_covered one row is short = bits_by_pieces one row short (pieces_of layouts one.members) refl is
 
 pub fields_differ : (known : Knows) (one : CRecord) (spots : List Spot) (align : ℕ) → 2 * length one.members + 4 < 2 ^ 64 → all_differ (names_in (record_tree known one spots align).fields) ≡ true
 fields_differ known one spots align short =

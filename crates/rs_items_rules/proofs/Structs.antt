@@ -117,7 +117,7 @@ module _ (known : Knows) (records : Records) where
       let grows = whole_grows bits (max bits (begins + width)) (omega arith) in
       record { fields = at.fields; due = due; order = omega (arith, due, before, reach, grows) }
 
-  struct_parts : {members : List CMember} {pieces : List Piece} → Parts known (laid_with records) members pieces → (walk : FieldsWalk) (bits all align : ℕ) → 1 ≤ align → StandsAt walk bits align
+  pub struct_parts : {members : List CMember} {pieces : List Piece} → Parts known (laid_with records) members pieces → (walk : FieldsWalk) (bits all align : ℕ) → 1 ≤ align → StandsAt walk bits align
       → (after_all (front false bits all) pieces).bits ≤ 8 * most_bytes
       → StandsAt (struct_walk walk (placed_members known members (spots_behind (front false bits all) pieces))) (after_all (front false bits all) pieces).bits (plain_align align pieces)
   struct_parts no_part walk bits all align low at few = at

@@ -4,4 +4,4 @@
 
 mod laws;
 
-pub use laws::{fields_stand, records_agree, types_agree};
+pub use laws::{bits_are_covered, fields_stand, records_agree, types_agree};
