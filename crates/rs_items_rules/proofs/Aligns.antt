@@ -1,11 +1,11 @@
 -- The alignment of a record is that of the structure or union.
-use Rattle.std.proofs.Common.{◌≡◌, ℕ, ◌+◌, ◌*◌, ◌≤◌, ◌<◌, Bool, true, false, nat_lt, ◌&&◌, ◌||◌, if◌then◌else◌, List, [], ◌∷◌, Option, None, Some, is_some, max, arith, refl, sym, ap, ◌∙◌}
+use Rattle.std.proofs.Common.{◌≡◌, ℕ, ◌≤◌, Bool, true, false, nat_lt, ◌&&◌, if◌then◌else◌, List, [], ◌∷◌, Option, None, Some, max, arith, refl, sym, ap, ◌∙◌}
 use Rattle.std.proofs.lemmas.Bool.Decides.{nat_tests}
 use Rattle.cr_base.specs.declared.layout.Laid.{Laid}
 use Rattle.cr_base.specs.declared.layout.Piece.{Piece}
 use Rattle.cr_base.specs.declared.layout.Piece.TheVariants.{Plain, Bits}
 use Rattle.cr_base.specs.Layout.{after, after_all}
-use Rattle.cx_core.specs.Trees.{CMember, CTy}
+use Rattle.cx_core.specs.Trees.{CMember}
 use Rattle.rs_items.specs.Known.{Knows}
 use Rattle.rs_items.specs.Records.{fields_align, has_named_bits, raised_to}
 use Rattle.rs_items_rules.proofs.Parts.{Parts, front, plain_align}

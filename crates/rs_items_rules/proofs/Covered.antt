@@ -1,9 +1,8 @@
 -- Bit-fields stand in fields of bytes.
-use Rattle.std.proofs.Common.{◌≡◌, ℕ, zero, suc, ◌+◌, ◌-◌, ◌*◌, ◌/◌, ◌%◌, ◌≤◌, ◌<◌, ◌^◌, Bool, true, false, nat_lt, if◌then◌else◌, codes, List, [], ◌∷◌, ◌++◌, map, length, Option, None, Some, is_some, max, arith, refl, sym, ap, ◌∙◌, subst}
+use Rattle.std.proofs.Common.{◌≡◌, ℕ, ◌+◌, ◌-◌, ◌*◌, ◌/◌, ◌%◌, ◌≤◌, ◌<◌, ◌^◌, Bool, true, false, nat_lt, if◌then◌else◌, codes, List, [], ◌∷◌, ◌++◌, length, Option, None, Some, is_some, max, arith, refl, sym, subst}
 use Rattle.std.specs.List.{All}
 use Rattle.std.proofs.lemmas.Bool.Decides.{nat_tests}
 use Rattle.std.proofs.lemmas.List.Elements.{All-cons, All-nil, All-weaker}
-use Rattle.std.specs.Int.{next_multiple_of}
 use Rattle.cr_base.specs.declared.layout.Front.{Front}
 use Rattle.cr_base.specs.declared.layout.Laid.{Laid}
 use Rattle.cr_base.specs.declared.layout.Piece.{Piece}
@@ -18,8 +17,8 @@ use Rattle.rs_items.specs.declared.scope.NameScope.TheVariants.{Fields}
 use Rattle.rs_items_rules.proofs.Found.{AreNamed, found_last, found_stays, name_free, named_fewer}
 use Rattle.rs_items_rules.proofs.Parts.{Parts, bytes_laid, front, member, plain_align}
 use Rattle.rs_items_rules.proofs.Parts.Parts.{no_part, plain_part, bits_part}
-use Rattle.rs_items_rules.proofs.Places.{bytes_named, end_named, none_named, placed_fewer, step_named, struct_named, union_named}
-use Rattle.rs_items_rules.proofs.Rounds.{bits_above, up}
+use Rattle.rs_items_rules.proofs.Places.{bytes_named, none_named, placed_fewer, step_named, struct_named, union_named}
+use Rattle.rs_items_rules.proofs.Rounds.{bits_above}
 use Rattle.rs_items_rules.proofs.Structs.{StandsAt, begun, bits_step, later, plain_step, plain_within}
 use Rattle.rs_items_rules.proofs.Structs as structs
 use Rattle.rs_items_rules.proofs.Unions as unions
@@ -27,7 +26,7 @@ use Rattle.rs_items_rules.proofs.Unions.{UnionTakes}
 use Rattle.rs_items_rules.specs.Agree.{Agrees, Records}
 use Rattle.rs_items_rules.specs.LawsRecords.{IsCovered, bits_spots}
 use Rattle.rs_mean.specs.Layout.{front_after, laid_with}
-use Rattle.rs_text.specs.Tree.{Array, FieldTree, Integer, Ty}
+use Rattle.rs_text.specs.Tree.{Array, FieldTree, Integer}
 use Rattle.rs_text.specs.declared.integer.IntegerTy.TheVariants.{U8}
 
 module _ (known : Knows) (records : Records) where
@@ -36,7 +35,9 @@ module _ (known : Knows) (records : Records) where
 
   stays : (is_union : Bool) (fields : List FieldTree) (last : FieldTree) (place : Spot) → Covers is_union fields place → Covers is_union (fields ++ last ∷ []) place
   stays is_union fields last place covered = record {
-    name = covered.name; byte = covered.byte; count = covered.count;
+    name = covered.name;
+    byte = covered.byte;
+    count = covered.count;
     found = found_stays (laid_with records) covered.name (Some (no_front is_union)) fields last (record { ty = Array (Integer U8) covered.count; byte = covered.byte }) covered.found;
     low = covered.low;
     high = covered.high;
@@ -138,7 +139,7 @@ module _ (known : Knows) (records : Records) where
       (bits_step known records walk bits all align name type width size at) few
       (step_named walk (placed_member known (member name type (Some width)) (spot (front false bits all) (Bits size width (is_some name)))) (2 * length members + 1) fewer) place
       (bits_meets walk name type width (spot (front false bits all) (Bits size width (is_some name))) place
-          (due_grows walk.due bits (bits_start bits (8 * size) width) width at.due (bits_above bits (8 * size) width)) meets)
+      (due_grows walk.due bits (bits_start bits (8 * size) width) width at.due (bits_above bits (8 * size) width)) meets)
 
   front_bits : (walk : FieldsWalk) (bits all align : ℕ) (name : Option (List ℕ)) (type : CTy) (own : Laid) → Agrees known (laid_with records) type own
       → 8 * (struct_step walk (placed_member known (member name type None) (spot (front false bits all) (Plain own.size own.align)))).taken ≤ (after (front false bits all) (Plain own.size own.align)).bits
@@ -179,16 +180,16 @@ module _ (known : Knows) (records : Records) where
       let stands = bits_step known records walk bits all align name type width size at in
       cons_bits
       (Meets (struct_walk (struct_step walk (placed_member known (member name type (Some width)) (spot (front false bits all) (Bits size width (is_some name)))))
-          (placed_members known members (spots_behind (after (front false bits all) (Bits size width (is_some name))) pieces))))
+      (placed_members known members (spots_behind (after (front false bits all) (Bits size width (is_some name))) pieces))))
       width (spot (front false bits all) (Bits size width (is_some name)))
       (bits_spots (placed_members known members (spots_behind (after (front false bits all) (Bits size width (is_some name))) pieces)))
       (λ wide. meets_all others (struct_step walk (placed_member known (member name type (Some width)) (spot (front false bits all) (Bits size width (is_some name)))))
-          (after (front false bits all) (Bits size width (is_some name))).bits (after (front false bits all) (Bits size width (is_some name))).align align low stands few next
-          (spot (front false bits all) (Bits size width (is_some name)))
-          (new_meets walk name type width (spot (front false bits all) (Bits size width (is_some name))) (omega (arith, before, above)) wide))
+      (after (front false bits all) (Bits size width (is_some name))).bits (after (front false bits all) (Bits size width (is_some name))).align align low stands few next
+      (spot (front false bits all) (Bits size width (is_some name)))
+      (new_meets walk name type width (spot (front false bits all) (Bits size width (is_some name))) (omega (arith, before, above)) wide))
       (struct_bits others (struct_step walk (placed_member known (member name type (Some width)) (spot (front false bits all) (Bits size width (is_some name)))))
-          (after (front false bits all) (Bits size width (is_some name))).bits (after (front false bits all) (Bits size width (is_some name))).align align low stands few next
-          (bits_taken walk bits (after (front false bits all) (Bits size width (is_some name))).bits name type width (spot (front false bits all) (Bits size width (is_some name))) before (omega arith)))
+      (after (front false bits all) (Bits size width (is_some name))).bits (after (front false bits all) (Bits size width (is_some name))).align align low stands few next
+      (bits_taken walk bits (after (front false bits all) (Bits size width (is_some name))).bits name type width (spot (front false bits all) (Bits size width (is_some name))) before (omega arith)))
 
   -- ---- unions
 
@@ -217,11 +218,11 @@ module _ (known : Knows) (records : Records) where
       width (spot (front true bits all) (Bits size width (is_some name)))
       (bits_spots (placed_members known members (spots_behind (after (front true bits all) (Bits size width (is_some name))) pieces)))
       (λ wide. union_stays (placed_members known members (spots_behind (after (front true bits all) (Bits size width (is_some name))) pieces)) (put_bytes walk (whole_bytes width))
-          (spot (front true bits all) (Bits size width (is_some name)))
-          (bytes_cover true walk (whole_bytes width) (1 + (2 * length members + 1)) (front true (8 * whole_bytes bits) align) (spot (front true bits all) (Bits size width (is_some name))) fewer at
-              (omega (arith, wide)) (omega (arith, within)) (omega arith) (omega arith)))
+      (spot (front true bits all) (Bits size width (is_some name)))
+      (bytes_cover true walk (whole_bytes width) (1 + (2 * length members + 1)) (front true (8 * whole_bytes bits) align) (spot (front true bits all) (Bits size width (is_some name))) fewer at
+      (omega (arith, wide)) (omega (arith, within)) (omega arith) (omega arith)))
       (union_bits others (put_bytes walk (whole_bytes width)) (max bits (0 + width)) (after (front true bits all) (Bits size width (is_some name))).align align low
-          (unions.bits_step known records walk bits all align width size (is_some name) at low within) few (bytes_named walk (whole_bytes width) (2 * length members + 1) fewer))
+      (unions.bits_step known records walk bits all align width size (is_some name) at low within) few (bytes_named walk (whole_bytes width) (2 * length members + 1) fewer))
 
   pub bits_covered : (is_union : Bool) {members : List CMember} {pieces : List Piece} → Parts known (laid_with records) members pieces → (after_all (no_front is_union) pieces).bits ≤ 8 * most_bytes
       → 2 * length members + 4 < 2 ^ 64

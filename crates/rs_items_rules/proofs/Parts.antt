@@ -1,5 +1,5 @@
 -- The members of a structure or union beside how they are laid out.
-use Rattle.std.proofs.Common.{◌≡◌, ℕ, ◌+◌, ◌*◌, ◌≤◌, ◌<◌, Bool, true, false, nat_lt, codes, if◌then◌else◌, List, [], ◌∷◌, ◌++◌, Option, None, Some, is_some, max, arith, refl, ap, ◌∙◌}
+use Rattle.std.proofs.Common.{◌≡◌, ℕ, ◌≤◌, ◌<◌, Bool, true, false, nat_lt, codes, if◌then◌else◌, List, [], ◌∷◌, ◌++◌, Option, None, Some, is_some, max, arith, refl, ap, ◌∙◌}
 use Rattle.std.proofs.lemmas.Bool.Decides.{nat_tests}
 use Rattle.cr_base.specs.declared.layout.Front.{Front}
 use Rattle.cr_base.specs.declared.layout.Laid.{Laid}
@@ -62,6 +62,7 @@ bytes_behind records begun walk count taken next fields few put same = by_test (
         → front_after (laid_with records) begun (put_bytes walk count).fields
         ≡ front_after (laid_with records) begun (if r then put_field walk (codes "bits") (Array (Integer U8) count) else walk).fields
     told r test = ap (λ (t : Bool). front_after (laid_with records) begun (if t then put_field walk (codes "bits") (Array (Integer U8) count) else walk).fields) test
+
     by_test : (r : Bool) → nat_lt 0 count ≡ r → front_after (laid_with records) begun (put_bytes walk count).fields ≡ Some next
     by_test true test =
         let some : 0 < count = grind (arith, nat_tests, test) in

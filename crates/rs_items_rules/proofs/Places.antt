@@ -1,6 +1,5 @@
 -- The fields of members stand where the members stand.
-use Rattle.std.proofs.Common.{◌≡◌, ℕ, zero, suc, ◌+◌, ◌-◌, ◌*◌, ◌/◌, ◌≤◌, ◌<◌, ◌^◌, Bool, true, false, nat_lt, if◌then◌else◌, codes, List, [], ◌∷◌, ◌++◌, map, length, Option, None, Some, is_some, max, arith, refl, sym, ap, ◌∙◌}
-use Rattle.std.specs.List.{All}
+use Rattle.std.proofs.Common.{◌≡◌, ℕ, ◌+◌, ◌-◌, ◌*◌, ◌/◌, ◌≤◌, ◌<◌, ◌^◌, Bool, true, false, nat_lt, if◌then◌else◌, codes, List, [], ◌∷◌, ◌++◌, map, length, Option, None, Some, is_some, max, arith, refl, ap, ◌∙◌}
 use Rattle.std.proofs.lemmas.List.Elements.{All-nil, All-push}
 use Rattle.cr_base.specs.declared.layout.Front.{Front}
 use Rattle.cr_base.specs.declared.layout.Laid.{Laid}
@@ -14,7 +13,7 @@ use Rattle.rs_items.specs.Names.{rust_name}
 use Rattle.rs_items.specs.Records.{FieldsWalk, PlacedMember, member_name, no_fields, placed_member, placed_members, put_bytes, put_field, put_member, record_walk, struct_end, struct_step, struct_walk, union_step, union_walk, whole_bytes}
 use Rattle.rs_items.specs.declared.scope.NameScope.TheVariants.{Fields}
 use Rattle.rs_items_rules.proofs.Found.{AllStand, AreNamed, found_last, name_free, named_fewer, named_more, still_stand}
-use Rattle.rs_items_rules.proofs.Parts.{Parts, front, member, plain_align}
+use Rattle.rs_items_rules.proofs.Parts.{Parts, front, member}
 use Rattle.rs_items_rules.proofs.Parts.Parts.{no_part, plain_part, bits_part}
 use Rattle.rs_items_rules.proofs.Rounds.{same_up, whole_high, whole_low}
 use Rattle.rs_items_rules.proofs.Structs.{StandsAt, begun, bits_step, end_takes, later, plain_step, plain_within}
@@ -23,7 +22,7 @@ use Rattle.rs_items_rules.proofs.Unions.{UnionTakes}
 use Rattle.rs_items_rules.specs.Agree.{Agrees, Records}
 use Rattle.rs_items_rules.specs.LawsRecords.{StandsIn, place_of, plain_places}
 use Rattle.rs_mean.specs.Layout.{FieldPlace, front_after, laid_with, piece_of}
-use Rattle.rs_text.specs.Tree.{Array, FieldTree, Integer, Ty}
+use Rattle.rs_text.specs.Tree.{Array, FieldTree, Integer}
 use Rattle.rs_text.specs.declared.integer.IntegerTy.TheVariants.{U8}
 
 -- ---- names
@@ -155,8 +154,8 @@ module _ (known : Knows) (records : Records) where
       (record { byte = one.spot.byte; ty = one.ty; name = rust_name walk.names Fields (member_name one.name) })
       (still_stand (laid_with records) is_union walk.fields (record { name = rust_name walk.names Fields (member_name one.name); ty = one.ty }) walk.members all)
       (found_last (laid_with records) (Some (no_front is_union)) walk.fields (record { name = rust_name walk.names Fields (member_name one.name); ty = one.ty }) taken laid
-          (name_free walk (member_name one.name) left named) fields is
-          ∙ ap (λ n. Some (record { ty = one.ty; byte = n })) same)
+      (name_free walk (member_name one.name) left named) fields is
+      ∙ ap (λ n. Some (record { ty = one.ty; byte = n })) same)
 
   plain_stands : (walk : FieldsWalk) (bits all align : ℕ) (name : Option (List ℕ)) (type : CTy) (own : Laid) (left : ℕ) → Agrees known (laid_with records) type own → 1 ≤ align
       → StandsAt known records walk bits align → (after (front false bits all) (Plain own.size own.align)).bits ≤ 8 * most_bytes → AreNamed walk (1 + left) → AllStand (laid_with records) false walk
@@ -204,7 +203,7 @@ module _ (known : Knows) (records : Records) where
       (max bits (0 + 8 * own.size)) (max all own.align) (max align own.align) (omega (arith, low)) (unions.plain_step known records walk bits align name type own agrees at) few
       (union_named walk (placed_member known (member name type None) (spot (front true bits all) (Plain own.size own.align))) (2 * length members + 1) fewer)
       (member_stands true walk (placed_member known (member name type None) (spot (front true bits all) (Plain own.size own.align))) (front true (8 * whole_bytes bits) align) own
-          (1 + (2 * length members + 1)) fewer at agrees.rust refl stand)
+      (1 + (2 * length members + 1)) fewer at agrees.rust refl stand)
   union_stand (bits_part {members} {pieces} name type width size some others) walk bits all align low at few named stand =
       let fewer = named_fewer walk (2 * length (member name type (Some width) ∷ members) + 1) (1 + (2 * length members + 1)) (omega arith) named in
       union_stand others (put_bytes walk (whole_bytes width)) (max bits (0 + width)) (after (front true bits all) (Bits size width (is_some name))).align align low

@@ -1,9 +1,9 @@
 -- Numbers of bits in whole bytes, and rounded up to multiples.
-use Rattle.std.proofs.Common.{◌≡◌, ℕ, zero, suc, ◌+◌, ◌-◌, ◌*◌, ◌/◌, ◌%◌, ◌≤◌, ◌<◌, Bool, true, false, nat_le, if◌then◌else◌, arith, refl, sym, ap, ◌∙◌}
+use Rattle.std.proofs.Common.{◌≡◌, ℕ, zero, suc, ◌+◌, ◌-◌, ◌*◌, ◌%◌, ◌≤◌, ◌<◌, Bool, true, false, nat_le, if◌then◌else◌, arith, refl, sym, ap, ◌∙◌}
 use Rattle.std.proofs.Math.Nat.{mod-lt, mul_assoc, mul-suc}
 use Rattle.std.specs.Int.{next_multiple_of}
 use Rattle.cr_base.proofs.Layouts.{rounded}
-use Rattle.cr_base.specs.Layout.{bits_start, struct_start}
+use Rattle.cr_base.specs.Layout.{bits_start}
 use Rattle.rs_items.specs.Records.{whole_bytes}
 
 -- a number of bits rounded up to so many bytes
@@ -62,8 +62,10 @@ same_up bits whole align some low high = by_order (order ours.count theirs.count
   where
     ours : Up bits align
     ours = up bits align some
+
     theirs : Up (8 * whole) align
     theirs = up (8 * whole) align some
+
     by_order : Order ours.count theirs.count → next_multiple_of (8 * whole) (8 * align) ≡ next_multiple_of bits (8 * align)
     by_order (same is) = theirs.is ∙ ap (λ n. 8 * n) (theirs.times ∙ ap (λ n. align * n) (sym is) ∙ sym ours.times) ∙ sym ours.is
     by_order (less lower) =

@@ -1,5 +1,5 @@
 -- The record of a structure or union is laid out as the structure or union.
-use Rattle.std.proofs.Common.{◌≡◌, ℕ, zero, suc, ◌+◌, ◌*◌, ◌/◌, ◌≤◌, ◌<◌, Bool, true, false, nat_le, if◌then◌else◌, List, [], ◌∷◌, length, ◌^◌, Option, None, Some, option_map, is_some, max, arith, refl, sym, ap, ◌∙◌, subst}
+use Rattle.std.proofs.Common.{◌≡◌, ℕ, zero, suc, ◌+◌, ◌*◌, ◌/◌, ◌≤◌, ◌<◌, Bool, true, false, nat_le, if◌then◌else◌, List, [], ◌∷◌, length, ◌^◌, Option, None, Some, option_map, arith, refl, sym, ap, ◌∙◌, subst}
 use Rattle.std.proofs.lemmas.Bool.Decides.{nat_tests}
 use Rattle.std.proofs.Math.Nat.{suc-mul}
 use Rattle.std.specs.Int.{next_multiple_of}
@@ -9,14 +9,13 @@ use Rattle.cr_base.proofs.Layouts.{align_grows, taken_grows}
 use Rattle.cr_base.specs.declared.layout.Front.{Front}
 use Rattle.cr_base.specs.declared.layout.Laid.{Laid}
 use Rattle.cr_base.specs.declared.layout.Piece.{Piece}
-use Rattle.cr_base.specs.declared.layout.Piece.TheVariants.{Plain, Bits}
 use Rattle.cr_base.specs.declared.layout.Spot.{Spot}
 use Rattle.cr_base.specs.Layout.{after, after_all, laid as laid_front, laid_of, laid_record, most_bytes, no_front, spots_of}
 use Rattle.cx_core.specs.Layouts.{CLayouts, CRow, bytes, elements, piece, pieces_of, put_front, row_at, row_of, row_of_pieces, whole_extent, whole_extent_of}
 use Rattle.cx_core.specs.Conversions.{width_of_basic}
 use Rattle.cx_core.specs.Trees.{CMember, CRecord, CTy, ty, CTyForm, void, basic, enum_type, pointer, array, record_type, function}
 use Rattle.rs_items.specs.Known.{Knows}
-use Rattle.rs_items.specs.Records.{FieldsWalk, fields_walk, has_named_bits, placed_members, raised_to, record_name, record_tree, record_walk, whole_bytes}
+use Rattle.rs_items.specs.Records.{FieldsWalk, fields_walk, placed_members, raised_to, record_name, record_tree, record_walk, whole_bytes}
 use Rattle.rs_items.specs.declared.known.Named.TheVariants.{Record as RecordNamed}
 use Rattle.rs_items_rules.proofs.Aligns.{least_below, raised_align, rust_below, same_align}
 use Rattle.rs_items_rules.proofs.Parts.{Parts, front, member, plain_align}
@@ -28,10 +27,9 @@ use Rattle.rs_items_rules.proofs.Rounds.{same_up, up, whole_high, whole_low}
 use Rattle.rs_items_rules.proofs.Structs.{struct_takes}
 use Rattle.rs_items_rules.proofs.Types.{basic_fits, type_fits}
 use Rattle.rs_items_rules.proofs.Unions.{union_takes}
-use Rattle.rs_items_rules.specs.Agree.{Agrees, AreKept, Records}
+use Rattle.rs_items_rules.specs.Agree.{AreKept, Records}
 use Rattle.rs_items_rules.specs.LawsRecords.{IsCovered, bits_spots}
 use Rattle.rs_mean.specs.Layout.{front_after, laid_with, raised_by, record_laid, within_most}
-use Rattle.rs_text.specs.Tree.{RecordTree}
 use Rattle.rs_text.specs.Valid.{all_differ}
 
 -- whole bytes are rounded up as the bits in them
@@ -75,8 +73,8 @@ module _ (known : Knows) (records : Records) where
       let bits = (after_all (no_front is_union) pieces).bits in
       let some : 1 ≤ align = align_grows pieces (no_front is_union) in
       let raised : raised_by (raised_to align members) (front is_union (8 * whole_bytes bits) (plain_align 1 pieces)) ≡ front is_union (8 * whole_bytes bits) align =
-          raised_align members is_union (8 * whole_bytes bits) (plain_align 1 pieces) align (rust_below pieces is_union 0 1 1 (omega arith)) (least_below parts 1 (omega arith))
-          (same_align parts is_union 0 1 (omega arith)) in
+      raised_align members is_union (8 * whole_bytes bits) (plain_align 1 pieces) align (rust_below pieces is_union 0 1 1 (omega arith)) (least_below parts 1 (omega arith))
+      (same_align parts is_union 0 1 (omega arith)) in
       ap (option_and_then (λ taken. within_most (laid_front (raised_by (raised_to align members) taken)))) fields
       ∙ ap (λ taken. within_most (laid_front taken)) raised ∙ ap within_most (rounded_same is_union bits align some)
       ∙ ap (λ t. if t then Some (laid_of is_union pieces) else None) test
@@ -88,7 +86,9 @@ module _ (known : Knows) (records : Records) where
 
   walked : (is_union : Bool) (members : List CMember) (pieces : List Piece) (name : List ℕ) → Parts known (laid_with records) members pieces → nat_le (laid_of is_union pieces).size most_bytes ≡ true
       → record_laid (laid_with records) (record {
-        align = raised_to (laid_of is_union pieces).align members; is_union = is_union; name = name;
+        align = raised_to (laid_of is_union pieces).align members;
+        is_union = is_union;
+        name = name;
         fields = (record_walk is_union (placed_members known members (spots_of is_union pieces))).fields;
       }) ≡ Some (laid_of is_union pieces)
   walked true members pieces name parts test =
@@ -170,7 +170,7 @@ module _ (known : Knows) (records : Records) where
         let parts = parts_of one.members pieces (no_front one.is_union) are (few_bits one.is_union pieces layout.test) in
         subst (IsLaidAs one) same
         (subst (λ (laid : Laid). IsLaidAs one (row_with laid (spots_of one.is_union pieces))) layout.is
-            (walked one.is_union one.members pieces (record_name (known (RecordNamed one.number))) parts layout.test))
+        (walked one.is_union one.members pieces (record_name (known (RecordNamed one.number))) parts layout.test))
 
     by_pieces : (one : CRecord) (row : CRow) (found : Option (List Piece)) → pieces_of layouts one.members ≡ found → option_and_then (row_of_pieces one.is_union) found ≡ Some row → IsLaidAs one row
     by_pieces one row None found is = cc

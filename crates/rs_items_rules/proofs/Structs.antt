@@ -1,5 +1,5 @@
 -- The record of a structure is laid out as the structure.
-use Rattle.std.proofs.Common.{◌≡◌, ℕ, zero, suc, ◌+◌, ◌-◌, ◌*◌, ◌/◌, ◌%◌, ◌≤◌, ◌<◌, Bool, true, false, nat_lt, nat_le, if◌then◌else◌, List, [], ◌∷◌, Option, None, Some, is_some, codes, max, arith, refl, sym, ap, ◌∙◌}
+use Rattle.std.proofs.Common.{◌≡◌, ℕ, ◌+◌, ◌-◌, ◌*◌, ◌/◌, ◌%◌, ◌≤◌, ◌<◌, false, List, ◌∷◌, Option, None, Some, is_some, max, arith, refl, sym, ap, ◌∙◌}
 use Rattle.std.specs.Int.{next_multiple_of}
 use Rattle.cr_base.proofs.Layouts.{taken_grows}
 use Rattle.cr_base.specs.declared.layout.Front.{Front}
@@ -16,7 +16,6 @@ use Rattle.rs_items_rules.proofs.Parts.Parts.{no_part, plain_part, bits_part}
 use Rattle.rs_items_rules.proofs.Rounds.{bits_above, same_up, up, whole_high, whole_low}
 use Rattle.rs_items_rules.specs.Agree.{Agrees, Records}
 use Rattle.rs_mean.specs.Layout.{front_after, laid_with}
-use Rattle.rs_text.specs.Tree.{Ty}
 
 module _ (known : Knows) (records : Records) where
   -- fields in front that take so many bytes, one behind the other
@@ -60,7 +59,7 @@ module _ (known : Knows) (records : Records) where
       let low = round.low in
       let same = same_up bits (whole_bytes bits) own some (whole_low bits) (whole_high bits) in
       let ends : max (8 * whole_bytes bits) (next_multiple_of (8 * whole_bytes bits) (8 * own) + 8 * size) ≡ 8 * (next_multiple_of bits (8 * own) / 8 + size)
-          = omega (arith, is, low, same) in
+      = omega (arith, is, low, same) in
       ap (λ n. front false n (max align own)) ends
 
   plain_due : (bits size own : ℕ) → 0 < own → next_multiple_of bits (8 * own) / 8 + size ≡ whole_bytes (max bits (next_multiple_of bits (8 * own) + 8 * size))
@@ -86,7 +85,7 @@ module _ (known : Knows) (records : Records) where
   pub plain_step : (walk : FieldsWalk) (bits all align : ℕ) (name : Option (List ℕ)) (type : CTy) (own : Laid) → Agrees known (laid_with records) type own → 1 ≤ align
       → StandsAt walk bits align → (after (front false bits all) (Plain own.size own.align)).bits ≤ 8 * most_bytes
       → StandsAt (struct_step walk (placed_member known (member name type None) (spot (front false bits all) (Plain own.size own.align))))
-          (after (front false bits all) (Plain own.size own.align)).bits (max align own.align)
+      (after (front false bits all) (Plain own.size own.align)).bits (max align own.align)
   unfolding struct_step
   plain_step walk bits all align name type own agrees low at few =
       let begins = next_multiple_of bits (8 * own.align) in
@@ -106,7 +105,7 @@ module _ (known : Knows) (records : Records) where
   -- a bit-field reaches over the bytes in which it stands
   pub bits_step : (walk : FieldsWalk) (bits all align : ℕ) (name : Option (List ℕ)) (type : CTy) (width size : ℕ) → StandsAt walk bits align
       → StandsAt (struct_step walk (placed_member known (member name type (Some width)) (spot (front false bits all) (Bits size width (is_some name)))))
-          (after (front false bits all) (Bits size width (is_some name))).bits align
+      (after (front false bits all) (Bits size width (is_some name))).bits align
   unfolding struct_step
   bits_step walk bits all align name type width size at =
       let begins = bits_start bits (8 * size) width in

@@ -1,5 +1,5 @@
 -- The Rust type of a complete type of C is laid out as it.
-use Rattle.std.proofs.Common.{◌≡◌, ℕ, zero, suc, ◌+◌, ◌*◌, ◌/◌, ◌≤◌, ◌<◌, Bool, true, false, nat_le, if◌then◌else◌, List, Option, None, Some, option_map, arith, refl, sym, ap, ◌∙◌, subst}
+use Rattle.std.proofs.Common.{◌≡◌, ℕ, zero, suc, ◌*◌, ◌/◌, ◌≤◌, Bool, true, false, nat_le, if◌then◌else◌, Option, None, Some, option_map, arith, refl, ap, ◌∙◌, subst}
 use Rattle.std.proofs.Math.Nat.{suc-mul}
 use Rattle.std.proofs.lemmas.Bool.Decides.{nat_tests}
 use Rattle.std.specs.Option.{option_and_then}
@@ -11,13 +11,10 @@ use Rattle.cx_core.specs.Trees.{CTy, ty, CTyForm, void, basic, enum_type, pointe
 use Rattle.cx_core.specs.declared.ty.Basic.{Basic}
 use Rattle.cx_core.specs.declared.ty.Basic.TheVariants.{Truth, Char, SignedChar, UnsignedChar, Short, UnsignedShort, Int, Unsigned, Long, UnsignedLong, LongLong, UnsignedLongLong}
 use Rattle.rs_items.specs.Known.{Knows}
-use Rattle.rs_items.specs.Records.{kept_size, least_align, size_of}
-use Rattle.rs_items.specs.Types.{enum_integer, record_or_void, record_path, path_in, rust_pointer, rust_type, type_names}
-use Rattle.rs_items.specs.declared.known.Named.TheVariants.{Enum, Record as RecordNamed}
+use Rattle.rs_items.specs.Records.{kept_size}
+use Rattle.rs_items.specs.Types.{record_or_void, record_path, rust_pointer, type_names}
 use Rattle.rs_items_rules.specs.Agree.{Agrees, AreKept, IsKept, Records}
 use Rattle.rs_mean.specs.Layout.{even, laid_with, repeated}
-use Rattle.rs_mean.specs.Scalars.{width_of}
-use Rattle.rs_text.specs.Tree.{Ty}
 
 module _ (known : Knows) (records : Records) where
   abbrev Fits : CTy → Laid → Type 0
@@ -123,6 +120,7 @@ module _ (known : Knows) (records : Records) where
             let the_same : one ≡ laid = cc in
             subst (Fits type) the_same (type_fits type one found few)
         by_test one found false test same = cc
+
         by_whole : (found : Option Laid) → whole_extent layouts type ≡ found → option_and_then within_bound found ≡ Some laid → Fits type laid
         by_whole None found same = cc
         by_whole (Some one) found same =

@@ -1,5 +1,5 @@
 -- The record of a union is laid out as the union.
-use Rattle.std.proofs.Common.{◌≡◌, ℕ, ◌+◌, ◌*◌, ◌/◌, ◌≤◌, ◌<◌, Bool, true, false, List, [], ◌∷◌, Option, None, Some, is_some, max, arith, refl, sym, ap, ◌∙◌}
+use Rattle.std.proofs.Common.{◌≡◌, ℕ, ◌+◌, ◌*◌, ◌≤◌, Bool, true, List, ◌∷◌, Option, None, Some, is_some, max, arith, refl, ap, ◌∙◌}
 use Rattle.cr_base.proofs.Layouts.{taken_grows}
 use Rattle.cr_base.specs.declared.layout.Front.{Front}
 use Rattle.cr_base.specs.declared.layout.Laid.{Laid}
@@ -26,9 +26,9 @@ module _ (known : Knows) (records : Records) where
       bytes_behind records (Some (no_front true)) walk (whole_bytes width) (front true (8 * whole_bytes bits) align) (front true (8 * whole_bytes (max bits (0 + width))) align) fields
       (omega (arith, few))
       (λ some.
-          let ends : max (8 * whole_bytes bits) (0 + 8 * whole_bytes width) ≡ 8 * whole_bytes (max bits (0 + width)) = omega arith in
-          let greatest : max align 1 ≡ align = omega (arith, low) in
-          ap (λ n. front true n (max align 1)) ends ∙ ap (λ n. front true (8 * whole_bytes (max bits (0 + width))) n) greatest)
+      let ends : max (8 * whole_bytes bits) (0 + 8 * whole_bytes width) ≡ 8 * whole_bytes (max bits (0 + width)) = omega arith in
+      let greatest : max align 1 ≡ align = omega (arith, low) in
+      ap (λ n. front true n (max align 1)) ends ∙ ap (λ n. front true (8 * whole_bytes (max bits (0 + width))) n) greatest)
       (λ none. let whole : 8 * whole_bytes bits ≡ 8 * whole_bytes (max bits (0 + width)) = omega (arith, none) in ap (λ n. front true n align) whole)
 
   pub plain_step : (walk : FieldsWalk) (bits align : ℕ) (name : Option (List ℕ)) (type : CTy) (own : Laid) → Agrees known (laid_with records) type own → UnionTakes walk bits align
