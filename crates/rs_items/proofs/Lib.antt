@@ -1,5 +1,5 @@
 mod Aligns
-mod FirstFree
+pub mod FirstFree
 mod Found
 mod Kept
 mod Pigeons

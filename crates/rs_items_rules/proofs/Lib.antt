@@ -1,0 +1,10 @@
+pub mod Aligns
+pub mod Covered
+pub mod Found
+pub mod Parts
+pub mod Places
+pub mod Rounds
+pub mod Rows
+pub mod Structs
+pub mod Types
+pub mod Unions
