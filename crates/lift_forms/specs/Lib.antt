@@ -1,0 +1,4 @@
+pub mod BitFields
+pub mod Given
+pub mod Operators
+pub mod Places
