@@ -1,6 +1,6 @@
 -- The operators and conversions of C as Rust writes them (ISO C99, 6.3 and 6.5; the Rust Reference, "Operator expressions" and "Type cast expressions"; `core`). Signed
 -- `+ - * / %`, unary minus, unsigned `/ %`, bit operators and shifts are plain operators; unsigned `+ - *` and minus are the wrapping calls. Truth values stay `bool`.
-use Rattle.std.specs.Prelude.{Bool, true, false, if◌then◌else◌, ℤ, pos, neg_ℤ}
+use Rattle.std.specs.Prelude.{ℕ, Bool, true, false, if◌then◌else◌, ℤ, pos, neg_ℤ, List}
 use Rattle.std.specs.Ordering.{int_eq}
 use Rattle.cx_core.specs.declared.expr.Op1.{Op1}
 use Rattle.cx_core.specs.declared.expr.Op1.TheVariants.{Plus, Minus, Complement, Not as Negates}
@@ -76,6 +76,15 @@ value_of operand = elim operand.given as (λ _. Expr) [
   | place p ↦ Read p
 ]
 
+-- its value in an integer type: a truth value goes there at once, from `bool`
+abbrev pub integer_as : IntegerTy → Operand → Expr
+integer_as which operand = elim operand.given as (λ _. Expr) [
+  | nothing ↦ NoFunction
+  | truth e ↦ Cast e (Integer which)
+  | value e ↦ cast_to operand.ty (Integer which) e
+  | place p ↦ cast_to operand.ty (Integer which) (Read p)
+]
+
 -- a value compares unequal to 0 (6.5.3.3p5, 6.8.4.1p2)
 abbrev pub is_not_zero : Ty → Expr → Expr
 is_not_zero (Integer which) e = Binary e rust.NotEqual (Literal (pos 0) which)
@@ -145,7 +154,7 @@ summed which operator wrapping left right = if is_signed_integer which then Bina
 
 -- a shift count is a `u32`
 abbrev pub count_of : Operand → Expr
-count_of operand = cast_to operand.ty (Integer U32) (value_of operand)
+count_of operand = integer_as U32 operand
 
 -- operands of one integer type, and of a shift the first one
 abbrev pub integers_form : Op2 → IntegerTy → (left right : Operand) → Given
@@ -168,12 +177,12 @@ integers_form op2.BitOr which left right = value (Binary (value_of left) rust.Bi
 
 -- how many elements a pointer is moved by
 abbrev pub elements_of : Operand → Expr
-elements_of operand = cast_to operand.ty (Integer Isize) (value_of operand)
+elements_of operand = integer_as Isize operand
 
 -- a pointer and a number (6.5.6p8)
 abbrev pub moved_form : Op2 → (at count : Operand) → Given
 moved_form op2.Add at count = value (Offset (value_of at) (elements_of count))
-moved_form op2.Subtract at count = value (Offset (value_of at) (Neg (elements_of count)))
+moved_form op2.Subtract at count = value (Offset (value_of at) (minus Isize (elements_of count)))
 moved_form op at count = nothing
 
 -- the second of two pointers, in the type of the first
@@ -203,19 +212,29 @@ binary_by op one other left right = nothing
 abbrev pub binary_form : Op2 → (left right : Operand) → Given
 binary_form op left right = binary_by op left.ty right.ty left right
 
+-- `&&` and `||` (6.5.13, 6.5.14)
+abbrev pub and_form : (left right : Operand) → Given
+and_form left right = truth (And (test_of left) (test_of right))
+
+abbrev pub or_form : (left right : Operand) → Given
+or_form left right = truth (Or (test_of left) (test_of right))
+
+-- `?:` whose operands have values of one type (6.5.15)
+abbrev pub choice_form : (condition if_true if_false : Operand) → Given
+choice_form condition if_true if_false = value (Choose (test_of condition) (value_of if_true) (value_of if_false))
+
+-- ---- functions
+
+-- a function that a type doesn't tell of: no pointer to it
+abbrev pub function_of_type : (m x : List ℕ) → Ty → Expr
+function_of_type m x (Code params result) = SomeFunction m x params result
+function_of_type m x _ = NoFunction
+
+-- a pointer to a function with the type that its item has; where another is needed (6.3.2.3p8), as the same bits
+abbrev pub function_form : (m x : List ℕ) → (kept ty : Ty) → Given
+function_form m x kept ty = value (as_type kept ty (function_of_type m x kept))
+
 -- ---- conversions (6.3)
-
--- a truth value in an integer type
-abbrev pub truth_as : IntegerTy → Expr → Expr
-truth_as which e = Cast e (Integer which)
-
-abbrev pub integer_as : IntegerTy → Operand → Expr
-integer_as which operand = elim operand.given as (λ _. Expr) [
-  | nothing ↦ NoFunction
-  | truth e ↦ truth_as which e
-  | value e ↦ cast_to operand.ty (Integer which) e
-  | place p ↦ cast_to operand.ty (Integer which) (Read p)
-]
 
 -- a value converted to a scalar type; one to `void` is none
 abbrev pub converted : Ty → Operand → Given
