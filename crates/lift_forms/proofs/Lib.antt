@@ -1,1 +1,3 @@
+pub mod SameTypes
+pub mod Typed
 mod Worked

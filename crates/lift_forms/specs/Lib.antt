@@ -1,4 +1,5 @@
 pub mod BitFields
 pub mod Given
+pub mod LawsTyping
 pub mod Operators
 pub mod Places
