@@ -1,3 +1,4 @@
 pub mod SameTypes
 pub mod Typed
+pub mod TypedBits
 mod Worked

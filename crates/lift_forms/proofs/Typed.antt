@@ -15,8 +15,8 @@ use Rattle.rs_text.specs.declared.operator.Wrapping.TheVariants.{WrappingAdd, Wr
 use Rattle.rs_text.specs.Tree.{Ty, Integer, Boolean, Void, Pointer, Array, Code, Record, Tys, OptionTy, Place, Local, Static, Deref, Field, Expr, Literal, Truth, NoFunction, SomeFunction, Read, Wrapped, WrappingNeg, Offset, OffsetFrom, IsNull, IsNone, Transmute, Neg, Not, Cast, Binary, And, Or, Choose}
 use Rattle.lift_forms.specs.Given.{Given, nothing, truth, value, place, address_of, pointed}
 use Rattle.lift_forms.specs.LawsTyping.{IsOfType, IsGivenAs, IsOperand, unary_result, is_comparison, numbers_result, moved_result, pointers_result, functions_result, added_result, binary_result, converts}
-use Rattle.lift_forms.specs.Operators.{Operand, cast_to, transmute_to, as_type, value_of, integer_as, is_not_zero, is_zero, test_of, opposite_of, minus, minus_literal, negated, unary_form, summed, count_of, elements_of, integers_form, beside, moved_form, pointers_form, binary_form, null_of, zero_of, function_form, converted}
-use Rattle.lift_forms.specs.Places.{Kept, object_place}
+use Rattle.lift_forms.specs.Operators.{Operand, cast_to, transmute_to, as_type, value_of, integer_as, is_not_zero, is_zero, test_of, opposite_of, minus, minus_literal, negated, unary_form, summed, count_of, elements_of, integers_form, beside, moved_form, pointers_form, binary_form, constant, null_of, zero_of, and_form, or_form, choice_form, function_form, converted}
+use Rattle.lift_forms.specs.Places.{Kept, object_place, address_form}
 use Rattle.lift_forms.proofs.SameTypes.{both_are_true, same_integer_itself, integer_is, same_itself, type_is}
 
 zero_fits : (which : IntegerTy) → fits_integer which (pos 0) ≡ true
@@ -347,6 +347,20 @@ module _ (scope : Scope) where
       IsOfType scope (Choose condition if_true if_false) ty
   choice_typed ty condition if_true if_false c h k = rw (c, h, k, same_itself ty) refl
 
+  pub both_forms : (left right : Operand) → IsOperand scope left → IsOperand scope right → is_scalar left.ty ≡ true → is_scalar right.ty ≡ true →
+      IsGivenAs scope (Integer I32) (and_form left right)
+  both_forms left right h k s t = (both_typed (test_of left) (test_of right) (test_typed left h s) (test_typed right k t), refl)
+
+  pub either_forms : (left right : Operand) → IsOperand scope left → IsOperand scope right → is_scalar left.ty ≡ true → is_scalar right.ty ≡ true →
+      IsGivenAs scope (Integer I32) (or_form left right)
+  either_forms left right h k s t = (either_typed (test_of left) (test_of right) (test_typed left h s) (test_typed right k t), refl)
+
+  pub choice_forms : (condition if_true if_false : Operand) → IsOperand scope condition → IsOperand scope if_true → IsOperand scope if_false →
+      is_scalar condition.ty ≡ true → if_true.ty ≡ if_false.ty → IsGivenAs scope if_true.ty (choice_form condition if_true if_false)
+  choice_forms condition if_true if_false c h k s same =
+      choice_typed if_true.ty (test_of condition) (value_of if_true) (value_of if_false) (test_typed condition c s) (value_typed if_true h)
+      (value_typed if_false k ∙ as_kind (sym same))
+
   -- ---- conversions
 
   bits_cast : (from : Ty) (which : IntegerTy) → is_bits from ≡ true → casts from (Integer which) ≡ true
@@ -383,6 +397,9 @@ module _ (scope : Scope) where
 
   pub number_typed : (which : IntegerTy) (number : ℤ) → fits_integer which number ≡ true → IsOfType scope (Literal number which) (Integer which)
   number_typed which number fits = ap (λ b. only_if b (Integer which)) fits
+
+  pub truth_constant_typed : (number : ℤ) → IsOfType scope (constant Boolean number) Boolean
+  truth_constant_typed number = refl
 
   pub null_typed : (target : Ty) → type_stands scope.modules (Pointer target) ≡ true → IsOfType scope (null_of (Pointer target)) (Pointer target)
   null_typed target s = ap (λ b. only_if b (Pointer target)) s
@@ -424,3 +441,7 @@ module _ (scope : Scope) where
       by_test (λ p. place_type scope p ≡ Some ty) (same_type kept.ty ty) kept.place (pointed (Cast (address_of kept.place) (Pointer ty)))
       (λ is. h ∙ ap Some (type_is kept.ty ty is))
       (λ _. rw (cast_typed (Pointer kept.ty) (Pointer ty) (address_of kept.place) (address_typed kept.ty kept.place h t) refl s) refl)
+
+  pub address_form_typed : (ty target : Ty) (p : Place) → place_type scope p ≡ Some ty → is_target ty ≡ true → type_stands scope.modules (Pointer target) ≡ true →
+      IsGivenAs scope (Pointer target) (address_form ty target p)
+  address_form_typed ty target p h t s = cast_to_typed (Pointer ty) (Pointer target) (address_of p) (address_typed ty p h t) refl s

@@ -1,6 +1,5 @@
 -- Laws of types: each form is well typed under the types of its operands (the Rust Reference, "Type system").
 use Rattle.std.specs.Prelude.{◌≡◌, ℕ, ℤ, pos, ◌≤◌, ◌<◌, Bool, true, false, if◌then◌else◌, List, Option, Some, None}
-use Rattle.std.specs.List.{All}
 use Rattle.cr_base.specs.Layout.{most_bytes}
 use Rattle.cr_base.specs.declared.layout.Spot.{Spot}
 use Rattle.cx_core.specs.declared.expr.Op1.{Op1}
@@ -8,10 +7,10 @@ use Rattle.cx_core.specs.declared.expr.Op1.TheVariants.{Not as Negates}
 use Rattle.cx_core.specs.declared.expr.Op2.{Op2}
 use Rattle.cx_core.specs.declared.expr.Op2.TheVariants as op2
 use Rattle.rs_mean.specs.Scalars.{fits_integer, is_scalar, is_integer, same_integer}
-use Rattle.rs_mean.specs.Typing.{Scope, BodyScope, of, is_bits, is_code, is_function_of, is_pointer, is_target, kind_of, own_function_at, place_type, stmt_typed, type_stands}
+use Rattle.rs_mean.specs.Typing.{Scope, BodyScope, of, is_bits, is_code, is_function_of, is_pointer, is_target, casts, kind_of, own_function_at, place_type, stmts_typed, type_stands}
 use Rattle.rs_text.specs.declared.integer.IntegerTy.{IntegerTy}
-use Rattle.rs_text.specs.declared.integer.IntegerTy.TheVariants.{I32, I64}
-use Rattle.rs_text.specs.Tree.{Ty, Integer, Boolean, Void, Pointer, Code, Tys, OptionTy, Place, Expr, Stmt}
+use Rattle.rs_text.specs.declared.integer.IntegerTy.TheVariants.{I32, I64, U64}
+use Rattle.rs_text.specs.Tree.{Ty, Integer, Boolean, Void, Pointer, Code, Tys, OptionTy, Place, Expr, stmts}
 use Rattle.lift_forms.specs.BitFields.{bit_read, bit_write, read_type}
 use Rattle.lift_forms.specs.Given.{Given, nothing, truth, value, place}
 use Rattle.lift_forms.specs.Operators.{Operand, constant, null_of, zero_of, value_of, test_of, opposite_of, unary_form, binary_form, and_form, or_form, choice_form, function_form, converted}
@@ -121,3 +120,17 @@ pub record PlacesAreTyped : Type 0 where
       type_stands scope.modules (Pointer ty) ≡ true → place_type scope (object_place kept ty) ≡ Some ty
   pub addresses : (scope : Scope) (ty target : Ty) (p : Place) → place_type scope p ≡ Some ty → is_target ty ≡ true →
       type_stands scope.modules (Pointer target) ≡ true → IsGivenAs scope (Pointer target) (address_form ty target p)
+
+-- a bit-field of the profile: of 1 to 32 bits, in an object that isn't too large
+pub record IsBitField (spot : Spot) : Type 0 where
+  pub bit : spot.bit < 8
+  pub some : 0 < spot.width
+  pub most : spot.width ≤ 32
+  pub near : spot.byte ≤ most_bytes
+
+pub record BitFieldsAreTyped : Type 0 where
+  pub reads : (scope : Scope) (base : Expr) (target : Ty) (spot : Spot) (signed : Bool) → IsBitField spot → IsOfType scope base (Pointer target) →
+      IsOfType scope (bit_read base spot signed) (Integer (read_type signed))
+  -- what is stored is an integer or a truth value
+  pub writes : (scope : BodyScope) (base stored : Expr) (target ty : Ty) (spot : Spot) → IsBitField spot → IsOfType scope.names base (Pointer target) →
+      IsOfType scope.names stored ty → casts ty (Integer U64) ≡ true → stmts_typed scope (stmts (bit_write base spot stored)) ≡ true

@@ -1,3 +1,7 @@
 //! The leaves of lifting: how each operator, conversion, place and bit-field of C is written in Rust, and why that means the same (ISO C99, 6.3, 6.5 and 6.7.2.1; the Rust
 //! Reference, "Expressions"; `core`).
 #![tactic(auto)]
+
+mod laws;
+
+pub use laws::{bit_fields_are_typed, constants_are_typed, forms_are_typed, places_are_typed};
