@@ -1,12 +1,12 @@
 -- Lists of cells that are below others, part by part.
-use Rattle.std.proofs.Common.{◌≡◌, ℕ, zero, suc, ◌+◌, ◌<◌, List, [], ◌∷◌, ◌++◌, map, length, take, drop, replicate, slice_index_or, refl, sym, ap, ◌∙◌, subst, arith}
+use Rattle.std.proofs.Common.{◌≡◌, ℕ, zero, suc, ◌+◌, ◌<◌, List, [], ◌∷◌, ◌++◌, map, length, take, drop, replicate, slice_index_or, refl, sym, ap, subst, arith}
 use Rattle.mem_bytes.specs.declared.cell.Cell.{Cell}
-use Rattle.mem_bytes.specs.declared.cell.Cell.TheVariants.{Bits, PtrByte}
+use Rattle.mem_bytes.specs.declared.cell.Cell.TheVariants.{PtrByte}
 use Rattle.cr_base.specs.Scalar.{modulus, residue}
 use Rattle.cr_base.specs.declared.scalar.Scalar.{Scalar}
 use Rattle.mem_bytes.specs.declared.value.Value.{Value}
-use Rattle.mem_bytes.specs.declared.value.Value.TheVariants.{Whole, Null, Object, Code}
-use Rattle.mem_bytes.specs.Coding.{scalar_size, bytes_of, cells_of, pointer_bytes}
+use Rattle.mem_bytes.specs.declared.value.Value.TheVariants.{Object, Code}
+use Rattle.mem_bytes.specs.Coding.{scalar_size, bytes_of, cells_of}
 use Rattle.mem_bytes.specs.Memory.{byte_cell}
 use Rattle.lift_stands.specs.Stands.{Images, ValueBelow, CellBelow, CellsBelow}
 

@@ -1,13 +1,12 @@
 -- What two pieces leave, one after the other.
-use Rattle.std.proofs.Common.{◌≡◌, ℕ, ◌<◌, ◌≤◌, Bool, true, false, length, Option, Some, None, refl, sym, ap, ◌∙◌, subst, ◌⊎◌, ⊎_elim, arith}
-use Rattle.std.proofs.lemmas.Bool.{cases_lt, cases_Bool}
+use Rattle.std.proofs.Common.{◌≡◌, ℕ, ◌<◌, ◌≤◌, Bool, true, false, length, Option, Some, None, refl, ap, ◌∙◌, subst, ⊎_elim, arith}
+use Rattle.std.proofs.lemmas.Bool.{cases_lt}
 use Rattle.std.proofs.lemmas.Option.{slice_get-get_or, slice_get_within}
-use Rattle.std.proofs.lemmas.List.{get_or_past}
 use Rattle.cr_world.specs.Held.{Held, is_listed}
 use Rattle.mem_bytes.proofs.Slots.{live_within}
-use Rattle.mem_bytes.specs.Memory.{Block, live_block, size_of}
+use Rattle.mem_bytes.specs.Memory.{Block, live_block}
 use Rattle.lift_stands.specs.Keeps.{KeepsOthers, LivesOn}
-use Rattle.lift_stands.specs.Stands.{Images, image_of, Extends, Lives, IsVacant}
+use Rattle.lift_stands.specs.Stands.{Images, image_of, Lives, IsVacant}
 use Rattle.lift_stands.proofs.Images.{extends_same, extends_more}
 
 -- the image of a block that was made

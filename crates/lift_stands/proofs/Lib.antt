@@ -1,5 +1,6 @@
 pub mod Cells
 pub mod Decoded
+pub mod Forms
 pub mod Images
 pub mod Kept
 pub mod Loads

@@ -1,5 +1,5 @@
 -- Stores at places of the crate that stand for places of C.
-use Rattle.std.proofs.Common.{◌≡◌, ◌≢◌, ℕ, zero, suc, ◌<◌, All, List, [], ◌∷◌, length, drop, replicate, slice_set, Option, Some, None, Result, Ok, Err, refl, sym, ap, ◌∙◌, subst, ⊎_elim, arith}
+use Rattle.std.proofs.Common.{◌≡◌, ◌≢◌, ℕ, zero, suc, ◌<◌, All, List, [], ◌∷◌, length, drop, replicate, slice_set, Option, Some, None, Result, Ok, refl, sym, ap, ◌∙◌, subst, ⊎_elim, arith}
 use Rattle.std.proofs.lemmas.Bool.{cases_eq, cond-false, ne_eqb}
 use Rattle.std.proofs.lemmas.List.{length-set}
 use Rattle.std.proofs.lemmas.List.Elements.{All-nil, All-cons, All-replicate, All-take, All-drop}
@@ -10,7 +10,7 @@ use Rattle.mem_bytes.specs.declared.value.Ptr.{Ptr}
 use Rattle.mem_bytes.specs.declared.value.Value.{Value}
 use Rattle.mem_bytes.specs.Access.{and_then, part_of, scalar_part_of, record_part_of, block_with_value, block_with_cell, block_with_fill, block_with_record, block_with_copy, live_read, live_change, copied_between, after_put, after_put_cell, after_put_record, after_fill, after_copy}
 use Rattle.mem_bytes.specs.Coding.{cells_of}
-use Rattle.mem_bytes.specs.Laws.{IsHeld, HoldsCells}
+use Rattle.mem_bytes.specs.Laws.{IsHeld}
 use Rattle.mem_bytes.specs.Memory.{Block, Blocks, live_block, byte_cell, with_part}
 use Rattle.mem_bytes.proofs.Held.{held_value, held_part, held_set}
 use Rattle.mem_bytes.proofs.Reached.{and_then_ok, changed, part_ok}
@@ -18,7 +18,6 @@ use Rattle.mem_bytes.proofs.Slots.{live-set_other, live-set_same, live_within}
 use Rattle.lift_stands.specs.LawsStores.{StandsAfter}
 use Rattle.lift_stands.specs.Stands.{Images, image_of, PlaceBelow, ValueBelow, CellBelow, CellsBelow, BlockBelow, HasImage, Lives, StandsFor}
 use Rattle.lift_stands.proofs.Cells.{length_below, part_below, fill_below, cells_of_below}
-use Rattle.lift_stands.proofs.Images.{same_images}
 use Rattle.lift_stands.proofs.Loads.{block_there, part_there, scalar_part_there, record_part_there}
 
 -- ---- one block changes on both sides

@@ -1,19 +1,17 @@
 -- Worked memories and cells: what stands for what, and what doesn't. Where a part of the relation is named, the example shows what goes wrong without it.
-use Rattle.std.proofs.Common.{◌≡◌, ℕ, zero, suc, ◌<◌, ◌/◌, ◌%◌, ◌^◌, pos, Bool, true, false, All, List, [], ◌∷◌, replicate, Option, Some, None, Ok, Err, refl, sym, ap, ◌∙◌, subst, arith}
+use Rattle.std.proofs.Common.{◌≡◌, ℕ, zero, suc, ◌<◌, pos, Bool, true, false, All, List, [], ◌∷◌, replicate, Some, None, Ok, Err, refl, sym, ◌∙◌, subst, arith, map}
 use Rattle.std.proofs.lemmas.List.Elements.{All-replicate}
 use Rattle.std.proofs.lemmas.Nat.Bits.{bit_at-zero}
 use Rattle.cr_base.specs.declared.scalar.Scalar.TheVariants.{Whole, Object as Address}
 use Rattle.cr_world.specs.Held.{Held, not_allocated}
 use Rattle.cr_world.specs.Known.{frees, fills, effect, gives, gives_nothing, fails}
-use Rattle.mem_bytes.specs.declared.cell.Cell.{Cell}
 use Rattle.mem_bytes.specs.declared.cell.Cell.TheVariants.{Bits, PtrByte}
-use Rattle.mem_bytes.specs.declared.fault.Fault.TheVariants.{Dead, Misaligned}
+use Rattle.mem_bytes.specs.declared.fault.Fault.TheVariants.{Dead, Misaligned, MixedPointer}
 use Rattle.mem_bytes.specs.declared.value.Ptr.{Ptr}
-use Rattle.mem_bytes.specs.declared.value.Value.{Value}
 use Rattle.mem_bytes.specs.declared.value.Value.TheVariants.{Whole as Number, Null, Object, Code}
-use Rattle.mem_bytes.specs.Access.{value_at, field_at, after_put}
+use Rattle.mem_bytes.specs.Access.{value_at, field_at, after_put, after_copy}
 use Rattle.mem_bytes.specs.Coding.{is_same_pointer, pointer_bytes}
-use Rattle.mem_bytes.specs.Laws.{IsHeld, HoldsCells}
+use Rattle.mem_bytes.specs.Laws.{IsHeld, HoldsCells, after_put_cells}
 use Rattle.mem_bytes.specs.Memory.{Block, Blocks, live_block, byte_cell, unset_cell}
 use Rattle.lift_stands.specs.Keeps.{KeepsOthers}
 use Rattle.lift_stands.specs.Stands.{Images, image_of, Extends, PlaceBelow, ValueBelow, bit_of, CellBelow, CellsBelow, BlockBelow, HasImage, Lives, StandsFor, IsNoImage, IsVacant}
@@ -215,3 +213,36 @@ dead_stays_dead : KeepsOthers 2 (λ number. false) of_x of_x (held_as (None ∷ 
 dead_stays_dead keeps =
     let gone : Some (bytes_of_seven 4) ≡ None = keeps.dead 0 (omega arith) refl in
     cc
+
+-- ---- copies
+
+-- a pointer whose eight bytes are copied one by one is the same pointer, in C and in the crate
+abbrev eight_bytes : Block
+eight_bytes = record { align = 8; cells = replicate 8 (byte_cell 0) }
+
+abbrev pointer_block : Ptr → Block
+pointer_block to = record { align = 8; cells = pointer_bytes (Object to) }
+
+copied_in_c : after_put_cells (Some eight_bytes ∷ []) (at 0 0) (pointer_bytes (Object (at 0 5))) ≡ Ok (Some (pointer_block (at 0 5)) ∷ [])
+copied_in_c = refl
+
+copied_in_crate : value_at (Some (pointer_block (at 2 5)) ∷ []) (at 0 0) Address ≡ Ok (Object (at 2 5))
+copied_in_crate = refl
+
+-- one byte of another pointer among them is no pointer
+mixed_in_crate : value_at (Some (record { align = 8; cells = PtrByte (Object (at 1 5)) 0 ∷ map (λ index. PtrByte (Object (at 2 5)) index) (1 ∷ 2 ∷ 3 ∷ 4 ∷ 5 ∷ 6 ∷ 7 ∷ []) }) ∷ []) (at 0 0) Address ≡ Err MixedPointer
+mixed_in_crate = refl
+
+-- a structure that is copied to itself, and one to a place that it overlaps
+abbrev counted : Block
+counted = record { align = 4; cells = map byte_cell (1 ∷ 2 ∷ 3 ∷ 4 ∷ []) }
+
+copied_to_itself : after_copy (Some counted ∷ []) (at 0 0) (at 0 0) 4 ≡ Ok (Some counted ∷ [])
+copied_to_itself = refl
+
+copied_over_itself : after_copy (Some counted ∷ []) (at 0 0) (at 0 1) 3 ≡ Ok (Some (record { align = 4; cells = map byte_cell (1 ∷ 1 ∷ 2 ∷ 3 ∷ []) }) ∷ [])
+copied_over_itself = refl
+
+-- unset cells are copied as they are, and what stands for them goes with them
+unset_copied : after_copy (Some (record { align = 1; cells = unset_cell ∷ byte_cell 3 ∷ [] }) ∷ []) (at 0 0) (at 0 1) 1 ≡ Ok (Some (record { align = 1; cells = unset_cell ∷ unset_cell ∷ [] }) ∷ [])
+unset_copied = refl

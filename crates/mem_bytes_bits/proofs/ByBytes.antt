@@ -25,11 +25,11 @@ use Rattle.mem_bytes_bits.specs.Laws.{HoldsBytes, after_put_bytes, byte_scalar, 
 
 -- ---- cells of bytes
 
-all_bits : (bytes : List ℕ) → list_all is_bits (map byte_cell bytes) ≡ true
+pub all_bits : (bytes : List ℕ) → list_all is_bits (map byte_cell bytes) ≡ true
 all_bits [] = refl
 all_bits (byte ∷ others) = all_bits others
 
-bits_back : (bytes : List ℕ) → bits_of (map byte_cell bytes) ≡ number_of bytes
+pub bits_back : (bytes : List ℕ) → bits_of (map byte_cell bytes) ≡ number_of bytes
 bits_back [] = refl
 bits_back (byte ∷ others) = ap (λ n. byte + 256 * n) (bits_back others)
 
@@ -39,14 +39,14 @@ next_power k =
     ap (λ e. 2 ^ e) more ∙ pow-add 2 8 (8 * k)
 
 -- all bits of them are set
-all_set : (bytes : List ℕ) → set_of (map byte_cell bytes) + 1 ≡ 2 ^ (8 * length bytes)
+pub all_set : (bytes : List ℕ) → set_of (map byte_cell bytes) + 1 ≡ 2 ^ (8 * length bytes)
 all_set [] = refl
 all_set (byte ∷ others) =
     let rest : set_of (map byte_cell others) + 1 ≡ 2 ^ (8 * length others) = all_set others in
     let power : 2 ^ (8 * suc (length others)) ≡ 256 * 2 ^ (8 * length others) = next_power (length others) in
     omega (arith, rest, power)
 
-set_cells : (count bits set : ℕ) → set + 1 ≡ 2 ^ (8 * count) → bit_cells count bits set ≡ map byte_cell (bytes_of count bits)
+pub set_cells : (count bits set : ℕ) → set + 1 ≡ 2 ^ (8 * count) → bit_cells count bits set ≡ map byte_cell (bytes_of count bits)
 set_cells zero bits set is = refl
 set_cells (suc count) bits set is =
     let power : 2 ^ (8 * suc count) ≡ 256 * 2 ^ (8 * count) = next_power count in
@@ -75,7 +75,7 @@ with_field_parts : (bit width field n : ℕ) → with_field bit width field n �
 with_field_parts bit width field n = omega arith
 
 -- it stays so where a field of set bits is put
-stays_set : (k bit width all : ℕ) → bit + width ≤ k → all + 1 ≡ 2 ^ k → with_field bit width (2 ^ width - 1) all ≡ all
+pub stays_set : (k bit width all : ℕ) → bit + width ≤ k → all + 1 ≡ 2 ^ k → with_field bit width (2 ^ width - 1) all ≡ all
 stays_set k bit width all less is =
     let some : 0 < 2 ^ width = pow_pos width in
     let power : 2 ^ (bit + width) ≡ 2 ^ bit * 2 ^ width = pow-add 2 bit width in
@@ -203,7 +203,7 @@ puts_to memory at (suc count) n block live some inside =
     ∙ ap Ok (set-set memory at.block (Some one) (Some (with_part one (at.offset + 1) (map byte_cell others)))
     ∙ ap (λ b. slice_set memory at.block (Some b)) (more_part block at.offset (byte_cell byte) (map byte_cell others) (omega (arith, inside, long))))
 
-touched : (bit width : ℕ) → bit + width ≤ 8 * bytes_touched bit width
+pub touched : (bit width : ℕ) → bit + width ≤ 8 * bytes_touched bit width
 touched bit width = omega arith
 
 pub field_stored : (memory after : Blocks) (at : Ptr) (bit width field : ℕ) (bytes : List ℕ) → HoldsBytes memory at (bytes_touched bit width) bytes → field < 2 ^ width →

@@ -1,0 +1,4 @@
+pub mod Alike
+pub mod Fields
+pub mod Numbers
+pub mod Worked

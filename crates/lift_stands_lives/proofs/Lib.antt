@@ -1,0 +1,10 @@
+pub mod Begun
+pub mod Copied
+pub mod HeldLives
+pub mod Lives
+pub mod Pushed
+pub mod Rooms
+pub mod Steps
+pub mod Stored
+pub mod Vacant
+pub mod Worked

@@ -1,0 +1,6 @@
+pub mod LawsHeld
+pub mod LawsLives
+pub mod LawsSteps
+pub mod LawsStored
+pub mod LawsVacant
+pub mod Rooms

@@ -1,0 +1,2 @@
+pub mod LawsOperators
+pub mod LawsPointers
