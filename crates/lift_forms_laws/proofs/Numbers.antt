@@ -12,7 +12,7 @@ use Rattle.cr_base.specs.declared.scalar.Scalar.TheVariants.{Whole}
 use Rattle.cx_numbers.specs.Numbers.{CWhy, breaks, represents, represented, in_type, quotient as c_quotient, remainder_by as c_remainder_by, left_shifted, right_shifted, shifted as c_shifted, width_of_scalar}
 use Rattle.cx_typed_values.proofs.Ranges.{in_range}
 use Rattle.rs_mean.specs.declared.cause.Cause.{Cause}
-use Rattle.rs_mean.specs.declared.cause.Cause.TheVariants.{Overflow, Divisor}
+use Rattle.rs_mean.specs.declared.cause.Cause.TheVariants.{Overflow, Divisor, Shift}
 use Rattle.rs_mean.specs.Numbers.{checked, wrapped_in, quotient, remainder_by, shifted, shifted_left, shifted_right}
 use Rattle.rs_mean.specs.Scalars.{integer_scalar, is_signed_integer, fits_integer, width_of}
 use Rattle.rs_text.specs.declared.integer.IntegerTy.{IntegerTy}
@@ -145,3 +145,53 @@ width_most U16 = omega arith
 width_most U32 = omega arith
 width_most U64 = omega arith
 width_most Usize = omega arith
+
+-- ---- shifts
+
+count_same : (which : IntegerTy) (count : ℕ) → nat_lt count (width_of which) ≡ true → converted (Whole 32 false) (pos count) ≡ pos count
+count_same which count less =
+    let small : count < width_of which = grind (arith, nat_tests, less) in
+    let most = width_most which in
+    ap pos (mod-eq_of_lt (omega (arith, small, most)))
+
+-- a count that is less than the width is the same as a `u32`
+pub left_is : (which : IntegerTy) (value count m : ℤ) → c_shifted left_shifted (integer_scalar which) value count ≡ Ok m →
+    shifted shifted_left which value (converted (Whole 32 false) count) ≡ Ok m
+left_is which value (negsuc n) m e = absurd cc
+left_is which value (pos count) m e = by_width (nat_lt count (width_of which)) refl (subst (λ (w : ℕ). (if nat_lt count w then left_shifted (integer_scalar which) value count else Err (breaks U4)) ≡ Ok m) (width_is which) e)
+  where
+    signed_left : (n : ℕ) → is_signed_integer which ≡ true → in_type U4 (integer_scalar which) (pos (n * 2 ^ count)) ≡ Ok m → wrapped_in which (pos (n * 2 ^ count)) ≡ m
+    signed_left n signed e =
+        let parts = represented_is (fits_integer which (pos (n * 2 ^ count))) U4 (pos (n * 2 ^ count)) m (sym (signed_type which U4 (pos (n * 2 ^ count)) signed) ∙ e) in
+        wrapped_same which (pos (n * 2 ^ count)) (in_range (integer_scalar which) (pos (n * 2 ^ count)) parts.0) ∙ parts.1
+
+    by_sign : (n : ℕ) (signed : Bool) → is_signed_integer which ≡ signed → in_type U4 (integer_scalar which) (pos (n * 2 ^ count)) ≡ Ok m → wrapped_in which (pos (n * 2 ^ count)) ≡ m
+    by_sign n true signed e = signed_left n signed e
+    by_sign n false signed e = let same : wrapped (integer_scalar which) (pos (n * 2 ^ count)) ≡ m = cc (sym (unsigned_type which U4 (pos (n * 2 ^ count)) signed) ∙ e) in same
+
+    by_value : (value : ℤ) → left_shifted (integer_scalar which) value count ≡ Ok m → shifted_left which value count ≡ m
+    by_value (pos n) e = by_sign n (is_signed_integer which) refl e
+    by_value (negsuc n) e = absurd cc
+
+    by_width : (test : Bool) → nat_lt count (width_of which) ≡ test → (if test then left_shifted (integer_scalar which) value count else Err (breaks U4)) ≡ Ok m →
+        shifted shifted_left which value (converted (Whole 32 false) (pos count)) ≡ Ok m
+    by_width true is e =
+        ap (shifted shifted_left which value) (count_same which count is)
+        ∙ ap (λ (b : Bool). if b then Ok (shifted_left which value count) else Err Shift) is ∙ ap Ok (by_value value e)
+    by_width false is e = absurd cc
+
+pub right_is : (which : IntegerTy) (value count m : ℤ) → c_shifted right_shifted (integer_scalar which) value count ≡ Ok m →
+    shifted shifted_right which value (converted (Whole 32 false) count) ≡ Ok m
+right_is which value (negsuc n) m e = absurd cc
+right_is which value (pos count) m e = by_width (nat_lt count (width_of which)) refl (subst (λ (w : ℕ). (if nat_lt count w then right_shifted (integer_scalar which) value count else Err (breaks U4)) ≡ Ok m) (width_is which) e)
+  where
+    by_value : (value : ℤ) → right_shifted (integer_scalar which) value count ≡ Ok m → shifted_right which value count ≡ m
+    by_value (pos n) e = cc
+    by_value (negsuc n) e = cc
+
+    by_width : (test : Bool) → nat_lt count (width_of which) ≡ test → (if test then right_shifted (integer_scalar which) value count else Err (breaks U4)) ≡ Ok m →
+        shifted shifted_right which value (converted (Whole 32 false) (pos count)) ≡ Ok m
+    by_width true is e =
+        ap (shifted shifted_right which value) (count_same which count is)
+        ∙ ap (λ (b : Bool). if b then Ok (shifted_right which value count) else Err Shift) is ∙ ap Ok (by_value value e)
+    by_width false is e = absurd cc
