@@ -1,3 +1,7 @@
+pub mod Binary
+pub mod Conversions
 pub mod Numbers
 pub mod Operands
+pub mod Pointers
 pub mod Runs
+pub mod Unary

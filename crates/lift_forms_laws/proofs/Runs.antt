@@ -20,20 +20,20 @@ use Rattle.lift_forms_laws.specs.Gives.{GivesAt, truth_number}
 
 -- ---- pieces
 
-seq_is : {A B : Type 0} (first : Run A) (next : A → Run B) (world : World) (units : ℕ) (given : A) → first world units ≡ came given world units →
+pub seq_is : {A B : Type 0} (first : Run A) (next : A → Run B) (world : World) (units : ℕ) (given : A) → first world units ≡ came given world units →
     seq first next world units ≡ next given world units
 unfolding seq
 seq_is first next world units given e = ap (λ r. bind r next) e
 
-looks_is : {A : Type 0} (step : Held → Result A Cause) (world : World) (units : ℕ) (given : A) → step world.held ≡ Ok given → looks step world units ≡ came given world units
+pub looks_is : {A : Type 0} (step : Held → Result A Cause) (world : World) (units : ℕ) (given : A) → step world.held ≡ Ok given → looks step world units ≡ came given world units
 unfolding local
 looks_is step world units given e = ap (λ r. after_step world units (kept world.held r)) e
 
-fails_is : {A : Type 0} (found : Result A Cause) (world : World) (units : ℕ) (given : A) → found ≡ Ok given → or_fails found world units ≡ came given world units
+pub fails_is : {A : Type 0} (found : Result A Cause) (world : World) (units : ℕ) (given : A) → found ≡ Ok given → or_fails found world units ≡ came given world units
 unfolding pure
 fails_is found world units given e = ap (λ r. or_fails r world units) e
 
-pure_is : {A : Type 0} (given : A) (world : World) (units : ℕ) → pure given world units ≡ came given world units
+pub pure_is : {A : Type 0} (given : A) (world : World) (units : ℕ) → pure given world units ≡ came given world units
 unfolding pure
 pure_is given world units = refl
 
