@@ -50,7 +50,7 @@ gives_number n = Ok n
 bits_are : {n m : ℤ} → c_gives n ≡ c_gives m → gives_number n ≡ gives_number m
 bits_are {n} {m} e = let same : n ≡ m = cc (e) in ap gives_number same
 
-needed_is : {A : Type 0} (found : Option A) (value : A) → needed found ≡ Ok value → found ≡ Some value
+pub needed_is : {A : Type 0} (found : Option A) (value : A) → needed found ≡ Ok value → found ≡ Some value
 needed_is (Some one) value e = let same : one ≡ value = cc (e) in ap Some same
 needed_is None value e = absurd cc
 

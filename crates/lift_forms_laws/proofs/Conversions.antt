@@ -107,7 +107,7 @@ module _ (images : Images) (frame : Frame) (world : World) (memory : Blocks) (st
       subst (GivesBelow images frame world (test_of operand) Boolean) (ap Whole (sym (same_truth parts.0)) ∙ number)
       (number_stands images frame world (test_of operand) Boolean (number_of_truth parts.0) (test_gives images frame world memory standing.stands operand of_c parts.0 h is parts.1))
 
-  as_type_stands : (from to : Ty) (given : Given) (of_c new : Value) → OperandStands images frame world (record { ty = from; given = given }) of_c → is_same_sort from to ≡ true →
+  pub as_type_stands : (from to : Ty) (given : Given) (of_c new : Value) → OperandStands images frame world (record { ty = from; given = given }) of_c → is_same_sort from to ≡ true →
       of_c ≡ new → GivesBelow images frame world (as_type from to (value_of (record { ty = from; given = given }))) to new
   as_type_stands from to given of_c new h sort same =
       let there = value_gives images frame world (record { ty = from; given = given }) of_c h in
@@ -129,7 +129,7 @@ module _ (images : Images) (frame : Frame) (world : World) (memory : Blocks) (st
       as_type_stands (Code others gives) (Code params result) given of_c new h refl (pointer_same scalar.Code memory of_c new e)
   to_function from params result given of_c new h b e = absurd cc
 
-  converted_by : (kind : Scalar) (operand : Operand) (to : Ty) (of_c new : Value) → OperandStands images frame world operand of_c → IsOf operand.ty of_c →
+  pub converted_by : (kind : Scalar) (operand : Operand) (to : Ty) (of_c new : Value) → OperandStands images frame world operand of_c → IsOf operand.ty of_c →
       converts operand.ty to ≡ true → scalar_of to ≡ Some kind → to_scalar kind memory of_c ≡ Ok new → GivenStands images frame world to (converted to operand) new
   converted_by kind operand (Integer which) of_c new h is c k e =
       to_integer which operand of_c new h is c (let same : integer_scalar which ≡ kind = cc (k) in subst (λ x. to_scalar x memory of_c ≡ Ok new) (sym same) e)
