@@ -1,4 +1,5 @@
 pub mod Binary
+pub mod Constants
 pub mod Conversions
 pub mod Numbers
 pub mod Operands

@@ -6,12 +6,13 @@ use Rattle.cr_runs.specs.Runs.{came}
 use Rattle.cr_world.specs.World.{World}
 use Rattle.mem_bytes.specs.declared.value.Value.{Value}
 use Rattle.mem_bytes.specs.declared.value.Value.TheVariants.{Whole, Null, Object, Code as Function}
+use Rattle.rs_mean.specs.Calls.{Spot}
 use Rattle.rs_mean.specs.Numbers.{number_of_truth}
-use Rattle.rs_mean.specs.Run.{Frame, run_expr}
+use Rattle.rs_mean.specs.Run.{Frame, run_expr, run_place}
 use Rattle.rs_mean.specs.Scalars.{integer_scalar}
 use Rattle.rs_mean.specs.Values.{typed}
 use Rattle.rs_text.specs.declared.integer.IntegerTy.TheVariants.{I32}
-use Rattle.rs_text.specs.Tree.{Ty, Integer, Boolean, Void, Pointer, Array, Code, Record, Expr, Read}
+use Rattle.rs_text.specs.Tree.{Ty, Integer, Boolean, Void, Pointer, Array, Code, Record, Place, Expr, Read}
 use Rattle.lift_forms.specs.Given.{Given, nothing, truth, value, place}
 use Rattle.lift_forms.specs.Operators.{Operand}
 use Rattle.lift_stands.specs.Stands.{Images, ValueBelow}
@@ -20,7 +21,11 @@ use Rattle.lift_stands.specs.Stands.{Images, ValueBelow}
 pub record GivesAt (frame : Frame) (world : World) (e : Expr) (ty : Ty) (given : Value) : Type 0 where
   pub runs : (units : ℕ) → run_expr frame e world units ≡ came (typed ty given) world units
 
--- so it gives one that stands for one of C
+-- a place comes to where it is, takes no unit and changes nothing
+pub record GivesPlace (frame : Frame) (world : World) (p : Place) (spot : Spot) : Type 0 where
+  pub runs : (units : ℕ) → run_place frame p world units ≡ came spot world units
+
+-- so an expression gives a value that stands for one of C
 pub record GivesBelow (images : Images) (frame : Frame) (world : World) (e : Expr) (ty : Ty) (of_c : Value) : Type 0 where
   pub other : Value
   pub gives : GivesAt frame world e ty other

@@ -1,6 +1,6 @@
 -- Laws of meaning: from operands that stand for C's, where the operator or the conversion of C has a meaning, the form gives what stands for C's result, takes no unit and
 -- changes nothing (ISO C99, 6.3, 6.5.3.3, 6.5.5 to 6.5.14; the Rust Reference, "Operator expressions" and "Type cast expressions").
-use Rattle.std.specs.Prelude.{◌≡◌, ℕ, ◌<◌, Bool, true, ◌&&◌, ◌||◌, false, Option, Some, Ok}
+use Rattle.std.specs.Prelude.{◌≡◌, ℕ, ◌<◌, ℤ, pos, Bool, true, ◌&&◌, ◌||◌, false, if◌then◌else◌, List, Option, Some, Ok}
 use Rattle.cr_base.specs.declared.layout.Laid.{Laid}
 use Rattle.cr_base.specs.declared.scalar.Scalar.{Scalar}
 use Rattle.cr_world.specs.World.{World}
@@ -12,16 +12,25 @@ use Rattle.cx_mean.specs.Settings.{CSetting, scalar_in_type}
 use Rattle.cx_mean.specs.Values.{is_true, unary_value, binary_value, to_scalar}
 use Rattle.cx_typed_values.specs.Values.{AreObjects, IsNear}
 use Rattle.mem_bytes.specs.Memory.{Blocks}
+use Rattle.mem_bytes.specs.Coding.{IsValueOf}
 use Rattle.mem_bytes.specs.declared.value.Value.{Value}
+use Rattle.mem_bytes.specs.declared.value.Value.TheVariants.{Whole, Null, Code as Function}
 use Rattle.rs_mean.specs.Layout.{laid_of}
-use Rattle.rs_mean.specs.Run.{Frame}
-use Rattle.rs_mean.specs.Scalars.{scalar_of}
-use Rattle.rs_text.specs.Tree.{Ty, Integer, Boolean, Pointer, Expr, And, Or, Choose}
+use Rattle.rs_mean.specs.Calls.{Spot, spot}
+use Rattle.rs_mean.specs.Lookups.{function_number}
+use Rattle.rs_mean.specs.Numbers.{number_of_truth}
+use Rattle.rs_mean.specs.Run.{Frame, is_base}
+use Rattle.rs_mean.specs.Scalars.{is_scalar, scalar_of}
+use Rattle.rs_mean.specs.Typing.{is_bits, is_pointer, is_code}
+use Rattle.rs_text.specs.declared.integer.IntegerTy.{IntegerTy}
+use Rattle.rs_text.specs.Tree.{Ty, Integer, Boolean, Pointer, Code, Tys, OptionTy, Place, Expr, And, Or, Choose}
+use Rattle.lift_forms.specs.Given.{address_of}
+use Rattle.lift_forms.specs.Places.{Kept, object_place, address_form}
 use Rattle.lift_forms.specs.LawsTyping.{unary_result, binary_result, converts}
-use Rattle.lift_forms.specs.Operators.{Operand, value_of, test_of, unary_form, binary_form, converted}
-use Rattle.lift_stands.specs.Stands.{Images, StandsFor}
+use Rattle.lift_forms.specs.Operators.{Operand, value_of, test_of, unary_form, binary_form, converted, constant, null_of, zero_of, function_form}
+use Rattle.lift_stands.specs.Stands.{Images, ValueBelow, StandsFor}
 use Rattle.lift_stands_pointers.specs.LawsOperators.{PointsToSize}
-use Rattle.lift_forms_laws.specs.Gives.{GivesAt, GivesBelow, truth_number, GivenStands, OperandStands, IsOf}
+use Rattle.lift_forms_laws.specs.Gives.{GivesAt, GivesPlace, GivesBelow, truth_number, GivenStands, OperandStands, IsOf}
 
 -- the memory of the crate stands for that of C, whose objects aren't larger than the profile allows
 pub record Standing (images : Images) (memory : Blocks) (world : World) : Type 0 where
@@ -48,6 +57,8 @@ Elements setting frame op (Pointer target) (Pointer behind) one other = Differin
 Elements setting frame op left right one other = Unit {0}
 
 pub record FormsStand : Type 0 where
+  -- what C has of a scalar type the crate has of the Rust type with the same one
+  pub kinds : (ty : Ty) (kind : Scalar) (of_c : Value) → scalar_of ty ≡ Some kind → IsValueOf kind of_c → IsOf ty of_c
   -- operands: their values, and as conditions (6.8.4.1p2)
   pub values : (images : Images) (frame : Frame) (world : World) (operand : Operand) (of_c : Value) → OperandStands images frame world operand of_c →
       GivesBelow images frame world (value_of operand) operand.ty of_c
@@ -75,3 +86,21 @@ pub record ChoicesStand : Type 0 where
   pub chosen : (frame : Frame) (world : World) (condition if_true if_false : Expr) (test : Bool) (ty : Ty) (given : Value) →
       GivesAt frame world condition Boolean (truth_number test) → (test ≡ true → GivesAt frame world if_true ty given) → (test ≡ false → GivesAt frame world if_false ty given) →
       GivesAt frame world (Choose condition if_true if_false) ty given
+
+pub record ConstantsStand : Type 0 where
+  pub numbers : (frame : Frame) (world : World) (which : IntegerTy) (number : ℤ) → GivesAt frame world (constant (Integer which) number) (Integer which) (Whole number)
+  pub truths : (frame : Frame) (world : World) (test : Bool) → GivesAt frame world (constant Boolean (number_of_truth test)) Boolean (truth_number test)
+  pub nulls : (frame : Frame) (world : World) (ty : Ty) → (is_pointer ty || is_code ty) ≡ true → GivesAt frame world (null_of ty) ty Null
+  -- zero and `false` are 0, the other types have a null pointer
+  pub zeros : (frame : Frame) (world : World) (ty : Ty) → is_scalar ty ≡ true → GivesAt frame world (zero_of ty) ty (if is_bits ty then Whole (pos 0) else Null)
+  pub functions : (images : Images) (frame : Frame) (world : World) (m x : List ℕ) (params : Tys) (result : OptionTy) (ty : Ty) (number image : ℕ) → is_code ty ≡ true →
+      function_number frame.modules m x ≡ Some image → images.functions number ≡ Some image → GivenStands images frame world ty (function_form m x (Code params result) ty) (Function number)
+
+pub record PlacesStand : Type 0 where
+  -- an object that is kept with another type than it is used with is at the same place, which is aligned for this type
+  pub objects : (frame : Frame) (world : World) (kept : Kept) (ty : Ty) (at : Value) → GivesPlace frame world kept.place (spot kept.ty at) →
+      is_base frame.modules world.held.blocks ty at ≡ true → GivesPlace frame world (object_place kept ty) (spot ty at)
+  pub addresses : (frame : Frame) (world : World) (ty : Ty) (p : Place) (where_it_is : Spot) → GivesPlace frame world p where_it_is → where_it_is.ty ≡ ty →
+      GivesAt frame world (address_of p) (Pointer ty) where_it_is.at
+  pub address_forms : (images : Images) (frame : Frame) (world : World) (ty target : Ty) (p : Place) (where_it_is : Spot) (of_c : Value) → GivesPlace frame world p where_it_is →
+      where_it_is.ty ≡ ty → ValueBelow images of_c where_it_is.at → GivenStands images frame world (Pointer target) (address_form ty target p) of_c
