@@ -3,3 +3,4 @@ pub mod Given
 pub mod LawsTyping
 pub mod Operators
 pub mod Places
+pub mod Views

@@ -1,6 +1,6 @@
 -- The operators and conversions of C as Rust writes them (ISO C99, 6.3 and 6.5; the Rust Reference, "Operator expressions" and "Type cast expressions"; `core`). Signed
 -- `+ - * / %`, unary minus, unsigned `/ %`, bit operators and shifts are plain operators; unsigned `+ - *` and minus are the wrapping calls. Truth values stay `bool`.
-use Rattle.std.specs.Prelude.{ℕ, Bool, true, false, if◌then◌else◌, ℤ, pos, neg_ℤ, List}
+use Rattle.std.specs.Prelude.{ℕ, Bool, true, false, if◌then◌else◌, ℤ, pos, neg_ℤ, List, Option, Some, None}
 use Rattle.std.specs.Ordering.{int_eq}
 use Rattle.cx_core.specs.declared.expr.Op1.{Op1}
 use Rattle.cx_core.specs.declared.expr.Op1.TheVariants.{Plus, Minus, Complement, Not as Negates}
@@ -68,13 +68,14 @@ pub record Operand : Type 0 where
   pub given : Given
 
 -- its value in its Rust type
+abbrev pub given_value : Given → Expr
+given_value nothing = NoFunction
+given_value (truth e) = number_of e
+given_value (value e) = e
+given_value (place p) = Read p
+
 abbrev pub value_of : Operand → Expr
-value_of operand = elim operand.given as (λ _. Expr) [
-  | nothing ↦ NoFunction
-  | truth e ↦ number_of e
-  | value e ↦ e
-  | place p ↦ Read p
-]
+value_of operand = given_value operand.given
 
 -- its value in an integer type: a truth value goes there at once, from `bool`
 abbrev pub integer_as : IntegerTy → Operand → Expr
@@ -130,10 +131,18 @@ abbrev pub minus_literal : IntegerTy → ℤ → Expr
 minus_literal which number =
     if fits_integer which (neg_ℤ number) then Literal (neg_ℤ number) which else Binary (Literal (pos 0) which) rust.Sub (Literal number which)
 
+-- the number of a literal
+abbrev pub literal_number : Expr → Option ℤ
+literal_number (Literal number ty) = Some number
+literal_number e = None
+
+abbrev pub minus_by : Option ℤ → IntegerTy → Expr → Expr
+minus_by (Some number) which e = minus_literal which number
+minus_by None which e = Neg e
+
 -- minus a value of a signed type
 abbrev pub minus : IntegerTy → Expr → Expr
-minus which (Literal number ty) = minus_literal which number
-minus which e = Neg e
+minus which e = minus_by (literal_number e) which e
 
 abbrev pub negated : Ty → Expr → Expr
 negated (Integer which) e = if is_signed_integer which then minus which e else WrappingNeg e
