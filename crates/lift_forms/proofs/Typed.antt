@@ -15,7 +15,7 @@ use Rattle.rs_text.specs.declared.operator.Wrapping.TheVariants.{WrappingAdd, Wr
 use Rattle.rs_text.specs.Tree.{Ty, Integer, Boolean, Void, Pointer, Array, Code, Record, Tys, OptionTy, Place, Local, Static, Deref, Field, Expr, Literal, Truth, NoFunction, SomeFunction, Read, Wrapped, WrappingNeg, Offset, OffsetFrom, IsNull, IsNone, Transmute, Neg, Not, Cast, Binary, And, Or, Choose}
 use Rattle.lift_forms.specs.Given.{Given, nothing, truth, value, place, address_of, pointed}
 use Rattle.lift_forms.specs.LawsTyping.{IsOfType, IsGivenAs, IsOperand, unary_result, is_comparison, numbers_result, moved_result, pointers_result, functions_result, added_result, binary_result, converts}
-use Rattle.lift_forms.specs.Operators.{Operand, cast_to, transmute_to, as_type, value_of, integer_as, is_not_zero, is_zero, test_of, opposite_of, minus, minus_literal, negated, unary_form, summed, count_of, elements_of, integers_form, beside, moved_form, pointers_form, binary_form, constant, null_of, zero_of, and_form, or_form, choice_form, function_form, converted}
+use Rattle.lift_forms.specs.Operators.{Operand, cast_to, transmute_to, as_type, value_of, integer_as, is_not_zero, is_zero, test_of, opposite_of, minus, literal_or_minus, minus_literal, negated, unary_form, summed, count_of, elements_of, integers_form, beside, moved_form, pointers_form, binary_form, constant, null_of, zero_of, and_form, or_form, choice_form, function_form, converted}
 use Rattle.lift_forms.specs.Places.{Kept, object_place, address_form}
 use Rattle.lift_forms.proofs.SameTypes.{both_are_true, same_integer_itself, integer_is, same_itself, type_is}
 
@@ -156,7 +156,7 @@ module _ (scope : Scope) where
   minus_literal_typed which ty number h =
       let parts = literal_is (fits_integer ty number) ty which h in
       let literal : IsOfType scope (Literal number which) (Integer which) = subst (λ t. IsOfType scope (Literal number t) (Integer which)) parts.1 h in
-      by_test (λ x. IsOfType scope x (Integer which)) (fits_integer which (neg_ℤ number)) (Literal (neg_ℤ number) which) (Binary (Literal (pos 0) which) rust.Sub (Literal number which))
+      by_test (λ o. IsOfType scope (literal_or_minus o which number) (Integer which)) (fits_integer which (neg_ℤ number)) (Some (neg_ℤ number)) None
       (λ fits. ap (λ b. only_if b (Integer which)) fits)
       (λ _. subtracted which (Literal (pos 0) which) (Literal number which) (zero_literal which) literal)
 

@@ -13,6 +13,7 @@ use Rattle.rs_text.specs.declared.integer.IntegerTy.TheVariants.{I32, I64, U64}
 use Rattle.rs_text.specs.Tree.{Ty, Integer, Boolean, Void, Pointer, Code, Tys, OptionTy, Place, Expr, stmts}
 use Rattle.lift_forms.specs.BitFields.{bit_read, bit_write, read_type}
 use Rattle.lift_forms.specs.Given.{Given, nothing, truth, value, place}
+pub use Rattle.lift_forms.specs.Operators.{is_comparison}
 use Rattle.lift_forms.specs.Operators.{Operand, constant, null_of, zero_of, value_of, test_of, opposite_of, unary_form, binary_form, and_form, or_form, choice_form, function_form, converted}
 use Rattle.lift_forms.specs.Places.{Kept, object_place, address_form}
 
@@ -35,15 +36,6 @@ IsOperand scope operand = IsGivenAs scope operand.ty operand.given
 abbrev pub unary_result : Op1 → Ty → Option Ty
 unary_result Negates ty = if is_scalar ty then Some (Integer I32) else None
 unary_result op ty = if is_integer ty then Some ty else None
-
-abbrev pub is_comparison : Op2 → Bool
-is_comparison op2.Less = true
-is_comparison op2.Greater = true
-is_comparison op2.LessOrEqual = true
-is_comparison op2.GreaterOrEqual = true
-is_comparison op2.Equal = true
-is_comparison op2.NotEqual = true
-is_comparison _ = false
 
 -- two integers: of one type, but for the count of a shift
 abbrev pub numbers_result : Op2 → (one other : IntegerTy) → Option Ty

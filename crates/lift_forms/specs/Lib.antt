@@ -3,4 +3,3 @@ pub mod Given
 pub mod LawsTyping
 pub mod Operators
 pub mod Places
-pub mod Views

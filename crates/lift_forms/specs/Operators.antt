@@ -126,10 +126,17 @@ opposite_of operand = elim operand.given as (λ _. Expr) [
 
 -- ---- operators with one operand
 
+-- the opposite number, where the type has it
+abbrev pub opposite : IntegerTy → ℤ → Option ℤ
+opposite which number = if fits_integer which (neg_ℤ number) then Some (neg_ℤ number) else None
+
+abbrev pub literal_or_minus : Option ℤ → IntegerTy → ℤ → Expr
+literal_or_minus (Some other) which number = Literal other which
+literal_or_minus None which number = Binary (Literal (pos 0) which) rust.Sub (Literal number which)
+
 -- minus a literal is the opposite literal, where there is one
 abbrev pub minus_literal : IntegerTy → ℤ → Expr
-minus_literal which number =
-    if fits_integer which (neg_ℤ number) then Literal (neg_ℤ number) which else Binary (Literal (pos 0) which) rust.Sub (Literal number which)
+minus_literal which number = literal_or_minus (opposite which number) which number
 
 -- the number of a literal
 abbrev pub literal_number : Expr → Option ℤ
@@ -161,28 +168,62 @@ unary_form Negates operand = truth (opposite_of operand)
 abbrev pub summed : IntegerTy → Operator → Wrapping → (left right : Expr) → Expr
 summed which operator wrapping left right = if is_signed_integer which then Binary left operator right else Wrapped left wrapping right
 
+-- the operator of Rust that is written for one of C
+abbrev pub operator_of : Op2 → Operator
+operator_of op2.Multiply = rust.Mul
+operator_of op2.Divide = rust.Div
+operator_of op2.Remainder = rust.Rem
+operator_of op2.Add = rust.Add
+operator_of op2.Subtract = rust.Sub
+operator_of op2.ShiftLeft = rust.Shl
+operator_of op2.ShiftRight = rust.Shr
+operator_of op2.Less = rust.Less
+operator_of op2.Greater = rust.Greater
+operator_of op2.LessOrEqual = rust.LessEqual
+operator_of op2.GreaterOrEqual = rust.GreaterEqual
+operator_of op2.Equal = rust.Equal
+operator_of op2.NotEqual = rust.NotEqual
+operator_of op2.BitAnd = rust.BitAnd
+operator_of op2.BitXor = rust.BitXor
+operator_of op2.BitOr = rust.BitOr
+
+-- and the operation modulo 2 to the width, where there is one
+abbrev pub wrapping_of : Op2 → Option Wrapping
+wrapping_of op2.Multiply = Some WrappingMul
+wrapping_of op2.Add = Some WrappingAdd
+wrapping_of op2.Subtract = Some WrappingSub
+wrapping_of _ = None
+
+abbrev pub is_comparison : Op2 → Bool
+is_comparison op2.Less = true
+is_comparison op2.Greater = true
+is_comparison op2.LessOrEqual = true
+is_comparison op2.GreaterOrEqual = true
+is_comparison op2.Equal = true
+is_comparison op2.NotEqual = true
+is_comparison _ = false
+
+abbrev pub is_shift : Op2 → Bool
+is_shift op2.ShiftLeft = true
+is_shift op2.ShiftRight = true
+is_shift _ = false
+
 -- a shift count is a `u32`
 abbrev pub count_of : Operand → Expr
 count_of operand = integer_as U32 operand
 
+abbrev pub computed : Option Wrapping → Operator → IntegerTy → (left right : Expr) → Expr
+computed (Some wrapping) operator which left right = summed which operator wrapping left right
+computed None operator which left right = Binary left operator right
+
+-- an operator between two values
+abbrev pub joined : Op2 → IntegerTy → (left right : Expr) → Given
+joined op which left right =
+    if is_comparison op then truth (Binary left (operator_of op) right) else value (computed (wrapping_of op) (operator_of op) which left right)
+
 -- operands of one integer type, and of a shift the first one
 abbrev pub integers_form : Op2 → IntegerTy → (left right : Operand) → Given
-integers_form op2.Multiply which left right = value (summed which rust.Mul WrappingMul (value_of left) (value_of right))
-integers_form op2.Divide which left right = value (Binary (value_of left) rust.Div (value_of right))
-integers_form op2.Remainder which left right = value (Binary (value_of left) rust.Rem (value_of right))
-integers_form op2.Add which left right = value (summed which rust.Add WrappingAdd (value_of left) (value_of right))
-integers_form op2.Subtract which left right = value (summed which rust.Sub WrappingSub (value_of left) (value_of right))
-integers_form op2.ShiftLeft which left right = value (Binary (value_of left) rust.Shl (count_of right))
-integers_form op2.ShiftRight which left right = value (Binary (value_of left) rust.Shr (count_of right))
-integers_form op2.Less which left right = truth (Binary (value_of left) rust.Less (value_of right))
-integers_form op2.Greater which left right = truth (Binary (value_of left) rust.Greater (value_of right))
-integers_form op2.LessOrEqual which left right = truth (Binary (value_of left) rust.LessEqual (value_of right))
-integers_form op2.GreaterOrEqual which left right = truth (Binary (value_of left) rust.GreaterEqual (value_of right))
-integers_form op2.Equal which left right = truth (Binary (value_of left) rust.Equal (value_of right))
-integers_form op2.NotEqual which left right = truth (Binary (value_of left) rust.NotEqual (value_of right))
-integers_form op2.BitAnd which left right = value (Binary (value_of left) rust.BitAnd (value_of right))
-integers_form op2.BitXor which left right = value (Binary (value_of left) rust.BitXor (value_of right))
-integers_form op2.BitOr which left right = value (Binary (value_of left) rust.BitOr (value_of right))
+integers_form op which left right = joined op which (value_of left) (if is_shift op then count_of right else value_of right)
 
 -- how many elements a pointer is moved by
 abbrev pub elements_of : Operand → Expr
@@ -201,13 +242,7 @@ beside left right = as_type right.ty left.ty (value_of right)
 -- two pointers, both to objects or both to functions (6.5.6p9, 6.5.8p5, 6.5.9p6)
 abbrev pub pointers_form : Op2 → (left right : Operand) → Given
 pointers_form op2.Subtract left right = value (Cast (OffsetFrom (value_of left) (beside left right)) (Integer I64))
-pointers_form op2.Less left right = truth (Binary (value_of left) rust.Less (beside left right))
-pointers_form op2.Greater left right = truth (Binary (value_of left) rust.Greater (beside left right))
-pointers_form op2.LessOrEqual left right = truth (Binary (value_of left) rust.LessEqual (beside left right))
-pointers_form op2.GreaterOrEqual left right = truth (Binary (value_of left) rust.GreaterEqual (beside left right))
-pointers_form op2.Equal left right = truth (Binary (value_of left) rust.Equal (beside left right))
-pointers_form op2.NotEqual left right = truth (Binary (value_of left) rust.NotEqual (beside left right))
-pointers_form op left right = nothing
+pointers_form op left right = if is_comparison op then truth (Binary (value_of left) (operator_of op) (beside left right)) else nothing
 
 -- an operator with two operands, by their types
 abbrev pub binary_by : Op2 → (one other : Ty) → (left right : Operand) → Given

@@ -30,7 +30,7 @@ use Rattle.rs_text.specs.declared.operator.Operator.TheVariants as rust
 use Rattle.rs_text.specs.Tree.{Ty, Integer, Boolean, Void, Pointer, Array, Code, Record, Expr, Literal, Neg, Not, WrappingNeg, Binary}
 use Rattle.lift_forms.specs.Given.{Given, nothing, truth, value, place}
 use Rattle.lift_forms.specs.LawsTyping.{unary_result}
-use Rattle.lift_forms.specs.Operators.{Operand, value_of, minus, minus_literal, negated, unary_form, opposite_of}
+use Rattle.lift_forms.specs.Operators.{Operand, value_of, minus, literal_or_minus, minus_literal, negated, unary_form, opposite_of}
 use Rattle.lift_forms.proofs.Typed.{by_test, if_some}
 use Rattle.lift_stands.specs.Stands.{Images, ValueBelow}
 use Rattle.lift_forms_laws.specs.Gives.{GivesAt, GivesBelow, GivesTruth, truth_number, GivenStands, OperandStands, IsOf}
@@ -69,7 +69,7 @@ module _ (images : Images) (frame : Frame) (world : World) where
   minus_of_literal : (which : IntegerTy) (number : ℤ) → fits_integer which (neg_ℤ number) ≡ true →
       GivesAt frame world (minus_literal which number) (Integer which) (Whole (neg_ℤ number))
   minus_of_literal which number fits =
-      subst (λ (b : Bool). GivesAt frame world (if b then Literal (neg_ℤ number) which else Binary (Literal (pos 0) which) rust.Sub (Literal number which)) (Integer which) (Whole (neg_ℤ number)))
+      subst (λ (b : Bool). GivesAt frame world (literal_or_minus (if b then Some (neg_ℤ number) else None) which number) (Integer which) (Whole (neg_ℤ number)))
       (sym fits) (literal_gives frame world (neg_ℤ number) which)
 
   pub minus_gives : (which : IntegerTy) (e : Expr) (number : ℤ) → GivesAt frame world e (Integer which) (Whole number) → fits_integer which (neg_ℤ number) ≡ true →

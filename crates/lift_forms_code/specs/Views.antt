@@ -1,7 +1,7 @@
 -- Which form a value of the declared type is.
 use Rattle.std.specs.Prelude.{List, []}
-use Rattle.lift_forms.specs.declared.given.RGiven.{RGiven}
-use Rattle.lift_forms.specs.declared.given.RGiven.TheVariants as made
+use Rattle.lift_forms_code.specs.declared.given.RGiven.{RGiven}
+use Rattle.lift_forms_code.specs.declared.given.RGiven.TheVariants as made
 use Rattle.lift_forms.specs.Given.{Given, nothing, truth, value, place}
 use Rattle.lift_forms.specs.Operators.{Operand}
 use Rattle.rs_tree.specs.declared.ty.RTy.{RTy}

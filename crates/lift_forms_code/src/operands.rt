@@ -2,7 +2,7 @@
 
 ghost use Rattle.std.specs.Prelude.{◌≡◌, pos, IfOk};
 ghost use Rattle.lift_forms.specs.Operators.{cast_to, transmute_to, as_type, given_value, integer_as, is_not_zero, is_zero, test_of, opposite_of};
-ghost use Rattle.lift_forms.specs.Views.{given_view, operand_view};
+ghost use Rattle.lift_forms_code.specs.Views.{given_view, operand_view};
 ghost use Rattle.rs_text.specs.Tree as tree;
 ghost use Rattle.rs_tree.specs.Views.{ty_view, expr_view};
 

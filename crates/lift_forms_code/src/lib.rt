@@ -1,0 +1,15 @@
+//! The forms of operators, conversions, places and bit-fields of C as trees of Rust, each equal to its definition, want of memory aside (ISO C99, 6.3, 6.5 and 6.7.2.1; the Rust
+//! Reference, "Expressions").
+#![tactic(auto)]
+
+mod copies;
+mod given;
+mod makers;
+mod operands;
+mod same;
+
+pub use copies::copy_ty;
+pub use given::RGiven;
+pub use operands::{
+    as_type, cast_to, integer_as, is_not_zero, is_zero, opposite_of, test_of, transmute_to, value_of,
+};
