@@ -229,20 +229,36 @@ integers_form op which left right = joined op which (value_of left) (if is_shift
 abbrev pub elements_of : Operand → Expr
 elements_of operand = integer_as Isize operand
 
+-- a pointer is moved by a number of elements, or back
+abbrev pub moves : Op2 → Bool
+moves op2.Add = true
+moves op2.Subtract = true
+moves _ = false
+
+abbrev pub is_back : Op2 → Bool
+is_back op2.Subtract = true
+is_back _ = false
+
+abbrev pub moved : Op2 → (at elements : Expr) → Given
+moved op at elements = if moves op then value (Offset at (if is_back op then minus Isize elements else elements)) else nothing
+
 -- a pointer and a number (6.5.6p8)
 abbrev pub moved_form : Op2 → (at count : Operand) → Given
-moved_form op2.Add at count = value (Offset (value_of at) (elements_of count))
-moved_form op2.Subtract at count = value (Offset (value_of at) (minus Isize (elements_of count)))
-moved_form op at count = nothing
+moved_form op at count = moved op (value_of at) (elements_of count)
 
 -- the second of two pointers, in the type of the first
 abbrev pub beside : (left right : Operand) → Expr
 beside left right = as_type right.ty left.ty (value_of right)
 
+-- two pointers of one type
+abbrev pub pointers_joined : Op2 → (left right : Expr) → Given
+pointers_joined op left right =
+    if is_back op then value (Cast (OffsetFrom left right) (Integer I64))
+    else (if is_comparison op then truth (Binary left (operator_of op) right) else nothing)
+
 -- two pointers, both to objects or both to functions (6.5.6p9, 6.5.8p5, 6.5.9p6)
 abbrev pub pointers_form : Op2 → (left right : Operand) → Given
-pointers_form op2.Subtract left right = value (Cast (OffsetFrom (value_of left) (beside left right)) (Integer I64))
-pointers_form op left right = if is_comparison op then truth (Binary (value_of left) (operator_of op) (beside left right)) else nothing
+pointers_form op left right = pointers_joined op (value_of left) (beside left right)
 
 -- an operator with two operands, by their types
 abbrev pub binary_by : Op2 → (one other : Ty) → (left right : Operand) → Given
