@@ -1,138 +1,23 @@
-//! Operators and conversions of C as Rust writes them (ISO C99, 6.3, 6.5.3.3, 6.5.5 to 6.5.15). Each form is refused only for want of memory.
+//! Operators of C with two operands as Rust writes them (ISO C99, 6.5.5 to 6.5.12). Each form is refused only for want of memory.
 
-ghost use Rattle.std.specs.Prelude.{◌≡◌, pos, if◌then◌else◌, IfOk};
-ghost use Rattle.lift_forms.specs.Operators.{given_value, value_of, count_of, elements_of, opposite, literal_or_minus, minus_literal, literal_number, minus_by, minus, negated, unary_form, summed, operator_of, wrapping_of, is_comparison, is_shift, computed, joined, integers_form, moved_form, beside, pointers_form, binary_form, and_form, or_form, choice_form, converted};
-ghost use Rattle.lift_forms.specs.Views.{given_view, operand_view};
+ghost use Rattle.std.specs.Prelude.{◌≡◌, if◌then◌else◌, map, option_map, IfOk};
+ghost use Rattle.lift_forms.specs.Given.{nothing, truth};
+ghost use Rattle.lift_forms.specs.Operators.{given_value, value_of, count_of, elements_of, minus, summed, operator_of, wrapping_of, is_comparison, is_shift, computed, joined, moves, is_back, moved, pointers_joined, pointers_form, as_type, binary_by, binary_form};
+ghost use Rattle.lift_forms_code.specs.Views.{given_view, operand_view};
 ghost use Rattle.rs_text.specs.Tree as tree;
-ghost use Rattle.rs_text.specs.declared.integer.IntegerTy.TheVariants.{Isize};
-ghost use Rattle.rs_text.specs.declared.operator.Operator.TheVariants as rust;
-ghost use Rattle.lift_forms.specs.Given.{nothing};
+ghost use Rattle.rs_text.specs.Tree.{tys, option_ty};
+ghost use Rattle.rs_text.specs.declared.integer.IntegerTy.TheVariants.{I64, Isize};
 ghost use Rattle.rs_tree.specs.Views.{ty_view, expr_view};
 
 use crate::given::RGiven;
-use crate::makers::{
-    and, binary, choose, literal, neg, not, offset, offset_from, or, wrapped, wrapping_neg,
-};
-use crate::operands::{as_integer, as_type, integer_as, opposite_of, test_of, value_of};
+use crate::makers::{binary, offset, offset_from, wrapped};
+use crate::operands::{as_integer, as_type, integer_as, value_of};
 use crate::same::is_signed_integer;
-use cr_base::{Boxed, Int, Memory};
-use cx_core::{Op1, Op2};
-use rs_mean::fits_integer;
+use crate::unary::minus;
+use cr_base::{Boxed, Items, Memory};
+use cx_core::Op2;
 use rs_tree::{IntegerTy, Operator, RExpr, RTy, Wrapping};
 use std::alloc::Global;
-
-// ---- minus
-
-fn opposite(which: IntegerTy, number: Int) -> Option<Int>
-    ensures { result ≡ opposite which number }
-{
-    match number.checked_neg() {
-        Some(other) => {
-            if fits_integer(which, other) {
-                Some(other)
-            } else {
-                None
-            }
-        }
-        None => None,
-    }
-}
-
-// `0 - n`
-fn taken_from_zero(alloc: Global, which: IntegerTy, number: Int) -> Result<Boxed<RExpr>, Memory>
-    ensures { IfOk result (λ made. expr_view made ≡ tree.Binary (tree.Literal (pos 0) which) rust.Sub (tree.Literal number which)) }
-{
-    let zero = literal(alloc, 0, which)?;
-    let right = literal(alloc, number, which)?;
-    binary(alloc, zero, Operator::Sub, right)
-}
-
-fn literal_or_minus(
-    alloc: Global,
-    other: Option<Int>,
-    which: IntegerTy,
-    number: Int,
-) -> Result<Boxed<RExpr>, Memory>
-    ensures { IfOk result (λ made. expr_view made ≡ literal_or_minus other which number) }
-{
-    match other {
-        Some(other) => literal(alloc, other, which),
-        None => taken_from_zero(alloc, which, number),
-    }
-}
-
-fn minus_literal(alloc: Global, which: IntegerTy, number: Int) -> Result<Boxed<RExpr>, Memory>
-    ensures { IfOk result (λ made. expr_view made ≡ minus_literal which number) }
-{
-    literal_or_minus(alloc, opposite(which, number), which, number)
-}
-
-fn literal_number(e: &RExpr) -> Option<Int>
-    ensures { result ≡ literal_number (expr_view e.now) }
-{
-    match e {
-        RExpr::Literal(number, _) => Some(*number),
-        _ => None,
-    }
-}
-
-fn minus_by(
-    alloc: Global,
-    number: Option<Int>,
-    which: IntegerTy,
-    e: Boxed<RExpr>,
-) -> Result<Boxed<RExpr>, Memory>
-    ensures { IfOk result (λ made. expr_view made ≡ minus_by number which (expr_view e)) }
-{
-    match number {
-        Some(number) => minus_literal(alloc, which, number),
-        None => neg(alloc, e),
-    }
-}
-
-fn minus(alloc: Global, which: IntegerTy, e: Boxed<RExpr>) -> Result<Boxed<RExpr>, Memory>
-    ensures { IfOk result (λ made. expr_view made ≡ minus which (expr_view e)) }
-{
-    let number = literal_number(e.get());
-    minus_by(alloc, number, which, e)
-}
-
-fn negated(alloc: Global, ty: &RTy, e: Boxed<RExpr>) -> Result<Boxed<RExpr>, Memory>
-    ensures { IfOk result (λ made. expr_view made ≡ negated (ty_view ty.now) (expr_view e)) }
-{
-    match ty {
-        RTy::Integer(which) => {
-            if is_signed_integer(*which) {
-                minus(alloc, *which, e)
-            } else {
-                wrapping_neg(alloc, e)
-            }
-        }
-        _ => Ok(e),
-    }
-}
-
-// ---- one operand
-
-/// An operator with one operand.
-pub fn unary_form(alloc: Global, op: Op1, ty: &RTy, given: RGiven) -> Result<RGiven, Memory>
-    ensures { IfOk result (λ form. given_view form ≡ unary_form op (operand_view ty.now given)) }
-{
-    match op {
-        Op1::Plus => Ok(RGiven::Value(value_of(alloc, given)?)),
-        Op1::Minus => {
-            let e = value_of(alloc, given)?;
-            Ok(RGiven::Value(negated(alloc, ty, e)?))
-        }
-        Op1::Complement => {
-            let e = value_of(alloc, given)?;
-            Ok(RGiven::Value(not(alloc, e)?))
-        }
-        Op1::Not => Ok(RGiven::Truth(opposite_of(alloc, ty, given)?)),
-    }
-}
-
-// ---- two operands
 
 fn operator_of(op: Op2) -> Operator
     ensures { result ≡ operator_of op }
@@ -263,36 +148,46 @@ fn integers_form(
     joined(alloc, op, which, left, right)
 }
 
-// A pointer that is moved by so many elements, or back.
-fn moved_by(
-    alloc: Global,
-    back: bool,
-    at: Boxed<RExpr>,
-    elements: Boxed<RExpr>,
-) -> Result<Boxed<RExpr>, Memory>
-    ensures { IfOk result (λ made. expr_view made ≡ tree.Offset (expr_view at) (if back then minus Isize (expr_view elements) else expr_view elements)) }
-{
-    if back {
-        let elements = minus(alloc, IntegerTy::Isize, elements)?;
-        offset(alloc, at, elements)
-    } else {
-        offset(alloc, at, elements)
-    }
-}
-
-// How many elements a pointer is moved by, in which direction.
-fn is_back(op: Op2) -> bool
-    ensures { result ≡ is_back op }
-{
-    matches!(op, Op2::Subtract)
-}
-
 fn moves(op: Op2) -> bool
     ensures { result ≡ moves op }
 {
     matches!(op, Op2::Add | Op2::Subtract)
 }
 
+fn is_back(op: Op2) -> bool
+    ensures { result ≡ is_back op }
+{
+    matches!(op, Op2::Subtract)
+}
+
+// By how many elements a pointer is moved, in the direction of an operator.
+fn directed(alloc: Global, op: Op2, elements: Boxed<RExpr>) -> Result<Boxed<RExpr>, Memory>
+    ensures { IfOk result (λ made. expr_view made ≡ (if is_back op then minus Isize (expr_view elements) else expr_view elements)) }
+{
+    if is_back(op) {
+        minus(alloc, IntegerTy::Isize, elements)
+    } else {
+        Ok(elements)
+    }
+}
+
+fn moved(
+    alloc: Global,
+    op: Op2,
+    at: Boxed<RExpr>,
+    elements: Boxed<RExpr>,
+) -> Result<RGiven, Memory>
+    ensures { IfOk result (λ form. given_view form ≡ moved op (expr_view at) (expr_view elements)) }
+{
+    if moves(op) {
+        let elements = directed(alloc, op, elements)?;
+        Ok(RGiven::Value(offset(alloc, at, elements)?))
+    } else {
+        Ok(RGiven::Nothing)
+    }
+}
+
+// A pointer and a number.
 fn moved_form(
     alloc: Global,
     op: Op2,
@@ -300,14 +195,11 @@ fn moved_form(
     count_ty: &RTy,
     count: RGiven,
 ) -> Result<RGiven, Memory>
-    ensures { IfOk result (λ form. given_view form ≡ moved_by_values op (given_value (given_view at)) (elements_of (operand_view count_ty.now count))) }
+    ensures { IfOk result (λ form. given_view form ≡ moved op (given_value (given_view at)) (elements_of (operand_view count_ty.now count))) }
 {
-    if !moves(op) {
-        return Ok(RGiven::Nothing);
-    }
     let at = value_of(alloc, at)?;
     let elements = integer_as(alloc, IntegerTy::Isize, count_ty, count)?;
-    Ok(RGiven::Value(moved_by(alloc, is_back(op), at, elements)?))
+    moved(alloc, op, at, elements)
 }
 
 // The second of two pointers, in the type of the first.
@@ -335,7 +227,22 @@ fn apart(
     as_integer(alloc, IntegerTy::I64, elements)
 }
 
-// Two pointers of one type.
+// Two pointers of one type that are compared.
+fn compared(
+    alloc: Global,
+    op: Op2,
+    left: Boxed<RExpr>,
+    right: Boxed<RExpr>,
+) -> Result<RGiven, Memory>
+    ensures { IfOk result (λ form. given_view form ≡ (if is_comparison op then truth (tree.Binary (expr_view left) (operator_of op) (expr_view right)) else nothing)) }
+{
+    if is_comparison(op) {
+        Ok(RGiven::Truth(binary(alloc, left, operator_of(op), right)?))
+    } else {
+        Ok(RGiven::Nothing)
+    }
+}
+
 fn pointers_joined(
     alloc: Global,
     op: Op2,
@@ -345,12 +252,10 @@ fn pointers_joined(
     ensures { IfOk result (λ form. given_view form ≡ pointers_joined op (expr_view left) (expr_view right)) }
 {
     if is_back(op) {
-        return Ok(RGiven::Value(apart(alloc, left, right)?));
+        Ok(RGiven::Value(apart(alloc, left, right)?))
+    } else {
+        compared(alloc, op, left, right)
     }
-    if is_comparison(op) {
-        return Ok(RGiven::Truth(binary(alloc, left, operator_of(op), right)?));
-    }
-    Ok(RGiven::Nothing)
 }
 
 fn pointers_form(
@@ -366,4 +271,82 @@ fn pointers_form(
     let left = value_of(alloc, left)?;
     let right = beside(alloc, left_ty, right_ty, right)?;
     pointers_joined(alloc, op, left, right)
+}
+
+// An integer on the left.
+fn integer_left(
+    alloc: Global,
+    op: Op2,
+    which: IntegerTy,
+    left_ty: &RTy,
+    left: RGiven,
+    right_ty: &RTy,
+    right: RGiven,
+) -> Result<RGiven, Memory>
+    ensures { IfOk result (λ form. given_view form ≡ binary_by op (tree.Integer which) (ty_view right_ty.now) (operand_view left_ty.now left) (operand_view right_ty.now right)) }
+{
+    match right_ty {
+        RTy::Integer(_) => integers_form(alloc, op, which, left, right_ty, right),
+        RTy::Pointer(_) => moved_form(alloc, op, right, left_ty, left),
+        _ => Ok(RGiven::Nothing),
+    }
+}
+
+// A pointer to an object on the left.
+fn pointer_left(
+    alloc: Global,
+    op: Op2,
+    _target: &RTy,
+    left_ty: &RTy,
+    left: RGiven,
+    right_ty: &RTy,
+    right: RGiven,
+) -> Result<RGiven, Memory>
+    ensures { IfOk result (λ form. given_view form ≡ binary_by op (tree.Pointer (ty_view _target.now)) (ty_view right_ty.now) (operand_view left_ty.now left) (operand_view right_ty.now right)) }
+{
+    match right_ty {
+        RTy::Integer(_) => moved_form(alloc, op, left, right_ty, right),
+        RTy::Pointer(_) => pointers_form(alloc, op, left_ty, left, right_ty, right),
+        _ => Ok(RGiven::Nothing),
+    }
+}
+
+// A pointer to a function on the left.
+fn code_left(
+    alloc: Global,
+    op: Op2,
+    _params: &Items<RTy>,
+    _given: &Option<Boxed<RTy>>,
+    left_ty: &RTy,
+    left: RGiven,
+    right_ty: &RTy,
+    right: RGiven,
+) -> Result<RGiven, Memory>
+    ensures { IfOk result (λ form. given_view form ≡ binary_by op (tree.Code (tys (map ty_view _params.now)) (option_ty (option_map ty_view _given.now))) (ty_view right_ty.now) (operand_view left_ty.now left) (operand_view right_ty.now right)) }
+{
+    match right_ty {
+        RTy::Code(_, _) => pointers_form(alloc, op, left_ty, left, right_ty, right),
+        _ => Ok(RGiven::Nothing),
+    }
+}
+
+/// An operator with two operands, by their types.
+pub fn binary_form(
+    alloc: Global,
+    op: Op2,
+    left_ty: &RTy,
+    left: RGiven,
+    right_ty: &RTy,
+    right: RGiven,
+) -> Result<RGiven, Memory>
+    ensures { IfOk result (λ form. given_view form ≡ binary_form op (operand_view left_ty.now left) (operand_view right_ty.now right)) }
+{
+    match left_ty {
+        RTy::Integer(which) => integer_left(alloc, op, *which, left_ty, left, right_ty, right),
+        RTy::Pointer(target) => pointer_left(alloc, op, target.get(), left_ty, left, right_ty, right),
+        RTy::Code(params, given) => {
+            code_left(alloc, op, params, given, left_ty, left, right_ty, right)
+        }
+        _ => Ok(RGiven::Nothing),
+    }
 }
