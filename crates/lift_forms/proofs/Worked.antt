@@ -1,15 +1,15 @@
 -- Worked examples: expressions of C as Rust writes them. Each is valid, has its type where these names are declared, and prints so.
-use Rattle.std.specs.Prelude.{◌≡◌, ℕ, ℤ, pos, negsuc, Bool, true, false, ◌&&◌, if◌then◌else◌, List, [], ◌∷◌, ◌++◌, Option, Some, None, codes, refl}
+use Rattle.std.specs.Prelude.{◌≡◌, ℕ, ℤ, pos, negsuc, Bool, true, false, ◌&&◌, if◌then◌else◌, List, [], ◌∷◌, ◌++◌, map, Option, Some, None, codes, refl}
 use Rattle.std.specs.Fmt.{digits}
 use Rattle.cr_base.specs.declared.layout.Spot.{Spot}
 use Rattle.cx_core.specs.declared.expr.Op1.TheVariants as op1
 use Rattle.cx_core.specs.declared.expr.Op2.TheVariants as op2
-use Rattle.rs_mean.specs.Typing.{Scope, kind_of, is_of_type, place_type, type_stands}
+use Rattle.rs_mean.specs.Typing.{Scope, kind_of, is_of_type, place_type, type_stands, stmts_typed}
 use Rattle.rs_text.specs.declared.attribute.Attribute.TheVariants.{Mangled}
 use Rattle.rs_text.specs.declared.integer.IntegerTy.TheVariants.{I8, I32, I64, U8, U32, U64, Isize}
 use Rattle.rs_text.specs.Lines.{address_of as begins_address, null_of as begins_null, transmute_of, expr_text, stmts_lines, place_text}
 use Rattle.rs_text.specs.Names.{keywords, path_words}
-use Rattle.rs_text.specs.Tree.{Ty, Integer, Boolean, Void, Pointer, Array, Code, Record, tys, no_ty, some_ty, no_stmts, Place, Local, Static, Deref, Field, Expr, Literal, Read, Cast, AddressOf, stmts, FieldTree, LocalTree, ItemTree, RecordItem, StaticItem, FunctionItem, ModuleTree}
+use Rattle.rs_text.specs.Tree.{Ty, Integer, Boolean, Void, Pointer, Array, Code, Record, tys, no_ty, some_ty, no_stmts, Place, Local, Static, Deref, Field, Expr, Literal, Read, Cast, AddressOf, Stmt, stmts, FieldTree, LocalTree, ItemTree, RecordItem, StaticItem, FunctionItem, ModuleTree}
 use Rattle.rs_text.specs.Valid.{valid_expr, valid_place}
 use Rattle.lift_forms.specs.BitFields.{bit_read, bit_write}
 use Rattle.lift_forms.specs.Given.{Given, nothing, truth, value, place, address_of}
@@ -383,3 +383,20 @@ bits = refl
 signed_bits : text (Integer I64) (value (bit_read (Read (Local (codes "w"))) (record { byte = 12; bit = 0; width = 3 }) true)) ≡ codes "((((((*(w as *mut u8).offset(12isize)) as u64) >> 0u32) + 4u64) % 8u64) as i64) - 4i64"
 unfolding digits begins_address begins_null transmute_of keywords path_words
 signed_bits = refl
+
+-- ---- stores of bit-fields
+
+-- statements that are well typed, each on its line
+abbrev lines : List Stmt → List (List ℕ)
+lines list = if stmts_typed (record { names = scope; result = None; labels = [] }) (stmts list) then map (λ line. line.text) (stmts_lines 0 (stmts list)) else []
+
+within_a_byte : lines (bit_write (Read (Local (codes "w"))) (record { byte = 12; bit = 3; width = 5 }) (Read (Local (codes "a"))))
+    ≡ codes "*(w as *mut u8).offset(12isize) = ((((((*(w as *mut u8).offset(12isize)) as u64) >> 8u32) << 8u32) + ((((a as u64) >> 0u32) % 32u64) << 3u32)) + (((*(w as *mut u8).offset(12isize)) as u64) % 8u64)) as u8;" ∷ []
+unfolding digits begins_address begins_null transmute_of keywords path_words
+within_a_byte = refl
+
+over_two_bytes : lines (bit_write (Read (Local (codes "w"))) (record { byte = 12; bit = 6; width = 5 }) (Read (Local (codes "a"))))
+    ≡ codes "*(w as *mut u8).offset(12isize) = ((((((*(w as *mut u8).offset(12isize)) as u64) >> 8u32) << 8u32) + ((((a as u64) >> 0u32) % 4u64) << 6u32)) + (((*(w as *mut u8).offset(12isize)) as u64) % 64u64)) as u8;"
+    ∷ codes "*(w as *mut u8).offset(13isize) = ((((((*(w as *mut u8).offset(13isize)) as u64) >> 3u32) << 3u32) + ((((a as u64) >> 2u32) % 8u64) << 0u32)) + (((*(w as *mut u8).offset(13isize)) as u64) % 1u64)) as u8;" ∷ []
+unfolding digits begins_address begins_null transmute_of keywords path_words
+over_two_bytes = refl

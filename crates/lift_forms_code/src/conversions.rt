@@ -1,7 +1,7 @@
 //! Conversions, constants, functions and choices of C as Rust writes them (ISO C99, 6.3, 6.5.13 to 6.5.15). Each form is refused only for want of memory.
 
 ghost use Rattle.std.specs.Prelude.{◌≡◌, pos, IfOk};
-ghost use Rattle.lift_forms.specs.Operators.{constant, null_of, zero_of, as_type, given_value, and_form, or_form, converted};
+ghost use Rattle.lift_forms.specs.Operators.{constant, null_of, zero_of, as_type, given_value, test_of, and_form, or_form, converted};
 ghost use Rattle.lift_forms.specs.Given.{value};
 ghost use Rattle.lift_forms_code.specs.Views.{given_view, operand_view};
 ghost use Rattle.rs_text.specs.Tree as tree;
@@ -9,7 +9,7 @@ ghost use Rattle.rs_tree.specs.Views.{ty_view, expr_view};
 
 use crate::copies::copy_ty;
 use crate::given::RGiven;
-use crate::makers::{and, literal, no_function, null_pointer, or, transmute, truth};
+use crate::makers::{and, choose, literal, no_function, null_pointer, or, transmute, truth};
 use crate::operands::{as_type, integer_as, test_of, value_of};
 use cr_base::{Boxed, Int, Memory};
 use rs_tree::{IntegerTy, RExpr, RTy};
@@ -96,6 +96,22 @@ pub fn or_form(
     let left = test_of(alloc, left_ty, left)?;
     let right = test_of(alloc, right_ty, right)?;
     Ok(RGiven::Truth(or(alloc, left, right)?))
+}
+
+/// `?:` whose operands have values of one type (ISO C99, 6.5.15).
+pub fn choice_form(
+    alloc: Global,
+    condition_ty: &RTy,
+    condition: RGiven,
+    if_true: RGiven,
+    if_false: RGiven,
+) -> Result<RGiven, Memory>
+    ensures { IfOk result (λ form. given_view form ≡ value (tree.Choose (test_of (operand_view condition_ty.now condition)) (given_value (given_view if_true)) (given_value (given_view if_false)))) }
+{
+    let condition = test_of(alloc, condition_ty, condition)?;
+    let if_true = value_of(alloc, if_true)?;
+    let if_false = value_of(alloc, if_false)?;
+    Ok(RGiven::Value(choose(alloc, condition, if_true, if_false)?))
 }
 
 // A value in a type, as what is given.

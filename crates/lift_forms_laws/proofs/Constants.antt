@@ -176,7 +176,7 @@ module _ (frame : Frame) (world : World) where
   addresses ty (Field p f) found h same = address_at (Field p f) ty found h same (λ units. refl)
   addresses ty (Deref e) found h same = subst (λ t. GivesAt frame world e (Pointer t) found.at) same (pointer_gives e found h)
 
-  target_gives : (e : Expr) (ty : Ty) (at : Value) → GivesAt frame world e (Pointer ty) at → is_base frame.modules world.held.blocks ty at ≡ true → GivesPlace frame world (Deref e) (spot ty at)
+  pub target_gives : (e : Expr) (ty : Ty) (at : Value) → GivesAt frame world e (Pointer ty) at → is_base frame.modules world.held.blocks ty at ≡ true → GivesPlace frame world (Deref e) (spot ty at)
   target_gives e ty at h is = record {
     runs = λ units. seq_is (run_expr frame e) (spot_of_pointer frame.modules) world units (typed (Pointer ty) at) (h.runs units)
         ∙ looks_is (λ held. Ok (based (is_base frame.modules held.blocks ty at) ty at)) world units (spot ty at) (ap (λ b. Ok (based b ty at)) is);

@@ -1,4 +1,5 @@
 pub mod Binary
+pub mod Bits
 pub mod Constants
 pub mod Conversions
 pub mod Numbers

@@ -20,12 +20,12 @@ use Rattle.rs_text.specs.declared.integer.IntegerTy.TheVariants.{I8, I16, I32, I
 
 -- ---- numbers of a range stay as they are
 
-chosen_low : (half r : ℕ) → r < half → from_half half r ≡ pos r
+pub chosen_low : (half r : ℕ) → r < half → from_half half r ≡ pos r
 chosen_low half r low =
     let test : nat_lt r half ≡ true = grind (arith, nat_tests) in
     ap (λ (b : Bool). cond b (pos r) (pos r -ℤ pos (half + half))) test
 
-chosen_high : (half r : ℕ) → half ≤ r → from_half half r ≡ pos r -ℤ pos (half + half)
+pub chosen_high : (half r : ℕ) → half ≤ r → from_half half r ≡ pos r -ℤ pos (half + half)
 chosen_high half r high =
     let test : nat_lt r half ≡ false = grind (arith, nat_tests) in
     ap (λ (b : Bool). cond b (pos r) (pos r -ℤ pos (half + half))) test

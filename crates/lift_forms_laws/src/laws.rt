@@ -1,5 +1,6 @@
 //! Laws of the forms' meaning. The functions do nothing: their contracts are the laws.
 
+ghost use Rattle.lift_forms_laws.specs.LawsBits.{BitFieldsGive};
 ghost use Rattle.lift_forms_laws.specs.LawsMeaning.{FormsStand, ChoicesStand, ConstantsStand, PlacesStand};
 
 /// Law: from operands that stand for C's, operators and conversions give what stands for C's result.
@@ -20,4 +21,9 @@ pub fn constants_stand()
 /// Law: an object is where it is kept, with whatever type it is used, and its address is that place.
 pub fn places_stand()
     ensures { PlacesStand }
+{}
+
+/// Law: what is read of a bit-field by its bytes is C's value of it.
+pub fn bit_fields_give()
+    ensures { BitFieldsGive }
 {}

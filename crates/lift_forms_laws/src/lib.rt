@@ -4,4 +4,4 @@
 
 mod laws;
 
-pub use laws::{choices_stand, constants_stand, forms_stand, places_stand};
+pub use laws::{bit_fields_give, choices_stand, constants_stand, forms_stand, places_stand};
