@@ -4,4 +4,7 @@
 
 mod laws;
 
-pub use laws::{bit_fields_are_typed, constants_are_typed, forms_are_typed, places_are_typed};
+pub use laws::{
+    bit_fields_are_typed, constants_are_typed, forms_are_typed, forms_are_valid, leaves_are_valid,
+    places_are_typed,
+};
