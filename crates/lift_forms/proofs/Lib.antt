@@ -1,0 +1,5 @@
+pub mod SameTypes
+pub mod Typed
+pub mod TypedBits
+pub mod Validity
+mod Worked
