@@ -181,7 +181,7 @@ moved_valid : (op : Op2) (at elements : Expr) → valid_expr at ≡ true → val
 moved_valid op at elements h k =
     by_test IsValidGiven (moves op) (value (Offset at (if is_back op then minus Isize elements else elements))) nothing
     (λ _. two (valid_expr at) (valid_expr (if is_back op then minus Isize elements else elements)) h
-      (by_test (λ x. valid_expr x ≡ true) (is_back op) (minus Isize elements) elements (λ _. minus_valid Isize elements k) (λ _. k)))
+    (by_test (λ x. valid_expr x ≡ true) (is_back op) (minus Isize elements) elements (λ _. minus_valid Isize elements k) (λ _. k)))
     (λ _. tt)
 
 pointers_valid : (op : Op2) (left right : Expr) → valid_expr left ≡ true → valid_expr right ≡ true → IsValidGiven (pointers_joined op left right)

@@ -99,8 +99,8 @@ module _ (images : Images) (frame : Frame) (world : World) where
       by_test (λ x. GivesAt frame world x (Integer which) (Whole m)) (is_signed_integer which) (Binary left operator right) (Wrapped left operation right)
       (λ signed. computed_gives operator which which left right l r m h k is (plain ∙ checked_is which U2 Overflow n m (sym (signed_type which U2 n signed) ∙ e)))
       (λ unsigned. let same : wrapped_in which n ≡ m = cc (sym (unsigned_type which U2 n unsigned) ∙ e) in
-        wrapped_gives frame world left right operation (Integer which) (Integer which) (Integer which) (Whole l) (Whole r) (Whole m) h k
-        (ap (λ x. Ok (typed (Integer which) (Whole x))) (wraps ∙ same)))
+      wrapped_gives frame world left right operation (Integer which) (Integer which) (Integer which) (Whole l) (Whole r) (Whole m) h k
+      (ap (λ x. Ok (typed (Integer which) (Whole x))) (wraps ∙ same)))
 
   -- a comparison
   pub compared_stands : (operator : Operator) (ty gives : Ty) (left right : Expr) (lv rv : Value) (test : Bool) (m : ℤ) → GivesAt frame world left ty lv → GivesAt frame world right ty rv →

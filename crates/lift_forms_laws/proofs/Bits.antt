@@ -161,7 +161,7 @@ module _ (frame : Frame) (world : World) where
         let b = get_or bytes k 0 in
         let bound = small k less in
         let read = read_gives frame world (byte_place base (first + k)) (where_at (Integer U8) (Object (behind (behind to first) k))) (Whole (pos b)) (place_gives k (omega (arith, less)))
-            (ap (λ r. with_type (Integer U8) (or_cause cause_of r)) (byte_loaded world.held.blocks (behind to first) count k bytes holds less)) in
+        (ap (λ r. with_type (Integer U8) (or_cause cause_of r)) (byte_loaded world.held.blocks (behind to first) count k bytes holds less)) in
         cast_gives frame world (Read (byte_place base (first + k))) (Integer U8) (Integer U64) (Whole (pos b)) (Whole (pos b)) read
         (ap (λ n. Ok (typed (Integer U64) (Whole n))) (converted_same U64 (pos b) (word_range b (omega (arith, bound)))))
 
@@ -193,9 +193,9 @@ module _ (frame : Frame) (world : World) where
         let most : above more ≤ 1099511627776 = above_most more (omega (arith, e, few)) in
         let number : number_of (drop j bytes) ≡ b + r * 256 = ap number_of here ∙ (let same : b + 256 * r ≡ b + r * 256 = omega arith in same) in
         let next : GivesAt frame world (bytes_word base (suc (first + j)) more) (Integer U64) (Whole (pos r)) =
-            subst (λ n. GivesAt frame world (bytes_word base n more) (Integer U64) (Whole (pos r))) (let same : first + suc j ≡ suc (first + j) = omega arith in same) rest.gives in
+        subst (λ n. GivesAt frame world (bytes_word base n more) (Integer U64) (Whole (pos r))) (let same : first + suc j ≡ suc (first + j) = omega arith in same) rest.gives in
         let product : GivesAt frame world (Binary (bytes_word base (suc (first + j)) more) rust.Mul (word 256)) (Integer U64) (Whole (pos (r * 256))) =
-            multiplied (bytes_word base (suc (first + j)) more) (word 256) r 256 next (word_gives 256) (omega (arith, below, most)) in
+        multiplied (bytes_word base (suc (first + j)) more) (word 256) r 256 next (word_gives 256) (omega (arith, below, most)) in
         record {
           gives = subst (λ n. GivesAt frame world (bytes_word base (first + j) (suc more)) (Integer U64) (Whole (pos n))) (sym number)
               (added (byte_word base (first + j)) (Binary (bytes_word base (suc (first + j)) more) rust.Mul (word 256)) b (r * 256) (byte_gives j (omega (arith, e))) product
@@ -235,7 +235,7 @@ signed_is s h some = by_half (nat_lt f h) refl
         let b = below in
         let parted : s % (h + h) + h ≡ (s % (h + h) - h) + (h + h) = omega (arith, high) in
         let same : (s + h) % (h + h) ≡ s % (h + h) - h =
-            sym (mod-add-mod s (h + h) h) ∙ ap (λ n. n % (h + h)) parted ∙ add-mod_right (s % (h + h) - h) (h + h) ∙ mod-eq_of_lt (omega (arith, high, b)) in
+        sym (mod-add-mod s (h + h) h) ∙ ap (λ n. n % (h + h)) parted ∙ add-mod_right (s % (h + h) - h) (h + h) ∙ mod-eq_of_lt (omega (arith, high, b)) in
         let whole : (s % (h + h)) % (h + h) ≡ s % (h + h) = mod-eq_of_lt below in
         let left : pos ((s + h) % (h + h)) -ℤ pos h ≡ pos (s % (h + h)) -ℤ pos (h + h) = omega (arith, ints, same, high) in
         left ∙ sym (ap (λ (r : ℕ). from_half h r) whole ∙ chosen_high h (s % (h + h)) high)
@@ -286,12 +286,12 @@ module _ (frame : Frame) (world : World) (base : Expr) (target : Ty) (to : Ptr) 
       let rest : (s + h) % 2 ^ spot.width < 2 ^ spot.width = mod-lt (s + h) (pow_pos spot.width) in
       let moved_up = added frame world (shifted_word base spot) (word (half spot)) s h field_shifted (word_gives frame world (half spot)) (omega (arith, most, wide, twice)) in
       let wrapped_up = remaining frame world (Binary (shifted_word base spot) rust.Add (word (half spot))) (word (2 ^ spot.width)) (s + h) (2 ^ spot.width) moved_up
-          (word_gives frame world (2 ^ spot.width)) (pow_pos spot.width) (omega (arith, most, wide, twice)) in
+      (word_gives frame world (2 ^ spot.width)) (pow_pos spot.width) (omega (arith, most, wide, twice)) in
       let long = cast_gives frame world (Binary (Binary (shifted_word base spot) rust.Add (word (half spot))) rust.Rem (word (2 ^ spot.width))) (Integer U64) (Integer I64)
-          (Whole (pos ((s + h) % 2 ^ spot.width))) (Whole (pos ((s + h) % 2 ^ spot.width))) wrapped_up
-          (ap (λ n. Ok (typed (Integer I64) (Whole n))) (converted_same I64 (pos ((s + h) % 2 ^ spot.width)) (long_range ((s + h) % 2 ^ spot.width) (omega (arith, rest, wide))))) in
+      (Whole (pos ((s + h) % 2 ^ spot.width))) (Whole (pos ((s + h) % 2 ^ spot.width))) wrapped_up
+      (ap (λ n. Ok (typed (Integer I64) (Whole n))) (converted_same I64 (pos ((s + h) % 2 ^ spot.width)) (long_range ((s + h) % 2 ^ spot.width) (omega (arith, rest, wide))))) in
       let same : pos ((s + h) % 2 ^ spot.width) -ℤ pos h ≡ bits_value spot true (number_of bytes) =
-          subst (λ m. pos ((s + h) % m) -ℤ pos h ≡ from_half h (residue (pos (s % m)) (h + h))) (sym twice) (signed_is s h some) in
+      subst (λ m. pos ((s + h) % m) -ℤ pos h ≡ from_half h (residue (pos (s % m)) (h + h))) (sym twice) (signed_is s h some) in
       subst (λ n. GivesAt frame world (signed_read base spot) (Integer I64) (Whole n)) same
       (taken frame world (Cast (Binary (Binary (shifted_word base spot) rust.Add (word (half spot))) rust.Rem (word (2 ^ spot.width))) (Integer I64)) (Literal (pos (half spot)) I64)
       ((s + h) % 2 ^ spot.width) h long (literal_gives frame world (pos (half spot)) I64) (omega (arith, rest, wide)) (omega (arith, wide, twice)))

@@ -188,7 +188,7 @@ module _ (frame : Frame) (world : World) where
       by_test (λ p. GivesPlace frame world p (spot ty at)) (same_type kept.ty ty) kept.place (pointed (Cast (address_of kept.place) (Pointer ty)))
       (λ same. subst (λ t. GivesPlace frame world kept.place (spot t at)) (type_is kept.ty ty same) h)
       (λ _. target_gives (Cast (address_of kept.place) (Pointer ty)) ty at
-        (cast_gives frame world (address_of kept.place) (Pointer kept.ty) (Pointer ty) at at (addresses kept.ty kept.place (spot kept.ty at) h refl) refl) is)
+      (cast_gives frame world (address_of kept.place) (Pointer kept.ty) (Pointer ty) at at (addresses kept.ty kept.place (spot kept.ty at) h refl) refl) is)
 
   pub address_forms : (images : Images) (ty target : Ty) (p : Place) (where_it_is : Spot) (of_c : Value) → GivesPlace frame world p where_it_is →
       where_it_is.ty ≡ ty → ValueBelow images of_c where_it_is.at → GivenStands images frame world (Pointer target) (address_form ty target p) of_c

@@ -72,8 +72,8 @@ module _ (images : Images) (frame : Frame) (world : World) where
   cast_to_number e from which number h c is =
       by_test (λ x. GivesAt frame world x (Integer which) (Whole (converted (integer_scalar which) number))) (same_type from (Integer which)) e (Cast e (Integer which))
       (λ same. let t : from ≡ Integer which = type_is from (Integer which) same in
-        subst (λ n. GivesAt frame world e (Integer which) (Whole n)) (sym (converted_same which number (subst (λ x. IsOf x (Whole number)) t is)))
-        (subst (λ x. GivesAt frame world e x (Whole number)) t h))
+      subst (λ n. GivesAt frame world e (Integer which) (Whole n)) (sym (converted_same which number (subst (λ x. IsOf x (Whole number)) t is)))
+      (subst (λ x. GivesAt frame world e x (Whole number)) t h))
       (λ _. cast_number e from which number h c)
 
   given_integer : (which : IntegerTy) (ty : Ty) (given : Given) (number : ℤ) → GivenStands images frame world ty given (Whole number) → casts ty (Integer which) ≡ true →

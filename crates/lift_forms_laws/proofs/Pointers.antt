@@ -209,7 +209,7 @@ apart_bound : (setting : CSetting) (memory : Blocks) (type : CTy) (target : Ty) 
 apart_bound setting memory type target first second number is other near far e =
     let outer = and_then_ok (needed (element_extent setting (form_of_type type))) (λ laid. by_pointers U11 (difference memory laid.size first second)) number e in
     let found = apart_found memory outer.0.size first second number (record { of_kind = object_kind target first is; near = near }) (record { of_kind = object_kind target second other; near = far })
-        (pointers_ok U11 (difference memory outer.0.size first second) number outer.2) in
+    (pointers_ok U11 (difference memory outer.0.size first second) number outer.2) in
     record { least = found.least; most = found.most }
 
 module _ (images : Images) (frame : Frame) (world : World) (memory : Blocks) (standing : Standing images memory world) (setting : CSetting) where
@@ -272,8 +272,8 @@ module _ (images : Images) (frame : Frame) (world : World) (memory : Blocks) (st
     differ_stands left right first second number is other near far h k e =
         let apart = differs images memory world.held.blocks setting type standing.stands first second h.other k.other number agree.laid h.below k.below agree.points e in
         let behind : GivesAt frame world (OffsetFrom left right) (Integer Isize) (Whole number) =
-            apart_gives frame world left right (Pointer target) (Pointer target) (Integer Isize) h.other k.other (Whole number) h.gives k.gives
-            (ap (λ l. apart_by world.held.blocks l h.other k.other) agree.found ∙ apart) in
+        apart_gives frame world left right (Pointer target) (Pointer target) (Integer Isize) h.other k.other (Whole number) h.gives k.gives
+        (ap (λ l. apart_by world.held.blocks l h.other k.other) agree.found ∙ apart) in
         cast_gives frame world (OffsetFrom left right) (Integer Isize) (Integer I64) (Whole number) (Whole number) behind
         (ap (λ n. Ok (typed (Integer I64) (Whole n))) (converted_same I64 number (move_fits_long number (apart_bound setting memory type target first second number is other near far e))))
 

@@ -85,9 +85,9 @@ module _ (images : Images) (frame : Frame) (world : World) where
   negated_gives which e number m h is =
       by_test (λ x. GivesAt frame world x (Integer which) (Whole m)) (is_signed_integer which) (minus which e) (WrappingNeg e)
       (λ signed. let parts = represented_is (fits_integer which (neg_ℤ number)) U2 (neg_ℤ number) m (sym (signed_type which U2 (neg_ℤ number) signed) ∙ is) in
-        subst (λ n. GivesAt frame world (minus which e) (Integer which) (Whole n)) parts.1 (minus_gives which e number h parts.0))
+      subst (λ n. GivesAt frame world (minus which e) (Integer which) (Whole n)) parts.1 (minus_gives which e number h parts.0))
       (λ unsigned. let same : wrapped_in which (neg_ℤ number) ≡ m = cc (sym (unsigned_type which U2 (neg_ℤ number) unsigned) ∙ is) in
-        wrapping_neg_gives frame world e (Integer which) (Whole number) (Whole m) h (ap (λ n. Ok (typed (Integer which) (Whole n))) same))
+      wrapping_neg_gives frame world e (Integer which) (Whole number) (Whole m) h (ap (λ n. Ok (typed (Integer which) (Whole n))) same))
 
   -- ---- the operators
 
