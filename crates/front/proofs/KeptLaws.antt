@@ -6,9 +6,9 @@ use Rattle.std.proofs.lemmas.Cmp.{nat_list_eq_equiv}
 use Rattle.std.proofs.lemmas.List.Elements.{All-from_recursion}
 use Rattle.std.proofs.lemmas.Slice.Eq.{bytes_eq-Decides}
 use Rattle.straight_core.specs.Trees.{CObject, COuter, CProgram}
-use Rattle.rs_items.specs.declared.scope.NameScope.TheVariants.{Module}
-use Rattle.rs_items.specs.Names.{reserved, is_main_in, keeps_name}
-use Rattle.rs_items.proofs.KeptLaws.{kept}
+use Rattle.straight_items.specs.declared.scope.NameScope.TheVariants.{Module}
+use Rattle.straight_items.specs.Names.{reserved, is_main_in, keeps_name}
+use Rattle.straight_items.proofs.KeptLaws.{kept}
 use Rattle.straight_rust_tree.specs.Names.{is_among, is_word, path_words, keywords}
 use Rattle.straight_whole.specs.Items.{name_or_empty}
 use Rattle.straight_whole.specs.Named.{IsKept, AreNamesKept}

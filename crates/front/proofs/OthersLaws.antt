@@ -4,7 +4,7 @@ use Rattle.std.specs.List.{list_any}
 use Rattle.shelf.specs.declared.file.File.{File}
 use Rattle.shelf.specs.Shelf.{ShelfState, with_file, without_file}
 use Rattle.straight_core.specs.Trees.{CProgram}
-use Rattle.rs_items.specs.Modules.{module_name}
+use Rattle.straight_items.specs.Modules.{module_name}
 use Rattle.straight_rust_tree.specs.Text.{text_of, file_of, module_file}
 use Rattle.straight_rust_tree.specs.Tree.{ModuleTree, CrateTree}
 use Rattle.straight_whole.specs.Items.{Outline, outlines_from, items_in, items_of, head_of}

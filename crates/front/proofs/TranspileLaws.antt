@@ -11,7 +11,7 @@ use Rattle.shelf.specs.declared.file.File.{File}
 use Rattle.shelf.specs.Shelf.{ShelfState, without_file}
 use Rattle.shelf.proofs.FaultLemmas.{rose_after}
 use Rattle.straight_core.specs.Trees.{CProgram}
-use Rattle.rs_items.specs.Modules.{stem_of}
+use Rattle.straight_items.specs.Modules.{stem_of}
 use Rattle.straight_rust_tree.specs.Text.{file_of, text_of}
 use Rattle.straight_rust_tree.specs.Tree.{CrateTree}
 use Rattle.straight_whole.specs.Items.{items_in, items_of}

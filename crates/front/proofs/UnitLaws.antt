@@ -17,7 +17,7 @@ use Rattle.straight_core.specs.Trees.{CProgram}
 use Rattle.straight_core.specs.declared.program.Program.{Program}
 use Rattle.straight_core.specs.Views.{view_program}
 use Rattle.straight_tree.specs.Derives.{Derives}
-use Rattle.rs_items.specs.Modules.{module_name, stem_of}
+use Rattle.straight_items.specs.Modules.{module_name, stem_of}
 use Rattle.shelf.specs.declared.file.File.{File}
 use Rattle.straight_rust_tree.specs.Text.{file_of}
 use Rattle.front.specs.Kept.{KeepsNames}

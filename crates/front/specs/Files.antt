@@ -2,7 +2,7 @@
 use Rattle.std.specs.Prelude.{ℕ, List, [], ◌∷◌, ◌++◌, map, Option, Some, None, codes, ⊤}
 use Rattle.shelf.specs.declared.file.File.{File}
 use Rattle.shelf.specs.Shelf.{with_file}
-use Rattle.rs_items.specs.Modules.{module_name}
+use Rattle.straight_items.specs.Modules.{module_name}
 use Rattle.straight_rust_tree.specs.Text.{file_of}
 
 -- what a shelf holds: where told, for each name its bytes, or none

@@ -2,8 +2,8 @@
 use Rattle.std.specs.Prelude.{ℕ, Bool, true, false, ◌&&◌, IsTrue, List, Option, Some, None}
 use Rattle.std.specs.List.{list_all}
 use Rattle.straight_core.specs.Trees.{CObject, COuter, CProgram}
-use Rattle.rs_items.specs.declared.scope.NameScope.TheVariants.{Module}
-use Rattle.rs_items.specs.Names.{keeps_name}
+use Rattle.straight_items.specs.declared.scope.NameScope.TheVariants.{Module}
+use Rattle.straight_items.specs.Names.{keeps_name}
 use Rattle.straight_rust_tree.specs.Names.{is_word}
 
 -- a name of C that stands in a module as it is

@@ -10,7 +10,7 @@ use Rattle.straight_core.specs.Trees.{CProgram}
 use Rattle.straight_decl.specs.CoreOf.{core_of}
 use Rattle.straight_tree.specs.Derives.{Derives}
 use Rattle.straight_tree.specs.Trees.{UnitTree}
-use Rattle.rs_items.specs.Modules.{module_name, stem_of}
+use Rattle.straight_items.specs.Modules.{module_name, stem_of}
 use Rattle.shelf.specs.declared.file.File.{File}
 use Rattle.front.specs.Kept.{KeepsNames}
 

@@ -7,7 +7,7 @@ use Rattle.straight_decl.specs.CoreOf.{core_of}
 use Rattle.cx_lex.specs.declared.token.Token.{Token}
 use Rattle.straight_tree.specs.Derives.{Derives}
 use Rattle.straight_tree.specs.Trees.{UnitTree}
-use Rattle.rs_items.specs.Modules.{module_name, stem_of}
+use Rattle.straight_items.specs.Modules.{module_name, stem_of}
 use Rattle.front.specs.Kept.{KeepsNames}
 use Rattle.front.specs.Refusals.{not_built}
 

@@ -6,7 +6,7 @@ use Rattle.shelf.specs.declared.called.Kind.TheVariants.{Get, Put}
 use Rattle.shelf.specs.declared.file.File.{File}
 use Rattle.shelf.specs.Shelf.{ShelfState, without_file, call_of}
 use Rattle.straight_core.specs.Trees.{CProgram}
-use Rattle.rs_items.specs.Modules.{module_name}
+use Rattle.straight_items.specs.Modules.{module_name}
 use Rattle.straight_rust_tree.specs.Text.{text_of}
 use Rattle.straight_rust_tree.specs.Tree.{CrateTree}
 use Rattle.straight_whole.specs.Right.{IsRight}

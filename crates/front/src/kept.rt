@@ -7,8 +7,8 @@ ghost use Rattle.straight_rust_tree.specs.Names.{is_word, is_word_byte};
 ghost use Rattle.std.specs.Prelude.{map};
 ghost use Rattle.front.specs.Kept.{keeps, keeps_object, keeps_outer, KeepsNames};
 
-use rs_items::{NameScope, keeps_name};
 use straight_core::{CoreObject, Outer, Program};
+use straight_items::{NameScope, keeps_name};
 
 fn is_word_byte(byte: u8) -> bool
     ensures { result ≡ is_word_byte byte }

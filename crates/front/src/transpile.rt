@@ -1,6 +1,6 @@
 ghost use Rattle.std.specs.Prelude.{◌≡◌, ◌<◌, length, IfOk, Some, slice_get};
 ghost use Rattle.straight_core.specs.Views.{view_program};
-ghost use Rattle.rs_items.specs.Modules.{stem_of};
+ghost use Rattle.straight_items.specs.Modules.{stem_of};
 ghost use Rattle.straight_whole.specs.Right.{IsTranslatable};
 ghost use Rattle.front.specs.Printed.{IsPrinted, IsPlaced};
 ghost use Rattle.front.specs.Outcome.{ending_of};
@@ -18,10 +18,10 @@ use crate::sources::got_all;
 use crate::ungot::Ungot;
 use crate::units::program_of_sources;
 use cr_base::{Items, Memory, Name, Refusal, Rule, Stop};
-use rs_items::stem_of;
 use shelf::{File, Shelf, ShelfFault};
 use std::alloc::Global;
 use straight_core::Program;
+use straight_items::stem_of;
 use straight_print::print;
 use straight_whole::translate;
 

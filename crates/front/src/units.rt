@@ -15,10 +15,10 @@ use crate::kept::keeps_names;
 use cr_base::{Items, Refusal, Rule, Stop};
 use cx_lex::{Token, lex};
 use cx_units::{Source, check_units};
-use rs_items::{is_plain, stem_of};
 use std::alloc::Global;
 use straight_core::Program;
 use straight_decl::program_of;
+use straight_items::{is_plain, stem_of};
 use straight_parse::parse;
 
 // The refusal of what isn't built yet.

@@ -1,4 +1,7 @@
-pub mod Examples
-pub mod Fresh
-pub mod KeptLaws
-pub mod ModuleLaws
+mod FirstFree
+mod Found
+mod Kept
+mod Pigeons
+mod Several
+mod Taken
+mod TypeLists

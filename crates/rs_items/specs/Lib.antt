@@ -1,5 +1,7 @@
-pub mod Laws
-pub mod Modules
+pub mod Known
+pub mod LawsNames
 pub mod Names
-pub mod Search
-pub mod Temporaries
+pub mod Records
+pub mod Scopes
+pub mod Sets
+pub mod Types

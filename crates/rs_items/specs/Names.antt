@@ -1,7 +1,7 @@
--- The Rust names of the things of a C program: candidates for a name, and the first that isn't taken.
-use Rattle.std.specs.Prelude.{◌≡◌, ℕ, zero, suc, ◌<◌, Bool, true, false, not, ◌&&◌, ◌||◌, IsTrue, List, [], ◌∷◌, ◌++◌, Option, Some, None, bytes_eq, codes, if◌then◌else◌}
+-- The Rust names of the things of a C program: candidates for a name, and the first of them that isn't taken.
+use Rattle.std.specs.Prelude.{◌≡◌, ℕ, zero, suc, ◌+◌, ◌<◌, Bool, true, false, not, ◌||◌, IsTrue, List, [], ◌∷◌, ◌++◌, length, Option, Some, None, bytes_eq, codes, if◌then◌else◌}
 use Rattle.std.specs.Fmt.{decimal}
-use Rattle.straight_rust_tree.specs.Names.{is_among, path_words, keywords}
+use Rattle.rs_text.specs.Names.{is_among, path_words, keywords}
 use Rattle.rs_items.specs.declared.scope.NameScope.{NameScope}
 use Rattle.rs_items.specs.declared.scope.NameScope.TheVariants.{Module, Function, Fields}
 
@@ -38,12 +38,34 @@ unless true name = None
 unless false name = Some name
 
 abbrev pub suffixed : List ℕ → ℕ → List ℕ
-suffixed name k = name ++ codes "_" ++ decimal k
+suffixed name k = name ++ (codes "_" ++ decimal k)
 
 -- the candidates for a name, by their numbers, of which some aren't there: itself, and then with `_0`, `_1` and so on
 abbrev pub candidate : NameScope → List ℕ → ℕ → Option (List ℕ)
 candidate scope name zero = unless (is_excluded scope name) (raw_or_same name)
 candidate scope name (suc k) = unless (is_entry_in scope (suffixed name k)) (suffixed name k)
+
+-- a candidate that is there and isn't taken
+abbrev pub free : List (List ℕ) → Option (List ℕ) → Option (List ℕ)
+free taken None = None
+free taken (Some name) = unless (is_among taken name) name
+
+-- a candidate, or else another name
+abbrev pub name_or : Option (List ℕ) → List ℕ → List ℕ
+name_or None other = other
+name_or (Some name) other = name
+
+-- the first free candidate from one number on, among so many
+abbrev pub first_free : List (List ℕ) → NameScope → List ℕ → (from : ℕ) → (count : ℕ) → List ℕ
+first_free taken scope name from zero = suffixed name from
+first_free taken scope name from (suc count) = name_or (free taken (candidate scope name from)) (first_free taken scope name (suc from) count)
+
+-- The Rust name of a C name in a set. Two candidates at most aren't there, and no more than all that are taken aren't free, so one of
+-- the first `length taken + 3` is.
+abbrev pub rust_name : List (List ℕ) → NameScope → List ℕ → List ℕ
+rust_name taken scope name = first_free taken scope name 0 (length taken + 3)
+
+-- ---- what that says
 
 -- a candidate that isn't there, or that is taken
 abbrev pub IsGone : List (List ℕ) → Option (List ℕ) → Type 0
@@ -54,13 +76,16 @@ IsGone taken (Some name) = IsTrue (is_among taken name)
 abbrev pub AreGone : List (List ℕ) → NameScope → List ℕ → ℕ → Type 0
 AreGone taken scope name above = (k : ℕ) → k < above → IsGone taken (candidate scope name k)
 
--- the Rust name of a C name in a set: the first candidate that isn't taken
+-- the first candidate that isn't taken
 pub record IsRustName (taken : List (List ℕ)) (scope : NameScope) (c_name name : List ℕ) : Type 0 where
   pub number : ℕ
   pub is : candidate scope c_name number ≡ Some name
   pub free : IsTrue (not (is_among taken name))
   pub first : AreGone taken scope c_name number
 
--- where nothing is taken the name itself is the Rust name
-abbrev pub keeps_name : NameScope → List ℕ → Bool
-keeps_name scope name = not (is_excluded scope name) && not (is_among keywords name)
+-- ---- several names
+
+-- these names behind those that are taken, each the first that is free then
+abbrev pub names_from : List (List ℕ) → NameScope → List (List ℕ) → List (List ℕ)
+names_from taken scope [] = taken
+names_from taken scope (name ∷ names) = names_from (taken ++ rust_name taken scope name ∷ []) scope names

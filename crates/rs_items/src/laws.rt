@@ -1,11 +1,13 @@
-ghost use Rattle.rs_items.specs.Laws.{KeptNames, PlainStemsNameModules};
+//! Laws of names. The functions do nothing: their contracts are the laws.
 
-/// Law: a name of C that is kept is an identifier of Rust, and its own Rust name where nothing is taken.
-pub fn kept_names_are_rust_names()
-    ensures { KeptNames }
+ghost use Rattle.rs_items.specs.LawsNames.{NamesAreFirst, NamesDiffer};
+
+/// Law: the Rust name of a name is its first candidate that isn't taken, however many are, and an identifier.
+pub fn names_are_first()
+    ensures { NamesAreFirst }
 {}
 
-/// Law: a stem that names its module is the name of a module.
-pub fn plain_stems_name_modules()
-    ensures { PlainStemsNameModules }
+/// Law: names that are taken one behind the other differ from each other and from those that were taken.
+pub fn names_differ()
+    ensures { NamesDiffer }
 {}

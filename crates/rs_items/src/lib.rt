@@ -1,16 +1,20 @@
-//! The names of the written crate: which names of C it keeps, the names of modules, and the names of
-//! temporaries (the Rust Reference, "Identifiers" and "Keywords").
+//! The names of the things of a written crate, and what each of them has become: names of modules' items, of locals and of fields, the Rust
+//! types of C types, and the records that structures and unions are written as (ISO C99, 6.2.1, 6.2.3, 6.7.2.1; the Rust Reference,
+//! "Identifiers", "Keywords" and "The C representation").
 #![tactic(auto)]
 
-mod kept;
+mod candidates;
+mod known;
 mod laws;
-mod modules;
+mod map;
 mod scope;
-mod temporaries;
+mod scopes;
+mod sets;
+mod types;
 mod words;
 
-pub use kept::keeps_name;
-pub use laws::{kept_names_are_rust_names, plain_stems_name_modules};
-pub use modules::{is_plain, stem_of};
+pub use known::{Known, MemberField, Named};
+pub use laws::{names_are_first, names_differ};
+pub use map::NameMap;
 pub use scope::NameScope;
-pub use temporaries::Temporaries;
+pub use types::rust_type;

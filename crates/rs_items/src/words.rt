@@ -1,6 +1,6 @@
 ghost use Rattle.std.specs.Prelude.{◌≡◌, ◌||◌, bytes_eq};
 ghost use Rattle.std.specs.List.{list_any};
-ghost use Rattle.straight_rust_tree.specs.Names.{is_among, path_words, keywords};
+ghost use Rattle.rs_text.specs.Names.{is_among, path_words, keywords};
 ghost use Rattle.rs_items.specs.Names.{reserved};
 
 // The words that are no identifiers, also behind `r#`.
@@ -81,14 +81,14 @@ const RESERVED: [&[u8]; 19] = [
     b"bool",
 ];
 
-#[tactic(auto, unfolding(straight_rust_tree::specs::Names::path_words))]
+#[tactic(auto, unfolding(rs_text::specs::Names::path_words))]
 pub(crate) fn is_path_word(name: &[u8]) -> bool
     ensures { result ≡ is_among path_words name.now }
 {
     is_among(&PATH_WORDS, name)
 }
 
-#[tactic(auto, unfolding(straight_rust_tree::specs::Names::keywords))]
+#[tactic(auto, unfolding(rs_text::specs::Names::keywords))]
 pub(crate) fn is_keyword(name: &[u8]) -> bool
     ensures { result ≡ is_among keywords name.now }
 {

@@ -1,4 +1,4 @@
-//! Tests of the libraries of the written crate, `rs_items` today, through their public items: what no row of `rows`
+//! Tests of the libraries of the written crate, `straight_items` today, through their public items: what no row of `rows`
 //! shows.
 #![tactic(auto)]
 

@@ -9,7 +9,7 @@ use Rattle.straight_core.specs.Views.{view_program}
 use Rattle.straight_lift.specs.declared.names.Known.{Known}
 use Rattle.straight_lift.specs.declared.names.NameTable.{NameTable}
 use Rattle.straight_lift.specs.Lifted.{Names, lift_stmt}
-use Rattle.rs_items.specs.Temporaries.{AreApart}
+use Rattle.straight_items.specs.Temporaries.{AreApart}
 use Rattle.straight_rust_tree.specs.declared.tree.Attribute.TheVariants.{Mangled}
 use Rattle.straight_rust_tree.specs.Tree.{i32, Stmt, stmts, OuterTree, FunctionTree, ItemTree, extern, defined}
 use Rattle.straight_whole.specs.Calls.{calls_in_stmt}

@@ -5,9 +5,9 @@ ghost use Rattle.straight_whole.specs.Items.{name_or_empty};
 ghost use Rattle.straight_whole.specs.Named.{module_names};
 
 use cr_base::{Items, Memory, Name};
-use rs_items::Temporaries;
 use std::alloc::Global;
 use straight_core::{CoreObject, CoreStmt, Outer, Program};
+use straight_items::Temporaries;
 use straight_lift::{Known, NameTable, lift_stmt};
 
 // The names of a program's module and of the temporaries of a body. The numbers of temporaries don't depend on

@@ -5,8 +5,8 @@
 
 use cr_base::{Items, Name};
 use row_words::{Answer, Asked};
-use rs_items::{NameScope, Temporaries, is_plain, keeps_name, stem_of};
 use std::alloc::Global;
+use straight_items::{NameScope, Temporaries, is_plain, keeps_name, stem_of};
 
 const SCOPES: [(&str, NameScope); 3] = [
     ("module", NameScope::Module),

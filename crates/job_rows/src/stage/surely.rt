@@ -6,9 +6,9 @@ use crate::stage::transpile::write_file;
 use ext_calls::SureHost;
 use front::{out_of_memory, run_surely};
 use row_words::{Answer, Asked};
-use rs_items::stem_of;
 use shelf::{SureShelf, SureSink};
 use std::alloc::Global;
+use straight_items::stem_of;
 
 pub(crate) fn answer(alloc: Global, asked: &mut Asked, out: &mut Answer) {
     let unit = asked.rest();

@@ -4,9 +4,9 @@
 
 use crate::stage::files::{hold, run_job, words};
 use row_words::{Answer, Asked};
-use rs_items::stem_of;
 use shelf::{Got, MemShelf, Shelf};
 use std::alloc::Global;
+use straight_items::stem_of;
 
 // More bytes than a file of a crate of these rows has.
 const LARGE: usize = 1_048_576;

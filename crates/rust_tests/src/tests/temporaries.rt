@@ -1,8 +1,8 @@
 //! Temporaries that find no memory.
 
 use cr_base::{Items, Memory, Name};
-use rs_items::Temporaries;
 use std::alloc::Global;
+use straight_items::Temporaries;
 
 // Temporaries beside the name `t`.
 fn beside_t(alloc: Global) -> Result<Temporaries, Memory> {

@@ -1,8 +1,8 @@
 use Rattle.clap.specs.Walk.{texts}
 use Rattle.front.specs.Outcome.{ending_of}
 use Rattle.straight_core.specs.Views.{view_program}
-use Rattle.rs_items.specs.Modules.{stem_of}
-use Rattle.rs_items.proofs.KeptLaws.{plain_stems}
+use Rattle.straight_items.specs.Modules.{stem_of}
+use Rattle.straight_items.proofs.KeptLaws.{plain_stems}
 use Rattle.front.proofs.KeptLaws.{names_kept}
 use Rattle.front.proofs.StraightLaws.{core_straight}
 use Rattle.front.proofs.TranspileLaws.{stops_leave, one_leaves}

@@ -1,5 +1,0 @@
-use Rattle.rs_items.proofs.KeptLaws.{kept}
-use Rattle.rs_items.proofs.laws.kept_names_are_rust_names.Goals as goal
-
-pub returns : goal.returns
-returns c = kept

@@ -1,5 +1,0 @@
-use Rattle.rs_items.proofs.KeptLaws.{plain_stems}
-use Rattle.rs_items.proofs.laws.plain_stems_name_modules.Goals as goal
-
-pub returns : goal.returns
-returns c = plain_stems

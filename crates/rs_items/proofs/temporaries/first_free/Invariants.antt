@@ -1,7 +1,0 @@
-use Rattle.std.specs.Prelude.{◌≤◌}
-use Rattle.rs_items.specs.Search.{AreTaken}
-use Rattle.rs_items.proofs.temporaries.first_free.Given as goal
-
--- the candidates so far are taken
-abbrev pub invariant-loop-number : goal.invariant-loop-number
-invariant-loop-number l = (l.from ≤ l.number) × AreTaken l.taken l.from l.number

@@ -1,0 +1,4 @@
+pub mod Examples
+pub mod Fresh
+pub mod KeptLaws
+pub mod ModuleLaws
