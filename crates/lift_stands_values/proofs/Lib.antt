@@ -5,4 +5,5 @@ pub mod Members
 pub mod Puts
 pub mod Ranges
 pub mod Results
+pub mod Worked
 pub mod Zeros
