@@ -80,10 +80,10 @@ module _ (images later : Images) (own : ℕ → Bool) (c_world c_end world end :
   -- a block of C that was made before had its image before
   imaged : (number image : ℕ) → number < length (blocks_of c_world) → image_of later number ≡ Some image → image_of images number ≡ Some image
   imaged number image p e =
-      let old : image_of images number ≡ Some _ = slice_get-get_or images.blocks number 0 (omega (arith, p, worlds.held.memories.mapped)) in
-      let kept = next.extends.blocks number _ old in
-      let same : Some _ ≡ Some image = sym kept ∙ e in
-      old ∙ same
+      let was : (one : ℕ) × (image_of images number ≡ Some one) = (_, slice_get-get_or images.blocks number 0 (omega (arith, p, worlds.held.memories.mapped))) in
+      let kept = next.extends.blocks number was.0 was.1 in
+      let same : was.0 ≡ image = cc in
+      was.1 ∙ ap Some same
 
   -- so what was there and wasn't an image is none
   pub no_image_still : (block : ℕ) → block < length (blocks_of world) → IsNoImage images block → IsNoImage later block

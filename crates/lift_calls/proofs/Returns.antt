@@ -32,7 +32,7 @@ first_in : {X : Type 0} (x : X) (xs : List X) → Contains (x ∷ xs) x
 first_in x xs = (0, omega arith, refl)
 
 others_in : {X : Type 0} (x y : X) (xs : List X) → Contains xs y → Contains (x ∷ xs) y
-others_in x y xs (k, p, e) = (suc k, omega (arith, p), e)
+others_in x y xs among = (suc among.0, omega (arith, among.1), among.2)
 
 -- ---- memories
 

@@ -16,7 +16,7 @@ use Rattle.lift_stands.specs.Stands.{Images}
 use Rattle.lift_stands_values.specs.Given.{align_or}
 use Rattle.lift_calls.specs.Bodies.{ResultAgrees, Returned}
 use Rattle.lift_calls.specs.Calls.{result_laid, CallMeets, CallStands, CallsOwe, Promise}
-use Rattle.lift_calls.specs.Entries.{c_entered, Entered, frame_in, crate_entered, EntryMeets, FunctionMeets, ProgramMeets}
+use Rattle.lift_calls.specs.Entries.{c_entered, Entered, frame_in, copied_to, crate_entered, EntryMeets, FunctionMeets, ProgramMeets}
 use Rattle.lift_calls.specs.Programs.{Setting, setting_in, c_goes, c_calls, crate_bodies}
 use Rattle.lift_calls.proofs.Owed.{calls_owe}
 use Rattle.lift_calls.proofs.Returns.{returned_meets}
@@ -24,7 +24,7 @@ use Rattle.mem_bytes.specs.declared.value.Ptr.{Ptr}
 use Rattle.rs_mean.specs.Calls.{begin_params, begin_locals, without_blocks, end_locals}
 use Rattle.rs_mean.specs.Laws.{behind}
 use Rattle.rs_mean.specs.Lookups.{LocalBlock}
-use Rattle.rs_mean.specs.Run.{Frame, Flow, normal, breaks, continues, returned, run_stmts, then_on, given_by, run_function}
+use Rattle.rs_mean.specs.Run.{Frame, Flow, normal, breaks, continues, returned, run_stmts, then_on, given_by, in_frame}
 use Rattle.rs_mean.specs.Values.{Typed}
 use Rattle.rs_mean.specs.World.{Run, pure, seq, local}
 use Rattle.rs_mean.specs.declared.cause.Cause.{Cause}
@@ -65,11 +65,11 @@ bind_same (out state) go on same = refl
 
 module _ (s : Setting) (tree : FunctionTree) (copies body : Stmts) where
   -- the locals end behind a body
-  ends : List LocalBlock → Flow → Run (Option Typed)
+  abbrev ends : List LocalBlock → Flow → Run (Option Typed)
   ends locals flow = seq (end_locals locals) (λ _. pure (given_by tree.result flow))
 
   -- what runs behind the entry
-  goes_in : Entered → Run (Option Typed)
+  abbrev goes_in : Entered → Run (Option Typed)
   goes_in entered = seq (then_on (run_stmts (frame_in s entered.locals) body) entered.flow) (ends entered.locals)
 
   in_frame_first : tree.body ≡ behind copies body → (locals : List LocalBlock) (world : World) (units : ℕ) →
@@ -81,17 +81,34 @@ module _ (s : Setting) (tree : FunctionTree) (copies body : Stmts) where
       ∙ ap (λ r. bind r (ends locals)) (lists_follow (frame_in s locals) copies body world units)
       ∙ bind_bind (run_stmts (frame_in s locals) copies world units) (then_on (run_stmts (frame_in s locals) body)) (ends locals)
 
+  copies_then : tree.body ≡ behind copies body → (locals : List LocalBlock) (world : World) (units : ℕ) → in_frame s.modules (crate_bodies s) tree locals world units ≡ bind (copied_to s copies locals world units) goes_in
+  unfolding seq pure
+  copies_then is locals world units =
+      in_frame_first is locals world units
+      ∙ sym (bind_bind (run_stmts (frame_in s locals) copies world units) (λ flow w k. came (record { locals = locals; flow = flow }) w k) goes_in)
+
+  -- the locals begin behind the parameters
+  abbrev locals_begin : List LocalBlock → Run Entered
+  locals_begin params = seq (begin_locals s.modules tree.locals) (λ locals. copied_to s copies (params ++ locals))
+
+  abbrev locals_run : List LocalBlock → Run (Option Typed)
+  locals_run params = seq (begin_locals s.modules tree.locals) (λ locals. in_frame s.modules (crate_bodies s) tree (params ++ locals))
+
+  locals_then : tree.body ≡ behind copies body → (params : List LocalBlock) (world : World) (units : ℕ) → locals_run params world units ≡ bind (locals_begin params world units) goes_in
+  unfolding seq
+  locals_then is params world units =
+      bind_same (begin_locals s.modules tree.locals world units) (λ locals w k. in_frame s.modules (crate_bodies s) tree (params ++ locals) w k)
+      (λ locals w k. bind (copied_to s copies (params ++ locals) w k) goes_in) (λ locals w k. copies_then is (params ++ locals) w k)
+      ∙ sym (bind_bind (begin_locals s.modules tree.locals world units) (λ locals w k. copied_to s copies (params ++ locals) w k) goes_in)
+
   body_runs : tree.body ≡ behind copies body → (given : List Typed) (world : World) (units : ℕ) →
       crate_bodies s tree given world units ≡ bind (crate_entered s tree copies given world units) goes_in
-  unfolding seq pure
+  unfolding seq
   body_runs is given world units =
       bodies_unfold s.modules tree given world units
-      ∙ bind_same (begin_params s.modules tree.params given world units) _ _ (λ params after more.
-      bind_same (begin_locals s.modules tree.locals after more) _ _ (λ locals later left.
-      in_frame_first is (params ++ locals) later left
-      ∙ sym (bind_bind (run_stmts (frame_in s (params ++ locals)) copies later left) (λ flow w k. came (record { locals = params ++ locals; flow = flow }) w k) goes_in))
-      ∙ sym (bind_bind (begin_locals s.modules tree.locals after more) _ goes_in))
-      ∙ sym (bind_bind (begin_params s.modules tree.params given world units) _ goes_in)
+      ∙ bind_same (begin_params s.modules tree.params given world units) (λ params w k. locals_run params w k)
+      (λ params w k. bind (locals_begin params w k) goes_in) (λ params w k. locals_then is params w k)
+      ∙ sym (bind_bind (begin_params s.modules tree.params given world units) (λ params w k. locals_begin params w k) goes_in)
 
   -- ---- without a unit nothing is shown
 

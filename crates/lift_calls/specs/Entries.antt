@@ -42,7 +42,7 @@ pub record Entered : Type 0 where
 abbrev pub frame_in : Setting → List LocalBlock → Frame
 frame_in s locals = record { modules = s.modules; locals = locals; bodies = crate_bodies s }
 
-abbrev copied_to : Setting → Stmts → List LocalBlock → Run Entered
+abbrev pub copied_to : Setting → Stmts → List LocalBlock → Run Entered
 copied_to s copies locals = seq (run_stmts (frame_in s locals) copies) (λ flow. pure (record { locals = locals; flow = flow }))
 
 abbrev pub crate_entered : Setting → FunctionTree → (copies : Stmts) → List Typed → Run Entered

@@ -15,7 +15,7 @@ use Rattle.lift_stands.specs.Worlds.{WorldsStand}
 use Rattle.lift_stands_values.specs.Given.{align_or}
 use Rattle.mem_bytes.specs.declared.value.Ptr.{Ptr}
 use Rattle.rs_mean.specs.Calls.{accepts, without_blocks}
-use Rattle.rs_mean.specs.Lookups.{LocalBlock, own, own_signature}
+use Rattle.rs_mean.specs.Lookups.{LocalBlock, own as own_callee, own_signature}
 use Rattle.rs_mean.specs.Run.{Frame, Flow, given_by, call_found}
 use Rattle.rs_mean.specs.Values.{Typed}
 use Rattle.rs_text.specs.Tree.{Ty, FunctionTree}
@@ -44,7 +44,7 @@ CallNodesOwe =
     (c_world world : World) → Promise s units steps → CallStands s images place one tree args given c_world world →
     accepts (own_signature tree).params (own_signature tree).variadic given ≡ true →
     Owes events_of events_of (CallMeets images place (align_or (result_laid s one)) tree.result c_world world) units steps
-    (tick c_world (c_calls s one args c_world)) (call_found (crate_bodies s) given (Some (own tree)) world)
+    (tick c_world (c_calls s one args c_world)) (call_found (crate_bodies s) given (Some (own_callee tree)) world)
 
 -- ---- over a call
 

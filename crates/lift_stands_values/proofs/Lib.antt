@@ -1,5 +1,6 @@
 pub mod Arguments
 pub mod Literals
+pub mod MemberBits
 pub mod MemberValues
 pub mod Members
 pub mod Puts

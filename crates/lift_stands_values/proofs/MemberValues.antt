@@ -47,17 +47,17 @@ divides offset align byte size e fits =
     mod-eq-zero_of_dvd size (dvd-add size whole (dvd_of_mod-eq-zero size fits.at_byte))
 
 -- what the crate has of a part of a value
-record PartThere (images : Images) (others : Blocks) (source : Ptr) (byte size fit : ℕ) (part : List Cell) : Type 0 where
-  block : Block
-  live : live_block others source.block ≡ Some block
-  found : List Cell
-  there : part_of block (source.offset + byte) size ≡ Ok found
-  fits : ((source.offset + byte) % fit == 0 && nat_le fit block.align) ≡ true
-  below : CellsBelow images part found
-  held : All IsHeld part
-  many : length part ≡ size
+pub record PartThere (images : Images) (others : Blocks) (source : Ptr) (byte size fit : ℕ) (part : List Cell) : Type 0 where
+  pub block : Block
+  pub live : live_block others source.block ≡ Some block
+  pub found : List Cell
+  pub there : part_of block (source.offset + byte) size ≡ Ok found
+  pub fits : ((source.offset + byte) % fit == 0 && nat_le fit block.align) ≡ true
+  pub below : CellsBelow images part found
+  pub held : All IsHeld part
+  pub many : length part ≡ size
 
-part_there : (images : Images) (others : Blocks) (align byte size fit : ℕ) (source : Ptr) (list part : List Cell) → PlaceHolds images others align (Object source) list → FitsAt fit align byte → value_part list byte size ≡ Ok part → PartThere images others source byte size fit part
+pub part_there : (images : Images) (others : Blocks) (align byte size fit : ℕ) (source : Ptr) (list part : List Cell) → PlaceHolds images others align (Object source) list → FitsAt fit align byte → value_part list byte size ≡ Ok part → PartThere images others source byte size fit part
 part_there images others align byte size fit source list part holds fits e =
     let same : source ≡ holds.at = one_place source holds.at holds.value_is in
     let read = read_live (live_block others holds.at.block) (λ block. record_part_of block holds.at.offset (length list) align) holds.cells holds.found in

@@ -21,7 +21,7 @@ use Rattle.lift_stands_known.specs.Effects.{ValuesBelow}
 use Rattle.lift_stands_lives.specs.LawsStored.{StoreLeaves}
 use Rattle.lift_stands_values.specs.Given.{GivenBelow, ArgumentsBelow}
 use Rattle.lift_stands_values.specs.Literals.{ClearedAlone}
-use Rattle.lift_stands_values.specs.Members.{MemberBelow, FitsAt, MemberLoaded}
+use Rattle.lift_stands_values.specs.Members.{MemberBelow, FitsAt, MemberLoaded, BitsLoaded}
 use Rattle.mem_bytes.specs.Access.{value_at, after_fill}
 use Rattle.mem_bytes.specs.Coding.{IsScalar, IsValueOf, scalar_size}
 use Rattle.mem_bytes.specs.Laws.{behind}
@@ -57,6 +57,10 @@ pub record MembersStand : Type 0 where
   pub records : (images : Images) (others : Blocks) (align byte : ℕ) (source : Ptr) (list part : List Cell) (from to : Option Ptr) (laid : Laid) →
       PlaceHolds images others align (Object source) list → FitsAt laid.align align byte →
       member_of_kind byte list from (of_record laid) ≡ Ok (cells part to) → PlaceHolds images others laid.align (Object (behind source byte)) part
+  -- a bit-field in a value
+  pub bits : (images : Images) (memory others : Blocks) (align : ℕ) (source : Ptr) (list : List Cell) (spot : Spot) (width : ℕ) (kind : Scalar)
+      (value : CValue) → images.in_bytes ≡ true → StandsFor images memory others → 0 < align → PlaceHolds images others align (Object source) list →
+      member_bits spot width list kind ≡ Ok value → BitsLoaded others (behind source spot.byte) spot.bit width kind value
 
 -- ---- compound literals and declarations
 

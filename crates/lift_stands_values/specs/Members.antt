@@ -1,5 +1,5 @@
 -- What the crate has where C finds a member of a structure or union (ISO C99, 6.5.2.3; the Rust Reference, "Field access expressions").
-use Rattle.std.specs.Prelude.{◌≡◌, ℕ, ◌%◌, ◌<◌, ◌≤◌, true, pos, List, Some, Ok}
+use Rattle.std.specs.Prelude.{◌≡◌, ℕ, ◌%◌, ◌≤◌, true, pos, List, Some, Ok}
 use Rattle.cr_base.specs.declared.layout.Spot.{Spot}
 use Rattle.cr_base.specs.declared.scalar.Scalar.{Scalar}
 use Rattle.cx_mean.specs.Accesses.{field_value}
@@ -33,7 +33,6 @@ pub record MemberBelow (images : Images) (others : Blocks) (align : ℕ) (there 
 
 -- what has this alignment may stand so many bytes behind the begin of a structure or union
 pub record FitsAt (size align byte : ℕ) : Type 0 where
-  pub some : 0 < size
   pub at_byte : byte % size ≡ 0
   pub at_begin : align % size ≡ 0
   pub within : size ≤ align
