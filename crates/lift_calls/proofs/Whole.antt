@@ -1,5 +1,5 @@
 -- A whole call: its entry, its body and its return.
-use Rattle.std.proofs.Common.{◌≡◌, ℕ, zero, suc, ◌+◌, ◌<◌, ◌≤◌, List, [], ◌∷◌, ◌++◌, length, Option, Some, None, Result, Ok, Err, refl, sym, ap, ◌∙◌, subst, fun_ext, arith}
+use Rattle.std.proofs.Common.{◌≡◌, ℕ, zero, suc, ◌+◌, ◌<◌, ◌≤◌, List, [], ◌∷◌, ◌++◌, length, Option, Some, None, Result, Ok, Err, refl, sym, ap, ◌∙◌, subst, arith}
 use Rattle.cr_base.specs.declared.layout.Laid.{Laid}
 use Rattle.cr_runs.specs.Owes.{Owes, Rests}
 use Rattle.cr_runs.specs.Runs.{Ran, came, halted, bad, out, bind}
@@ -148,7 +148,7 @@ module _ (s : Setting) (one : CFun) (tree : FunctionTree) (meets : FunctionMeets
   -- behind the body the locals end
   ended : (c_frame : CFrame) (c_here : World) (locals : List LocalBlock) (here : World) → EntryMeets s one meets.names images place c_world world c_frame c_here (record { locals = locals; flow = normal }) here →
       (value : CValue) (c_after : World) (flow : Flow) (after : World) → Returned images place (align_or (result_laid s one)) tree.result c_world world (frame_in s locals) value c_after flow after →
-      Owes events_of events_of Meets units steps (came value c_after) (ends s tree meets.copies meets.body locals flow after)
+      Owes {F = CStop} events_of events_of Meets units steps (came value c_after) (ends s tree meets.copies meets.body locals flow after)
   unfolding seq pure local
   ended c_frame c_here locals here entry value c_after flow after back =
       values events_of events_of Meets units steps value c_after (given_by tree.result flow) (with_memory (without_blocks locals (blocks_of after)) after)

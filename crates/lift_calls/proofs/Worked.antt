@@ -14,7 +14,7 @@ use Rattle.rs_mean.specs.Calls.{without_blocks}
 use Rattle.rs_mean.specs.Lookups.{LocalBlock}
 use Rattle.rs_mean.specs.Run.{Frame, normal, returned, given_by, the_value}
 use Rattle.rs_mean.specs.Values.{typed}
-use Rattle.rs_mean.specs.World.{pure}
+use Rattle.rs_mean.specs.World.{pure, fails}
 use Rattle.rs_mean.specs.declared.cause.Cause.TheVariants.{WrongCall}
 use Rattle.rs_text.specs.Tree.{Integer, Boolean, Pointer, Local, Static, Deref, Read}
 use Rattle.rs_text.specs.declared.integer.IntegerTy.TheVariants.{I32}
@@ -63,6 +63,7 @@ abbrev world : World
 world = record { held = record { blocks = []; heap = [] }; made = []; answers = []; terms = open_ended }
 
 no_type_is_wrong : the_value (given_by (Some (Integer I32)) normal) world 5 ≡ bad (wrong WrongCall) world
+unfolding fails
 no_type_is_wrong = refl
 
 -- a place that has held a pointer is no room for an object in a program with bit-fields, though it is a place for a result, whose bytes are all written

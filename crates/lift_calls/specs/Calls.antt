@@ -84,7 +84,7 @@ ResultHanded images others (Some laid) None given rest = ⊥
 pub record Handed (s : Setting) (images : Images) (world : World) (place : Option Ptr) (one : CFun) (args : List CValue) (given : List Typed) : Type 0 where
   pub rest : List Typed
   pub result : ResultHanded images (blocks_of world) (result_laid s one) place given rest
-  pub args : AreHanded images (blocks_of world) args rest
+  pub arguments : AreHanded images (blocks_of world) args rest
 
 -- ---- what a call comes to
 
@@ -116,7 +116,7 @@ pub record CallStands (s : Setting) (images : Images) (place : Option Ptr) (one 
   pub worlds : WorldsStand images c_world world
   pub handed : Handed s images world place one args given
   -- in C: there is an argument for each parameter, of its type
-  pub args : AreForParams s.program one.params args
+  pub taken : AreForParams s.program one.params args
   pub scope : IsTypedScope s.program s.statics c_world
 
 -- below a bound of units and one of steps each call owes that
