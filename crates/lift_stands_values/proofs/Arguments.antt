@@ -1,7 +1,7 @@
 -- Arguments of external functions.
-use Rattle.std.proofs.Common.{◌≡◌, ℕ, true, false, ℤ, List, [], ◌∷◌, map, Option, Some, None, Result, Ok, Err, refl, sym, ap, ◌∙◌, subst}
+use Rattle.std.proofs.Common.{◌≡◌, ℕ, true, false, List, [], ◌∷◌, map, Result, Ok, Err, refl, ap, ◌∙◌, subst}
 use Rattle.cr_base.specs.declared.scalar.Scalar.{Scalar}
-use Rattle.cr_base.specs.declared.scalar.Scalar.TheVariants.{Truth, Whole, Object, Code}
+use Rattle.cr_base.specs.declared.scalar.Scalar.TheVariants.{Truth, Whole}
 use Rattle.cr_world.specs.Held.{HeldFault}
 use Rattle.cr_world.specs.Texts.{text_of}
 use Rattle.cx_mean.specs.Calls.{number_argument, text_argument, argument_of, arguments, values_of}
@@ -22,11 +22,10 @@ use Rattle.mem_bytes.specs.declared.value.Value.{Value}
 use Rattle.mem_bytes.specs.declared.value.Value.TheVariants.{Whole as Number}
 use Rattle.mem_bytes.proofs.Reached.{and_then_ok}
 use Rattle.rs_mean.specs.Calls.{argued, as_text, argument_by, arguments_of, value_in}
-use Rattle.rs_mean.specs.Scalars.{integer_scalar, scalar_of}
+use Rattle.rs_mean.specs.Scalars.{scalar_of}
 use Rattle.rs_mean.specs.Values.{Typed}
 use Rattle.rs_mean.specs.World.{or_cause, cause_of_held, then_try}
 use Rattle.rs_text.specs.Tree.{Ty, Integer, Boolean, Void, Pointer, Array, Code as CodeTy, Record}
-use Rattle.rs_text.specs.declared.integer.IntegerTy.{IntegerTy}
 use Rattle.rs_text.specs.declared.integer.IntegerTy.TheVariants.{I8, I16, I32, I64, U8, U16, U32, U64, Isize, Usize}
 
 module _ (images : Images) (memory others : Blocks) (stands : StandsFor images memory others) (value given : Value) (arg : Arg) (below : ValueBelow images value given) where

@@ -1,5 +1,5 @@
 -- Objects that C makes anew.
-use Rattle.std.proofs.Common.{◌≡◌, ℕ, zero, ◌+◌, ◌≤◌, ◌==◌, Bool, true, false, if◌then◌else◌, List, [], ◌∷◌, ◌++◌, length, take, drop, replicate, All, Option, Some, None, slice_set, Result, Ok, refl, sym, ap, ◌∙◌, subst, arith}
+use Rattle.std.proofs.Common.{◌≡◌, ℕ, ◌+◌, ◌==◌, Bool, true, false, if◌then◌else◌, List, [], ◌∷◌, ◌++◌, length, drop, replicate, All, Option, Some, slice_set, Result, Ok, sym, ap, ◌∙◌, subst, arith}
 use Rattle.std.proofs.lemmas.Bool.{eqb-true}
 use Rattle.std.proofs.lemmas.List.{append-nil, drop_all, length-replicate}
 use Rattle.std.proofs.lemmas.List.Elements.{All-replicate}
@@ -7,10 +7,10 @@ use Rattle.cr_world.specs.Held.{Held}
 use Rattle.cx_core.specs.Trees.{CPuts}
 use Rattle.cx_mean.specs.Accesses.{sized}
 use Rattle.cx_mean.specs.Initialisers.{CCleared, first_cells, cleared_block, object_cleared}
-use Rattle.cx_mean.specs.Operands.{CWhy, needed, Slot, Frame, slot_of}
+use Rattle.cx_mean.specs.Operands.{CWhy, needed, Frame, slot_of}
 use Rattle.cx_mean.specs.Settings.{CSetting}
 use Rattle.lift_stands.specs.LawsStores.{StandsAfter}
-use Rattle.lift_stands.specs.Stands.{Images, PlaceBelow, CellsBelow, BlockBelow, StandsFor, Lives}
+use Rattle.lift_stands.specs.Stands.{Images, PlaceBelow, CellsBelow, BlockBelow, StandsFor}
 use Rattle.lift_stands.specs.Worlds.{HeldStands}
 use Rattle.lift_stands.proofs.Cells.{length_below}
 use Rattle.lift_stands.proofs.Loads.{block_there}
@@ -25,8 +25,8 @@ use Rattle.lift_stands_lives.proofs.Steps.{stores_keep}
 use Rattle.lift_stands_lives.proofs.Stored.{leaves}
 use Rattle.lift_stands_values.specs.Literals.{ClearedAlone}
 use Rattle.lift_stands_values.proofs.Results.{needed_ok}
-use Rattle.lift_stands_values.proofs.Zeros.{IsZeros, all_below, all_held, first_zeros}
-use Rattle.mem_bytes.specs.Access.{and_then, part_of, block_with_fill, live_read, after_fill}
+use Rattle.lift_stands_values.proofs.Zeros.{all_below, all_held, first_zeros}
+use Rattle.mem_bytes.specs.Access.{and_then, block_with_fill, live_read, after_fill}
 use Rattle.mem_bytes.specs.Laws.{IsHeld, Writes}
 use Rattle.mem_bytes.specs.Memory.{Block, Blocks, live_block, size_of, unset_cell, byte_cell, with_part}
 use Rattle.mem_bytes.specs.declared.cell.Cell.{Cell}

@@ -1,5 +1,5 @@
 -- Bit-fields of values of structures and unions, by the bytes of the crate where it holds the value.
-use Rattle.std.proofs.Common.{◌≡◌, ℕ, ◌+◌, ◌-◌, ◌^◌, ◌≤◌, ◌<◌, ◌==◌, ◌%◌, nat_le, Bool, true, false, cond, List, map, take, drop, length, All, Some, Result, Ok, Err, refl, sym, ap, ◌∙◌, subst, arith}
+use Rattle.std.proofs.Common.{◌≡◌, ℕ, ◌+◌, ◌-◌, ◌^◌, ◌<◌, ◌==◌, ◌%◌, nat_le, Bool, true, false, cond, List, drop, All, Result, Ok, Err, refl, sym, ap, ◌∙◌, subst, arith}
 use Rattle.std.specs.List.{list_all}
 use Rattle.std.proofs.Math.Nat.{mod-one}
 use Rattle.std.proofs.lemmas.Bool.{and_parts, eqb-true, leb-true}
@@ -19,9 +19,8 @@ use Rattle.mem_bytes.specs.Access.{and_then, part_of, live_read}
 use Rattle.mem_bytes.specs.Bits.{bytes_touched, field_of, field_in}
 use Rattle.mem_bytes.specs.Coding.{is_bits, bits_of, set_of, number_of}
 use Rattle.mem_bytes.specs.Laws.{IsHeld, behind}
-use Rattle.mem_bytes.specs.Memory.{Blocks, byte_cell}
+use Rattle.mem_bytes.specs.Memory.{Blocks}
 use Rattle.mem_bytes.specs.declared.cell.Cell.{Cell}
-use Rattle.mem_bytes.specs.declared.fault.Fault.{Fault}
 use Rattle.mem_bytes.specs.declared.fault.Fault.TheVariants.{Unset, MixedPointer}
 use Rattle.mem_bytes.specs.declared.value.Ptr.{Ptr}
 use Rattle.mem_bytes.specs.declared.value.Value.{Value}

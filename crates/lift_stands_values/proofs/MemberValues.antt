@@ -1,5 +1,5 @@
 -- Members of values of structures and unions, which the crate holds at a place.
-use Rattle.std.proofs.Common.{◌≡◌, ℕ, ◌+◌, ◌-◌, ◌≤◌, ◌<◌, ◌%◌, ◌==◌, ◌&&◌, nat_le, true, List, take, drop, length, All, Option, Some, Result, Ok, Err, refl, sym, ap, ◌∙◌, subst, arith, cond}
+use Rattle.std.proofs.Common.{◌≡◌, ℕ, ◌+◌, ◌-◌, ◌≤◌, ◌%◌, ◌==◌, ◌&&◌, nat_le, true, List, take, drop, length, All, Option, Some, Result, Ok, Err, refl, sym, ap, ◌∙◌, subst, arith, cond}
 use Rattle.std.proofs.Math.Nat.{dvd-add}
 use Rattle.std.proofs.lemmas.Bool.{and_parts, and_from, leb-true, le-leb, eqb-true, eq-eqb, cond-true}
 use Rattle.std.proofs.lemmas.List.{drop-take, take-take, drop-drop, length-take-le, length-drop}
@@ -8,9 +8,9 @@ use Rattle.std.proofs.lemmas.Nat.Gcd.{dvd_trans, dvd_of_mod-eq-zero, mod-eq-zero
 use Rattle.cr_base.specs.declared.layout.Laid.{Laid}
 use Rattle.cr_base.specs.declared.scalar.Scalar.{Scalar}
 use Rattle.cx_mean.specs.Accesses.{of_scalar, of_record}
-use Rattle.cx_mean.specs.Nodes.{value_part, moved_by, member_of_kind}
+use Rattle.cx_mean.specs.Nodes.{value_part, member_of_kind}
 use Rattle.cx_mean.specs.Operands.{CWhy, stuck, CValue, scalar, cells, accessed}
-use Rattle.lift_stands.specs.Stands.{Images, ValueBelow, CellsBelow, PlaceHolds}
+use Rattle.lift_stands.specs.Stands.{Images, CellsBelow, PlaceHolds}
 use Rattle.lift_stands.proofs.Cells.{take_below, drop_below}
 use Rattle.lift_stands.proofs.Decoded.{value_alike}
 use Rattle.lift_stands.proofs.Loads.{read_live}
@@ -18,10 +18,10 @@ use Rattle.lift_stands_accesses.proofs.Results.{accessed_ok}
 use Rattle.lift_stands_lives.proofs.Copied.{part_found, one_place}
 use Rattle.lift_stands_values.specs.Members.{FitsAt, MemberLoaded}
 use Rattle.lift_stands_values.proofs.Results.{if_ok}
-use Rattle.mem_bytes.specs.Access.{and_then, part_of, is_aligned, scalar_part_of, block_value, is_record_aligned, record_part_of, live_read, value_at, record_at}
+use Rattle.mem_bytes.specs.Access.{and_then, part_of, is_aligned, scalar_part_of, block_value, is_record_aligned, record_part_of, live_read}
 use Rattle.mem_bytes.specs.Coding.{scalar_size, value_of}
 use Rattle.mem_bytes.specs.Laws.{IsHeld, behind}
-use Rattle.mem_bytes.specs.Memory.{Block, Blocks, live_block, size_of}
+use Rattle.mem_bytes.specs.Memory.{Block, Blocks, live_block}
 use Rattle.mem_bytes.specs.declared.cell.Cell.{Cell}
 use Rattle.mem_bytes.specs.declared.fault.Fault.TheVariants.{Misaligned}
 use Rattle.mem_bytes.specs.declared.value.Ptr.{Ptr}

@@ -1,5 +1,5 @@
 -- Members of places.
-use Rattle.std.proofs.Common.{◌≡◌, ℕ, ◌+◌, ◌≤◌, ◌%◌, ◌==◌, ◌&&◌, nat_le, Bool, true, pos, List, Some, Ok, Err, refl, sym, ap, ◌∙◌, subst, arith, if◌then◌else◌}
+use Rattle.std.proofs.Common.{◌≡◌, ℕ, ◌≤◌, ◌%◌, ◌==◌, nat_le, Bool, true, pos, List, Some, Ok, Err, sym, ap, ◌∙◌, arith, if◌then◌else◌}
 use Rattle.std.proofs.lemmas.Bool.{and_parts, and_from, leb-true, le-leb}
 use Rattle.cr_base.specs.declared.layout.Laid.{Laid}
 use Rattle.cr_base.specs.declared.layout.Spot.{Spot}
@@ -10,7 +10,7 @@ use Rattle.cx_mean.specs.Accesses.{object_at}
 use Rattle.cx_mean.specs.Initialisers.{part_with}
 use Rattle.cx_mean.specs.Nodes.{aligned_place, member_at, member_of_place}
 use Rattle.cx_mean.specs.Operands.{accessed, by_pointers, CValue}
-use Rattle.lift_stands.specs.Stands.{Images, PlaceBelow, ValueBelow, BlockBelow, StandsFor}
+use Rattle.lift_stands.specs.Stands.{Images, ValueBelow, BlockBelow, StandsFor}
 use Rattle.lift_stands.proofs.Forms.{object_below}
 use Rattle.lift_stands.proofs.Loads.{block_there, read_live}
 use Rattle.lift_stands_accesses.proofs.Results.{accessed_ok}

@@ -1,5 +1,5 @@
 -- Puts of compound literals and of initialisers.
-use Rattle.std.proofs.Common.{◌≡◌, ℕ, zero, suc, ◌+◌, ◌<◌, true, ℤ, List, Option, Some, None, Result, Ok, sym, ap, ◌∙◌, subst, arith}
+use Rattle.std.proofs.Common.{◌≡◌, ℕ, zero, suc, ◌+◌, ◌<◌, true, ℤ, List, Option, Some, Ok, sym, ap, ◌∙◌, arith}
 use Rattle.cr_base.specs.declared.layout.Laid.{Laid}
 use Rattle.cr_base.specs.declared.layout.Spot.{Spot}
 use Rattle.cr_base.specs.declared.scalar.Scalar.{Scalar}
@@ -7,8 +7,7 @@ use Rattle.cr_world.specs.Held.{Held}
 use Rattle.cx_core.specs.Trees.{CTy}
 use Rattle.cx_mean.specs.Accesses.{CStored, CKind, of_scalar, of_record, kind_of, object_at, stored_kind, stored_bits, stored}
 use Rattle.cx_mean.specs.Initialisers.{part_with, part_place, put_stored}
-use Rattle.cx_mean.specs.Marks.{Marks}
-use Rattle.cx_mean.specs.Operands.{CWhy, needed, CValue, scalar, cells, COperand, Frame, slot_of}
+use Rattle.cx_mean.specs.Operands.{needed, scalar, cells, COperand, Frame, slot_of}
 use Rattle.cx_mean.specs.Settings.{CSetting, scalar_in_type}
 use Rattle.lift_stands.specs.Stands.{Images, PlaceBelow, ValueBelow, PlaceHolds}
 use Rattle.lift_stands.specs.Worlds.{HeldStands}
@@ -17,7 +16,6 @@ use Rattle.lift_stands_accesses.proofs.Stores.{scalar_stored, record_stored, bit
 use Rattle.mem_bytes.specs.Access.{and_then}
 use Rattle.mem_bytes.specs.Coding.{IsScalar}
 use Rattle.mem_bytes.specs.Laws.{behind}
-use Rattle.mem_bytes.specs.Memory.{Blocks}
 use Rattle.mem_bytes.specs.declared.cell.Cell.{Cell}
 use Rattle.mem_bytes.specs.declared.value.Ptr.{Ptr}
 use Rattle.mem_bytes.specs.declared.value.Value.{Value}

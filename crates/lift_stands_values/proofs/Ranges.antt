@@ -1,5 +1,5 @@
 -- Ranges of what is loaded, and of what stands for it; and operands under more images.
-use Rattle.std.proofs.Common.{◌≡◌, ℕ, ◌<◌, Bool, true, false, ◌&&◌, nat_lt, if◌then◌else◌, pos, List, [], ◌∷◌, Option, Some, None, Ok, Err, refl, sym, ap, ◌∙◌, subst, rules}
+use Rattle.std.proofs.Common.{◌≡◌, ℕ, ◌<◌, Bool, true, false, ◌&&◌, nat_lt, if◌then◌else◌, pos, List, [], ◌∷◌, Option, Some, None, Ok, sym, subst, rules}
 use Rattle.std.proofs.lemmas.Bool.{and_parts, ltb-true}
 use Rattle.std.proofs.lemmas.Int.{ints}
 use Rattle.std.specs.List.{list_all}
@@ -15,7 +15,7 @@ use Rattle.lift_stands.proofs.Loads.{read_live}
 use Rattle.lift_stands_values.specs.Given.{AddressBelow, GivenBelow}
 use Rattle.lift_stands_values.proofs.Results.{if_ok}
 use Rattle.mem_bytes.specs.Access.{scalar_part_of, block_value, value_at}
-use Rattle.mem_bytes.specs.Coding.{IsScalar, IsValueOf, is_set, is_bits, is_zero, bits_of, is_pointer_of, are_bytes_of, number_value, whole_value, stored_pointer, pointer_value, meaning_of, value_of}
+use Rattle.mem_bytes.specs.Coding.{IsScalar, IsValueOf, is_set, is_bits, is_zero, bits_of, is_pointer_of, are_bytes_of, number_value, whole_value, stored_pointer, meaning_of, value_of}
 use Rattle.mem_bytes.specs.Memory.{Blocks, live_block}
 use Rattle.mem_bytes.specs.declared.cell.Cell.{Cell}
 use Rattle.mem_bytes.specs.declared.cell.Cell.TheVariants.{Bits, PtrByte}

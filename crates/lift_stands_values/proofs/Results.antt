@@ -1,7 +1,7 @@
 -- What results that are `Ok` show.
 use Rattle.std.proofs.Common.{◌≡◌, ℤ, Bool, true, false, if◌then◌else◌, Option, Some, None, Result, Ok, Err, refl}
 use Rattle.cr_base.specs.declared.rule.URule.{URule}
-use Rattle.cx_mean.specs.Operands.{CWhy, needed, by_pointers, CValue, scalar, cells, names, designates, designates_bits, missing, scalar_value}
+use Rattle.cx_mean.specs.Operands.{needed, by_pointers, CValue, scalar, cells, names, designates, designates_bits, missing, scalar_value}
 use Rattle.cx_mean.specs.Values.{number_in}
 use Rattle.mem_bytes.specs.declared.pointer.PointerFault.{PointerFault}
 use Rattle.mem_bytes.specs.declared.value.Value.{Value}

@@ -1,26 +1,24 @@
 -- Worked members, objects that are made anew, arguments and operands, in C and in the crate; and what would be wrong with less.
-use Rattle.std.proofs.Common.{◌≡◌, ℕ, pos, negsuc, true, false, List, [], ◌∷◌, map, Option, Some, None, Ok, Err, refl, codes}
+use Rattle.std.proofs.Common.{◌≡◌, ℕ, pos, negsuc, true, false, List, [], ◌∷◌, map, Some, None, Ok, Err, refl, codes}
 use Rattle.cr_base.specs.declared.layout.Spot.{Spot}
 use Rattle.cr_base.specs.declared.rule.URule.TheVariants.{U5, U10, U11}
 use Rattle.cr_base.specs.declared.scalar.Scalar.TheVariants.{Truth, Whole, Object}
-use Rattle.cx_core.specs.Trees.{CTy, ty, basic, CProgram, no_types_yet, more_puts, no_puts, put, expr, whole}
-use Rattle.cx_core.specs.declared.ty.Basic.TheVariants.{Int, Char}
+use Rattle.cx_core.specs.Trees.{ty, basic, CProgram, no_types_yet, more_puts, no_puts, put, expr, whole}
+use Rattle.cx_core.specs.declared.ty.Basic.TheVariants.{Int}
 use Rattle.cx_mean.specs.Calls.{argument_of}
-use Rattle.cx_mean.specs.Initialisers.{unset_by, first_cells, object_cleared, put_stored}
-use Rattle.cx_mean.specs.Marks.{bits_of_bytes, with_write, no_marks}
+use Rattle.cx_mean.specs.Initialisers.{unset_by, first_cells}
 use Rattle.cx_mean.specs.Nodes.{member_at}
-use Rattle.cx_mean.specs.Operands.{breaks, stuck, CValue, scalar, designates, at_once}
+use Rattle.cx_mean.specs.Operands.{breaks, CValue, designates}
 use Rattle.cx_mean.specs.Settings.{CSetting}
 use Rattle.ext_calls.specs.declared.call.Arg.TheVariants.{Whole as WholeArg, Text as TextArg}
 use Rattle.lift_stands.specs.Stands.{Images, ValueBelow}
-use Rattle.lift_stands_values.specs.Given.{GivenBelow, given_type, IsInKind}
-use Rattle.mem_bytes.specs.Access.{value_at, after_put, after_fill}
+use Rattle.lift_stands_values.specs.Given.{GivenBelow, given_type}
+use Rattle.mem_bytes.specs.Access.{value_at, after_fill}
 use Rattle.mem_bytes.specs.Memory.{Block, unset_cell, byte_cell}
 use Rattle.mem_bytes.specs.Pointers.{moved}
 use Rattle.mem_bytes.specs.declared.cell.Cell.TheVariants.{Bits}
-use Rattle.mem_bytes.specs.declared.fault.Fault.TheVariants.{BadBool, Unset}
+use Rattle.mem_bytes.specs.declared.fault.Fault.TheVariants.{BadBool}
 use Rattle.mem_bytes.specs.declared.value.Ptr.{Ptr}
-use Rattle.mem_bytes.specs.declared.value.Value.{Value}
 use Rattle.mem_bytes.specs.declared.value.Value.TheVariants.{Whole as Number, Null, Object as Address}
 use Rattle.rs_mean.specs.Calls.{may_stand, argument_by}
 use Rattle.rs_mean.specs.declared.cause.Cause.TheVariants.{WrongCall}

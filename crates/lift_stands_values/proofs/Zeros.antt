@@ -1,5 +1,5 @@
 -- What an object holds that was made anew: bits that are 0, where they are set.
-use Rattle.std.proofs.Common.{◌≡◌, ℕ, zero, suc, ◌+◌, ◌*◌, ◌/◌, ◌%◌, ◌<◌, List, [], ◌∷◌, ◌++◌, map, length, take, drop, replicate, All, Option, Some, None, Result, Ok, refl, sym, ap, ◌∙◌, subst, arith}
+use Rattle.std.proofs.Common.{◌≡◌, ℕ, zero, suc, ◌+◌, ◌/◌, ◌%◌, ◌<◌, List, [], ◌∷◌, ◌++◌, length, take, drop, replicate, All, Option, Some, None, Ok, refl, sym, subst, arith}
 use Rattle.std.proofs.lemmas.List.Elements.{All-nil, All-cons, All-head, All-tail, All-take, All-drop, All-append, All-replicate}
 use Rattle.std.proofs.lemmas.Nat.{mod_below}
 use Rattle.std.proofs.lemmas.Nat.Bits.{bit_at_ones}
@@ -9,9 +9,8 @@ use Rattle.cx_mean.specs.Initialisers.{with_cells, field_unset, unset_by, unset_
 use Rattle.cx_mean.specs.Operands.{needed}
 use Rattle.cx_mean.specs.Settings.{CSetting, extent_in}
 use Rattle.lift_stands.specs.Stands.{Images, CellBelow, CellsBelow}
-use Rattle.mem_bytes.specs.Access.{and_then}
 use Rattle.mem_bytes.specs.Bits.{bytes_touched, with_field, bit_cells}
-use Rattle.mem_bytes.specs.Coding.{bits_in, bits_of, set_of, number_of}
+use Rattle.mem_bytes.specs.Coding.{bits_of, set_of}
 use Rattle.mem_bytes.specs.Laws.{IsHeld}
 use Rattle.mem_bytes.specs.Memory.{unset_cell, byte_cell}
 use Rattle.mem_bytes.specs.declared.cell.Cell.{Cell}

@@ -1,5 +1,5 @@
 -- Laws of members, compound literals, arguments and operands (ISO C99, 6.5.2.2, 6.5.2.3, 6.5.2.5 and 6.2.6.1).
-use Rattle.std.specs.Prelude.{◌≡◌, ℕ, ◌%◌, ◌≤◌, ◌<◌, Bool, false, true, ℤ, List, map, replicate, Option, Some, Ok}
+use Rattle.std.specs.Prelude.{◌≡◌, ℕ, ◌<◌, Bool, false, true, ℤ, List, map, replicate, Option, Some, Ok}
 use Rattle.cr_base.specs.declared.layout.Laid.{Laid}
 use Rattle.cr_base.specs.declared.layout.Spot.{Spot}
 use Rattle.cr_base.specs.declared.scalar.Scalar.{Scalar}

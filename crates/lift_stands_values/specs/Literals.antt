@@ -1,5 +1,5 @@
 -- What the crate has where C makes an object anew, at its compound literal or its declaration (ISO C99, 6.5.2.5 and 6.7.8).
-use Rattle.std.specs.Prelude.{◌≡◌, ℕ, Bool}
+use Rattle.std.specs.Prelude.{ℕ, Bool}
 use Rattle.cr_world.specs.Held.{Held, with_blocks}
 use Rattle.lift_stands.specs.Keeps.{KeepsOthers}
 use Rattle.lift_stands.specs.Stands.{Images}

@@ -1,5 +1,5 @@
 -- What the crate has where C finds a member of a structure or union (ISO C99, 6.5.2.3; the Rust Reference, "Field access expressions").
-use Rattle.std.specs.Prelude.{◌≡◌, ℕ, ◌%◌, ◌≤◌, true, pos, List, Some, Ok}
+use Rattle.std.specs.Prelude.{◌≡◌, ℕ, ◌%◌, ◌≤◌, true, pos, Some, Ok}
 use Rattle.cr_base.specs.declared.layout.Spot.{Spot}
 use Rattle.cr_base.specs.declared.scalar.Scalar.{Scalar}
 use Rattle.cx_mean.specs.Accesses.{field_value}

@@ -4,6 +4,4 @@
 
 mod laws;
 
-pub use laws::{
-    arguments_stand, literals_stand, members_stand, operands_stay, ranges_stand,
-};
+pub use laws::{arguments_stand, literals_stand, members_stand, operands_stay, ranges_stand};
