@@ -1,5 +1,5 @@
 -- What a function's frame keeps over a call.
-use Rattle.std.proofs.Common.{◌≡◌, ◌≢◌, ℕ, ◌+◌, ◌<◌, ◌≤◌, ◌==◌, Bool, true, false, List, ◌++◌, length, Option, Some, None, refl, sym, ap, ◌∙◌, subst, ⊎_elim, arith}
+use Rattle.std.proofs.Common.{◌≡◌, ◌≢◌, ℕ, ◌<◌, ◌≤◌, Bool, true, false, List, ◌++◌, length, Option, Some, None, refl, sym, ap, ◌∙◌, ⊎_elim, arith}
 use Rattle.std.proofs.lemmas.Bool.{cases_lt, ne_eqb}
 use Rattle.std.proofs.lemmas.Option.{slice_get-get_or}
 use Rattle.std.specs.List.{Contains}
@@ -9,17 +9,17 @@ use Rattle.cr_world.specs.Held.{Held, is_listed}
 use Rattle.cr_world.specs.World.{World, blocks_of}
 use Rattle.cx_core.specs.Trees.{CFun}
 use Rattle.cx_mean.specs.Operands.{Frame as CFrame}
-use Rattle.lift_stands.specs.Keeps.{KeepsOthers, LivesOn}
-use Rattle.lift_stands.specs.Stands.{Images, image_of, Extends, Lives, IsNoImage, IsVacant}
+use Rattle.lift_stands.specs.Keeps.{KeepsOthers}
+use Rattle.lift_stands.specs.Stands.{Images, image_of, Extends, Lives, IsNoImage}
 use Rattle.lift_stands.specs.Worlds.{WorldsStand}
 use Rattle.lift_stands.proofs.Kept.{both_keep}
 use Rattle.lift_calls.specs.Bodies.{HoldsResult, ResultAgrees, Inside}
 use Rattle.lift_calls.specs.Calls.{result_laid, ResultPlace, is_place}
-use Rattle.lift_calls.specs.Frames.{FunctionNames, KeptTemporary, TemporaryAgrees, ObjectAgrees, IsOwned, LocalLives, IsLocal, FramesAgree}
+use Rattle.lift_calls.specs.Frames.{FunctionNames, KeptTemporary, TemporaryAgrees, IsOwned, LocalLives, FramesAgree}
 use Rattle.lift_calls.specs.Laws.{PlaceInside}
-use Rattle.lift_calls.specs.Programs.{Setting, FunctionAgrees, StaticAgrees, ProgramAgrees, IsTypedScope}
+use Rattle.lift_calls.specs.Programs.{Setting, ProgramAgrees, IsTypedScope}
 use Rattle.mem_bytes.specs.Access.{block_value, live_read}
-use Rattle.mem_bytes.specs.Memory.{Block, Blocks, live_block}
+use Rattle.mem_bytes.specs.Memory.{Block, live_block}
 use Rattle.mem_bytes.specs.declared.value.Ptr.{Ptr}
 use Rattle.mem_bytes.proofs.Slots.{live_within}
 use Rattle.rs_mean.specs.Lookups.{LocalBlock}

@@ -1,5 +1,5 @@
 -- Where a call is reached: a step of C and a unit of the crate, and then both bodies.
-use Rattle.std.proofs.Common.{◌≡◌, ℕ, zero, suc, pred, ◌+◌, ◌<◌, ◌≤◌, true, List, map, Option, Some, refl, sym, ap, arith}
+use Rattle.std.proofs.Common.{◌≡◌, ℕ, zero, suc, pred, true, List, map, Option, Some, refl, sym, ap, arith}
 use Rattle.cr_runs.specs.Owes.{Owes}
 use Rattle.cr_runs.specs.Runs.{tick}
 use Rattle.cr_runs.proofs.Rules.{renamed}

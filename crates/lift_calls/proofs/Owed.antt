@@ -1,6 +1,5 @@
 -- Bounds, and the induction over both.
-use Rattle.std.proofs.Common.{ℕ, zero, suc, ◌+◌, ◌<◌, ◌≤◌, refl, arith}
-use Rattle.cr_runs.specs.Owes.{Owes}
+use Rattle.std.proofs.Common.{ℕ, zero, suc, ◌+◌, ◌<◌, ◌≤◌, arith}
 use Rattle.lift_calls.specs.Calls.{CallsOwe, Promise}
 use Rattle.lift_calls.specs.Programs.{Setting}
 

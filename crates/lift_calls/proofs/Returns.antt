@@ -1,11 +1,10 @@
 -- Where a body returns, its locals end.
-use Rattle.std.proofs.Common.{◌≡◌, ◌≢◌, ℕ, zero, suc, ◌<◌, ◌≤◌, List, [], ◌∷◌, length, Option, Some, None, slice_set, Ok, refl, sym, ap, ◌∙◌, subst, arith}
+use Rattle.std.proofs.Common.{◌≡◌, ◌≢◌, ℕ, suc, ◌<◌, ◌≤◌, List, [], ◌∷◌, length, Option, Some, None, slice_set, refl, ap, ◌∙◌, subst, arith}
 use Rattle.std.proofs.lemmas.List.{length-set}
 use Rattle.std.specs.List.{Contains}
 use Rattle.cr_world.specs.Held.{Held, with_blocks}
 use Rattle.cr_world.specs.World.{World, blocks_of, with_memory}
 use Rattle.cx_mean.specs.Operands.{CValue, scalar, cells, names, designates, designates_bits, missing}
-use Rattle.lift_stands.specs.Keeps.{KeepsOthers}
 use Rattle.lift_stands.specs.Stands.{Images, IsVacant, PlaceHolds}
 use Rattle.lift_stands.specs.Worlds.{HeldStands, WorldsStand}
 use Rattle.lift_stands.proofs.Kept.{both_keep}
@@ -16,7 +15,7 @@ use Rattle.lift_stands_lives.proofs.Copied.{one_place}
 use Rattle.lift_calls.specs.Bodies.{Returned}
 use Rattle.lift_calls.specs.Calls.{is_place, GivesBack, CallMeets}
 use Rattle.mem_bytes.specs.Access.{record_part_of, live_read}
-use Rattle.mem_bytes.specs.Memory.{Block, Blocks, live_block}
+use Rattle.mem_bytes.specs.Memory.{Blocks, live_block}
 use Rattle.mem_bytes.specs.declared.cell.Cell.{Cell}
 use Rattle.mem_bytes.specs.declared.value.Ptr.{Ptr}
 use Rattle.mem_bytes.specs.declared.value.Value.TheVariants.{Object}

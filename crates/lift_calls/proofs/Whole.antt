@@ -1,10 +1,10 @@
 -- A whole call: its entry, its body and its return.
-use Rattle.std.proofs.Common.{◌≡◌, ℕ, zero, suc, ◌+◌, ◌<◌, ◌≤◌, List, [], ◌∷◌, ◌++◌, length, Option, Some, None, Result, Ok, Err, refl, sym, ap, ◌∙◌, subst, arith}
+use Rattle.std.proofs.Common.{◌≡◌, ℕ, zero, suc, ◌<◌, List, [], ◌∷◌, ◌++◌, length, Option, Some, None, Result, Ok, Err, refl, sym, ap, ◌∙◌, subst}
 use Rattle.cr_base.specs.declared.layout.Laid.{Laid}
-use Rattle.cr_runs.specs.Owes.{Owes, Rests}
+use Rattle.cr_runs.specs.Owes.{Owes}
 use Rattle.cr_runs.specs.Runs.{Ran, came, halted, bad, out, bind}
 use Rattle.cr_runs.proofs.Rules.{values, pieces, renamed, bind_came, bind_bind}
-use Rattle.cr_world.specs.World.{World, Stop, Got, blocks_of, with_memory, events_of}
+use Rattle.cr_world.specs.World.{World, blocks_of, with_memory, events_of}
 use Rattle.cx_core.specs.Trees.{CFun}
 use Rattle.cx_mean.specs.Leftmost.{CPiece, CGoes, CRan, or_stop, c_params}
 use Rattle.cx_mean.specs.Moves.{reaches}
@@ -27,12 +27,11 @@ use Rattle.rs_mean.specs.Lookups.{LocalBlock}
 use Rattle.rs_mean.specs.Run.{Frame, Flow, normal, breaks, continues, returned, run_stmts, then_on, given_by, in_frame}
 use Rattle.rs_mean.specs.Values.{Typed}
 use Rattle.rs_mean.specs.World.{Run, pure, seq, local}
-use Rattle.rs_mean.specs.declared.cause.Cause.{Cause}
 use Rattle.rs_mean.proofs.Unfolded.{lists_follow, bodies_unfold}
 use Rattle.rs_mean_frames.specs.Behave.{Behaves}
 use Rattle.rs_mean_frames.proofs.Behaving.{behaves_pure, behaves_local, behaves_seq}
 use Rattle.rs_mean_frames.proofs.Framed.{pieces_behave, all_behave}
-use Rattle.rs_text.specs.Tree.{Ty, Stmts, FunctionTree}
+use Rattle.rs_text.specs.Tree.{Stmts, FunctionTree}
 
 -- ---- in C
 

@@ -1,5 +1,5 @@
 -- Worked parts of calls, frames and returns; and what would be wrong with less.
-use Rattle.std.proofs.Common.{◌≡◌, ℕ, ◌+◌, ◌<◌, ◌≤◌, pos, true, false, List, [], ◌∷◌, Option, Some, None, Ok, Err, refl, codes}
+use Rattle.std.proofs.Common.{◌≡◌, ℕ, pos, true, false, [], ◌∷◌, Some, None, refl, codes}
 use Rattle.cr_runs.specs.Runs.{bad}
 use Rattle.cr_world.specs.World.{World, wrong, open_ended}
 use Rattle.cx_mean.specs.Operands.{scalar, missing}
@@ -9,7 +9,7 @@ use Rattle.lift_calls.specs.Frames.{home_in}
 use Rattle.mem_bytes.specs.Memory.{byte_cell}
 use Rattle.mem_bytes.specs.declared.cell.Cell.TheVariants.{PtrByte}
 use Rattle.mem_bytes.specs.declared.value.Ptr.{Ptr}
-use Rattle.mem_bytes.specs.declared.value.Value.TheVariants.{Whole, Null, Object}
+use Rattle.mem_bytes.specs.declared.value.Value.TheVariants.{Whole, Object}
 use Rattle.rs_mean.specs.Calls.{without_blocks}
 use Rattle.rs_mean.specs.Lookups.{LocalBlock}
 use Rattle.rs_mean.specs.Run.{Frame, normal, returned, given_by, the_value}

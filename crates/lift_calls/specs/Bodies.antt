@@ -22,7 +22,7 @@ use Rattle.rs_mean.specs.Run.{Frame, Flow, run_stmts, given_by}
 use Rattle.rs_text.specs.Tree.{Ty, Stmts, FunctionTree}
 use Rattle.lift_calls.specs.Calls.{result_laid, ResultPlace, is_place, type_in, GivesBack}
 use Rattle.lift_calls.specs.Frames.{FunctionNames, IsLocal, FramesAgree}
-use Rattle.lift_calls.specs.Programs.{Setting, c_goes, IsWritten, ProgramAgrees, IsTypedScope}
+use Rattle.lift_calls.specs.Programs.{Setting, c_goes, ProgramAgrees, IsTypedScope}
 
 -- ---- inside a function
 

@@ -1,7 +1,7 @@
 -- What a call of the crate owes a call of C (ISO C99, 6.5.2.2 and 6.9.1; the Rust Reference, "Call expressions"): arguments that stand for C's, and behind it
 -- worlds that stand for each other, with a value that stands for C's. A structure or union is passed by a pointer to a place that holds it, and is given back
 -- in a place to which a first parameter points.
-use Rattle.std.specs.Prelude.{◌≡◌, ℕ, ◌+◌, ◌<◌, ◌≤◌, Bool, true, false, ◌==◌, List, [], ◌∷◌, length, Option, Some, None, option_map}
+use Rattle.std.specs.Prelude.{◌≡◌, ℕ, ◌+◌, ◌<◌, ◌≤◌, Bool, false, ◌==◌, List, [], ◌∷◌, length, Option, Some, None, option_map}
 use Rattle.cr_base.specs.declared.layout.Laid.{Laid}
 use Rattle.cr_runs.specs.Owes.{Owes}
 use Rattle.cr_world.specs.World.{World, blocks_of, events_of}

@@ -1,5 +1,5 @@
 -- When the locals of a function of the crate agree with the objects of one of C (ISO C99, 6.2.1 and 6.2.4; the Rust Reference, "Variables" and "Functions").
-use Rattle.std.specs.Prelude.{◌≡◌, ℕ, ◌≤◌, false, List, ◌++◌, Option, Some, None}
+use Rattle.std.specs.Prelude.{◌≡◌, ℕ, false, List, ◌++◌, Option, Some, None}
 use Rattle.std.specs.List.{Contains}
 use Rattle.cr_base.specs.declared.layout.Laid.{Laid}
 use Rattle.cr_world.specs.Held.{is_listed}

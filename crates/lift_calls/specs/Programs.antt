@@ -13,7 +13,7 @@ use Rattle.cx_typed_work.specs.Scenes.{IsTypedMemory}
 use Rattle.lift_stands.specs.Stands.{Images, image_of}
 use Rattle.mem_bytes.specs.declared.value.Ptr.{Ptr}
 use Rattle.rs_mean.specs.Laws.{bodies_of}
-use Rattle.rs_mean.specs.Lookups.{Callee, own, callee_at, function_number, function_with, Home, static_home}
+use Rattle.rs_mean.specs.Lookups.{own, callee_at, function_number, function_with, Home, static_home}
 use Rattle.rs_mean.specs.Run.{Bodies}
 use Rattle.rs_text.specs.Tree.{FunctionTree, ModuleTree}
 use Rattle.rs_tree.specs.declared.ty.RPath.{RPath}
