@@ -1,0 +1,10 @@
+pub mod Arguments
+pub mod Literals
+pub mod MemberBits
+pub mod MemberValues
+pub mod Members
+pub mod Puts
+pub mod Ranges
+pub mod Results
+pub mod Worked
+pub mod Zeros

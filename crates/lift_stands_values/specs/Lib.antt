@@ -1,0 +1,4 @@
+pub mod Given
+pub mod Laws
+pub mod Literals
+pub mod Members
