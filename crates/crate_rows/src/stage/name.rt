@@ -1,10 +1,12 @@
 //! Names of a written crate. `name keeps SCOPE NAME`, where SCOPE is `module`, `function` or `fields`: whether
 //! this name of C is its own Rust name there. `name stem FILE`: the stem of a file's name. `name plain STEM`:
 //! whether a module is named by this stem alone. `name temporaries COUNT NAME ..`: the numbers and
-//! the names of so many temporaries beside these names.
+//! the names of so many temporaries beside these names. `name given WORD ..`: the Rust names of these names of C,
+//! one behind the other; the words `@module`, `@function` and `@fields` begin a set, in which those behind them stand.
 
 use cr_base::{Items, Name};
 use row_words::{Answer, Asked};
+use rs_items::NameMap;
 use std::alloc::Global;
 use straight_items::{NameScope, Temporaries, is_plain, keeps_name, stem_of};
 
@@ -20,6 +22,7 @@ pub(crate) fn answer(alloc: Global, asked: &mut Asked, out: &mut Answer) {
         "stem" => out.quoted(stem_of(asked.rest()).as_bytes()),
         "plain" => out.value(is_plain(asked.rest())),
         "temporaries" => temporaries(alloc, asked, out),
+        "given" => given(alloc, asked, out),
         _ => asked.refuse(),
     }
 }
@@ -40,6 +43,35 @@ fn temporaries(alloc: Global, asked: &mut Asked, out: &mut Answer) {
         }
     }
     write_names(temporaries.names(), out);
+}
+
+fn given(alloc: Global, asked: &mut Asked, out: &mut Answer) {
+    let mut names = NameMap::new(alloc, 0, false);
+    let mut scope = rs_items::NameScope::Module;
+    out.text("given");
+    for word in asked.rest().split_ascii_whitespace() {
+        if let Some(next) = set_of(word) {
+            names.begin(next);
+            scope = next;
+        } else {
+            asked.begin(word);
+            let name = Name::of(asked.bytes(alloc));
+            if let Some(name) = asked.had(names.rust_name(&name, scope)) {
+                out.text(" ");
+                out.bytes(name.bytes());
+            }
+        }
+    }
+}
+
+// The set that a word begins.
+fn set_of(word: &str) -> Option<rs_items::NameScope> {
+    match word {
+        "@module" => Some(rs_items::NameScope::Module),
+        "@function" => Some(rs_items::NameScope::Function),
+        "@fields" => Some(rs_items::NameScope::Fields),
+        _ => None,
+    }
 }
 
 fn write_names(names: &[Name], out: &mut Answer) {
