@@ -1,0 +1,6 @@
+pub mod Calls
+pub mod Lifted
+pub mod Names
+pub mod Objects
+pub mod Stores
+pub mod Written

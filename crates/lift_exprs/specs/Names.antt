@@ -1,0 +1,84 @@
+-- What the things that an expression of C names have become in the crate (ISO C99, 6.2.1; the Rust Reference, "Paths").
+use Rattle.std.specs.Prelude.{ℕ, ◌==◌, ◌&&◌, Bool, true, false, if◌then◌else◌, List, [], ◌∷◌, Option, Some, None}
+use Rattle.cx_core.specs.Trees.{CTy, CTyForm, void, basic, enum_type, pointer, array, record_type, function, form_of_type}
+use Rattle.lift_forms.specs.Places.{Kept}
+use Rattle.rs_items.specs.Known.{MemberField}
+use Rattle.rs_items.specs.Types.{TypeNames, rust_type}
+use Rattle.rs_mean.specs.Scalars.{same_type}
+use Rattle.rs_text.specs.Tree.{Ty, Integer, Boolean, Void, Pointer, Array, Code, Record, Tys, no_tys, more_tys, OptionTy, no_ty, some_ty, Place, Local}
+
+-- a function, as an item of the crate
+pub record KeptFunction : Type 0 where
+  pub home : List ℕ
+  pub name : List ℕ
+  -- the type of a pointer to it
+  pub ty : Ty
+  -- its name in C, where no unit defines it
+  pub symbol : Option (List ℕ)
+
+pub record Names : Type 0 where
+  -- objects, functions and the members of structures and unions, by the numbers that they have in C
+  pub objects : ℕ → Option Kept
+  pub functions : ℕ → Option KeptFunction
+  -- the second item of an external function, without parameters, for calls without arguments
+  pub bare_functions : ℕ → Option KeptFunction
+  pub fields : ℕ → Option (List MemberField)
+  pub types : TypeNames
+  -- the size of a type in bytes
+  pub size_of : CTy → ℕ
+  -- the name of a temporary, by its number
+  pub temporary : ℕ → List ℕ
+  -- the program has a bit-field member
+  pub has_bits : Bool
+
+-- ---- types
+
+abbrev pub type_in : Names → CTy → Ty
+type_in names type = rust_type names.types type
+
+-- where a pointer points to
+abbrev pub pointed_type : Ty → Ty
+pointed_type (Pointer target) = target
+pointed_type _ = Void
+
+abbrev pub params_of : Ty → Tys
+params_of (Code params result) = params
+params_of _ = no_tys
+
+abbrev pub result_of : Ty → OptionTy
+result_of (Code params result) = result
+result_of _ = no_ty
+
+-- ---- members
+
+abbrev pub number_in_form : CTyForm → ℕ
+number_in_form (record_type number) = number
+number_in_form _ = 0
+
+abbrev pub record_number : CTy → ℕ
+record_number type = number_in_form (form_of_type type)
+
+-- the first field at a byte with a type: two of them are one and the same in memory
+abbrev pub field_among : (byte : ℕ) → Ty → List MemberField → Option (List ℕ)
+field_among byte ty [] = None
+field_among byte ty (one ∷ others) = if one.byte == byte && same_type one.ty ty then Some one.name else field_among byte ty others
+
+abbrev pub field_or_none : (byte : ℕ) → Ty → Option (List MemberField) → Option (List ℕ)
+field_or_none byte ty None = None
+field_or_none byte ty (Some fields) = field_among byte ty fields
+
+-- the field of a member of a structure or union
+abbrev pub field_in : Names → (holder : CTy) → (byte : ℕ) → Ty → Option (List ℕ)
+field_in names holder byte ty = field_or_none byte ty (names.fields (record_number holder))
+
+-- ---- things
+
+-- each object that an expression names is kept
+abbrev pub kept_or : Option Kept → Kept
+kept_or None = record { place = Local []; ty = Void }
+kept_or (Some kept) = kept
+
+-- and each function
+abbrev pub function_or : Option KeptFunction → KeptFunction
+function_or None = record { home = []; name = []; ty = Void; symbol = None }
+function_or (Some kept) = kept
