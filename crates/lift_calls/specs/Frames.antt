@@ -5,6 +5,7 @@ use Rattle.cr_base.specs.declared.layout.Laid.{Laid}
 use Rattle.cr_world.specs.Held.{is_listed}
 use Rattle.cr_world.specs.World.{World, blocks_of}
 use Rattle.cx_mean.specs.Operands.{Slot, Frame as CFrame, slot_of}
+use Rattle.lift_forms.specs.Places.{Kept}
 use Rattle.lift_stands.specs.Stands.{Images, image_of, Lives, IsNoImage}
 use Rattle.mem_bytes.specs.Memory.{Block, live_block, size_of}
 use Rattle.mem_bytes.specs.declared.value.Ptr.{Ptr}
@@ -16,11 +17,6 @@ use Rattle.rs_text.specs.Tree.{Ty, Place, Local, Static, Deref, Field, ModuleTre
 use Rattle.lift_calls.specs.Programs.{Setting, crate_bodies}
 
 -- ---- names
-
--- where an object of C is in the crate, and the type that is kept of it: of an object of another module that isn't the type that it has here
-pub record Kept : Type 0 where
-  pub place : Place
-  pub ty : Ty
 
 -- a temporary
 pub record KeptTemporary : Type 0 where

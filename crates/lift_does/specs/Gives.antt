@@ -1,0 +1,67 @@
+-- What the crate's form of an operand comes to, and when that stands for what C's operand gives (ISO C99, 6.3.2.1 and 6.5; the Rust Reference, "Place expressions and value expressions").
+use Rattle.std.specs.Prelude.{◌≡◌, ◌⊎◌, ℕ, ◌+◌, Bool, true, false, List, ◌++◌, Option, Some, None}
+use Rattle.cr_base.specs.declared.layout.Spot.{Spot}
+use Rattle.cr_world.specs.World.{World, blocks_of}
+use Rattle.cx_core.specs.Trees.{CExpr, type_of}
+use Rattle.cx_mean.specs.Operands.{CValue, scalar, cells, names, designates, designates_bits, missing, Frame as CFrame, slot_of}
+use Rattle.cx_typed_work.specs.Operands.{spot_of_member}
+use Rattle.lift_calls.specs.Programs.{Setting, setting_in}
+use Rattle.lift_exprs.specs.Names.{Names, type_in}
+use Rattle.lift_exprs.specs.Written.{place_of_given, address_of_given}
+use Rattle.lift_forms.specs.Given.{Given}
+use Rattle.lift_forms_laws.specs.Gives.{GivesAt, GivesPlace, GivenStands}
+use Rattle.lift_stands.specs.Stands.{Images, ValueBelow, PlaceBelow, PlaceHolds}
+use Rattle.lift_stands_values.specs.Given.{align_in}
+use Rattle.mem_bytes.specs.Laws.{behind}
+use Rattle.mem_bytes.specs.declared.cell.Cell.{Cell}
+use Rattle.mem_bytes.specs.declared.value.Ptr.{Ptr}
+use Rattle.mem_bytes.specs.declared.value.Value.{Value}
+use Rattle.mem_bytes.specs.declared.value.Value.TheVariants.{Object}
+use Rattle.rs_mean.specs.Calls.{Spot as RustSpot}
+use Rattle.rs_mean.specs.Run.{Frame, is_base}
+use Rattle.rs_text.specs.Tree.{Ty, Pointer}
+
+-- the place of an lvalue: where C's is, of its type. What is a member has an aligned base; of any other place the base is itself.
+pub record GivesLvalue (images : Images) (frame : Frame) (world : World) (ty : Ty) (given : Given) (to : Value) : Type 0 where
+  pub spot : RustSpot
+  pub gives : GivesPlace frame world (place_of_given given) spot
+  pub ty_is : spot.ty ≡ ty
+  pub below : ValueBelow images to spot.at
+  pub based : (spot.is_based ≡ true) ⊎ (spot.is_based ≡ is_base frame.modules (blocks_of world) ty spot.at)
+
+abbrev pub GivesObject : Images → Frame → World → Ty → Given → Option Ptr → Type 0
+GivesObject images frame world ty given None = ⊥
+GivesObject images frame world ty given (Some at) = GivesLvalue images frame world ty given (Object at)
+
+-- the address of the structure or union in which a bit-field stands, whose first byte is at a place in C
+pub record GivesBase (images : Images) (frame : Frame) (world : World) (given : Given) (spot : Spot) (at : Ptr) : Type 0 where
+  pub target : Ty
+  pub base : Ptr
+  pub gives : GivesAt frame world (address_of_given given) (Pointer target) (Object base)
+  pub below : PlaceBelow images at (behind base spot.byte)
+
+abbrev pub GivesField : Images → Frame → World → Given → Option Spot → Ptr → Type 0
+GivesField images frame world given None at = ⊥
+GivesField images frame world given (Some spot) at = GivesBase images frame world given spot at
+
+-- the address of a place that holds a structure or union
+pub record GivesRecord (images : Images) (frame : Frame) (world : World) (ty : Ty) (align : ℕ) (given : Given) (list : List Cell) : Type 0 where
+  pub at : Value
+  pub gives : GivesAt frame world (address_of_given given) (Pointer ty) at
+  pub holds : PlaceHolds images (blocks_of world) align at list
+
+-- what is given for an operand that has been evaluated; nothing is said where C has no value, whose use has no meaning
+abbrev pub GivesOperand : Setting → Names → Images → CFrame → Frame → World → CExpr → Given → CValue → Type 0
+GivesOperand s names_of images c_frame frame world e given (scalar value) = GivenStands images frame world (type_in names_of (type_of e)) given value
+GivesOperand s names_of images c_frame frame world e given (cells list from) =
+    GivesRecord images frame world (type_in names_of (type_of e)) (align_in (setting_in s) (type_of e)) given list
+GivesOperand s names_of images c_frame frame world e given (names number) =
+    GivesObject images frame world (type_in names_of (type_of e)) given (slot_of (c_frame ++ s.statics) number)
+GivesOperand s names_of images c_frame frame world e given (designates to) = GivesLvalue images frame world (type_in names_of (type_of e)) given to
+GivesOperand s names_of images c_frame frame world e given (designates_bits at bit width) = GivesField images frame world given (spot_of_member e) at
+GivesOperand s names_of images c_frame frame world e given missing = Unit {0}
+
+-- where its value is used
+abbrev pub GivesWhere : Bool → Setting → Names → Images → CFrame → Frame → World → CExpr → Given → CValue → Type 0
+GivesWhere true s names_of images c_frame frame world e given value = GivesOperand s names_of images c_frame frame world e given value
+GivesWhere false s names_of images c_frame frame world e given value = Unit {0}

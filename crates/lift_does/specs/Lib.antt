@@ -1,0 +1,4 @@
+pub mod Agree
+pub mod Does
+pub mod Gives
+pub mod Later
