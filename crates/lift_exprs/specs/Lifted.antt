@@ -11,7 +11,7 @@ use Rattle.lift_exprs.specs.Written.{Written, Writes, gives, then_gives, then_do
 use Rattle.lift_forms.specs.Given.{Given, nothing, truth, value, place, number_of, address_of, pointed}
 use Rattle.lift_forms.specs.Operators.{Operand, constant, null_of, value_of, given_value, test_of, opposite_of, unary_form, binary_form, and_form, or_form, choice_form, function_form, converted}
 use Rattle.lift_forms.specs.Places.{address_form, member_place}
-use Rattle.lift_held.specs.Held.{is_void, is_record, is_lvalue, is_taken, acts, holds_call, some_holds_call, Asked, operand, operand_before, part_of, whole_of, full, is_held_form}
+use Rattle.lift_held.specs.Held.{is_void, is_record, is_lvalue, is_taken, acts, holds_call, some_holds_call, operand, operand_before, part_of, whole_of, full, is_held_form}
 use Rattle.rs_text.specs.Tree.{Ty, Integer, Boolean, Void, Pointer, Place, Local, Field, Expr, Literal, Read, AddressOf, Stmt, Assign, If, Stmts, stmts}
 use Rattle.rs_text.specs.declared.integer.IntegerTy.TheVariants.{I32}
 

@@ -1,10 +1,12 @@
 -- Which operands of a full expression are held in a temporary (ISO C99, 6.5p2, 6.5.2.2p10 and 6.5.13 to 6.5.16). What isn't held is read where it stands in an expression
 -- of Rust, perhaps behind later stores of the full expression: such a store would be a conflict of accesses, which has no meaning in C.
-use Rattle.std.specs.Prelude.{ℕ, zero, suc, ◌==◌, Bool, true, false, not, ◌&&◌, ◌||◌, if◌then◌else◌, List, [], ◌∷◌, ◌++◌}
+use Rattle.std.specs.Prelude.{ℕ, suc, ◌+◌, ◌==◌, Bool, true, false, not, ◌&&◌, ◌||◌, if◌then◌else◌, List, [], ◌∷◌, ◌++◌}
 use Rattle.cr_base.specs.declared.layout.Spot.{Spot}
 use Rattle.cx_core.specs.Trees.{CTy, CTyForm, void, basic, enum_type, pointer, array, record_type, function, form_of_type, CExpr, expr, CForm, whole, null, object, code, load, deref, member, address, convert, unary, binary, and, or, cond, assign, assign_by, step, call, call_by, comma, literal, CExprs, no_exprs, more_exprs, CPut, put, CPuts, no_puts, more_puts, type_of}
 use Rattle.cx_core.specs.Typing.{is_bit_field}
 use Rattle.cx_mean.specs.Quiet.{calls_nothing}
+use Rattle.lift_held.specs.declared.asked.Asked.{Asked}
+use Rattle.lift_held.specs.declared.numbers.Numbered.{Numbered}
 
 -- ---- forms
 
@@ -114,15 +116,6 @@ abbrev mutual
 
 -- ---- held operands
 
--- what surrounds a node
-pub record Asked : Type 0 where
-  -- its value is used: not that of a full expression of type `void`, of the first operand of a comma, or of what is converted to `void`
-  pub used : Bool
-  -- it is an operand of a binary operator, an assignment or a call, and a call stands in an operand to its right
-  pub pinned : Bool
-  -- it is the structure or union of a bit-field
-  pub is_base : Bool
-
 -- an operand whose value is used
 abbrev pub operand : Asked
 operand = record { used = true; pinned = false; is_base = false }
@@ -164,6 +157,12 @@ is_always_held type (assign target value) = is_bit_field target
 is_always_held type (assign_by op computes target value) = is_bit_field target
 is_always_held type _ = false
 
+abbrev pub is_taken_node : CExpr → Bool
+is_taken_node (expr type place form) = is_taken type form
+
+abbrev pub is_always_held_node : CExpr → Bool
+is_always_held_node (expr type place form) = is_always_held type form
+
 abbrev pub is_held_form : Asked → CTy → CForm → Bool
 is_held_form asked type form =
     is_always_held type form
@@ -174,11 +173,6 @@ abbrev pub is_held : Asked → CExpr → Bool
 is_held asked (expr type place form) = is_held_form asked type form
 
 -- ---- their numbers
-
--- nodes are numbered in post-order: the numbers of those that are held, and the number of the next node
-pub record Numbered : Type 0 where
-  pub held : List ℕ
-  pub next : ℕ
 
 abbrev pub with_node : Bool → Numbered → Numbered
 with_node is_it before = record { held = if is_it then before.held ++ (before.next ∷ []) else before.held; next = suc before.next }
@@ -224,6 +218,50 @@ abbrev mutual
   held_in_puts no_puts before = before
   held_in_puts (more_puts first others) before = held_in_puts others (held_in_put first before)
 
+-- the parts of a node
+abbrev pub held_in_node : Asked → CExpr → Numbered → Numbered
+held_in_node asked (expr type place form) before = held_in_form asked type form before
+
 -- the held operands of a full expression, by their numbers in post-order
 abbrev pub held : CExpr → List ℕ
 held e = (held_from (full e) e (record { held = []; next = 0 })).held
+
+-- ---- how many nodes there are
+
+abbrev mutual
+  pub nodes : CExpr → ℕ
+  nodes (expr type place form) = suc (nodes_below form)
+
+  pub nodes_below : CForm → ℕ
+  nodes_below (whole value) = 0
+  nodes_below null = 0
+  nodes_below (object number) = 0
+  nodes_below (code number) = 0
+  nodes_below (load from) = nodes from
+  nodes_below (deref from) = nodes from
+  nodes_below (member of spot) = nodes of
+  nodes_below (address of) = nodes of
+  nodes_below (convert value) = nodes value
+  nodes_below (unary op value) = nodes value
+  nodes_below (binary op left right) = nodes left + nodes right
+  nodes_below (and left right) = nodes left + nodes right
+  nodes_below (or left right) = nodes left + nodes right
+  nodes_below (cond test first second) = nodes test + (nodes first + nodes second)
+  nodes_below (assign target value) = nodes target + nodes value
+  nodes_below (assign_by op computes target value) = nodes target + nodes value
+  nodes_below (step up post on) = nodes on
+  nodes_below (call callee args) = nodes_in_args args
+  nodes_below (call_by callee args) = nodes callee + nodes_in_args args
+  nodes_below (comma first second) = nodes first + nodes second
+  nodes_below (literal number puts) = nodes_in_puts puts
+
+  pub nodes_in_args : CExprs → ℕ
+  nodes_in_args no_exprs = 0
+  nodes_in_args (more_exprs first others) = nodes first + nodes_in_args others
+
+  pub nodes_in_put : CPut → ℕ
+  nodes_in_put (put spot type value) = nodes value
+
+  pub nodes_in_puts : CPuts → ℕ
+  nodes_in_puts no_puts = 0
+  nodes_in_puts (more_puts first others) = nodes_in_put first + nodes_in_puts others
