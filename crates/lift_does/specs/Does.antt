@@ -18,6 +18,7 @@ use Rattle.lift_exprs.specs.Lifted.{lifted}
 use Rattle.lift_exprs.specs.Names.{Names}
 use Rattle.lift_exprs.specs.Written.{Written}
 use Rattle.lift_held.specs.Held.{is_steady}
+use Rattle.lift_held.specs.declared.asked.Asked.{Asked}
 use Rattle.lift_stands.specs.Keeps.{KeepsOthers}
 use Rattle.lift_stands.specs.Stands.{Images}
 use Rattle.lift_stands.specs.Worlds.{WorldsStand}

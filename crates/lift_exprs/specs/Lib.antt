@@ -3,4 +3,5 @@ pub mod Lifted
 pub mod Names
 pub mod Objects
 pub mod Stores
+pub mod Temporaries
 pub mod Written

@@ -11,6 +11,7 @@ use Rattle.lift_exprs.specs.Written.{Written, Writes, gives, then_gives, then_do
 use Rattle.lift_forms.specs.Given.{Given, nothing, truth, value, place, number_of, address_of, pointed}
 use Rattle.lift_forms.specs.Operators.{Operand, constant, null_of, value_of, given_value, test_of, opposite_of, unary_form, binary_form, and_form, or_form, choice_form, function_form, converted}
 use Rattle.lift_forms.specs.Places.{address_form, member_place}
+use Rattle.lift_held.specs.declared.asked.Asked.{Asked}
 use Rattle.lift_held.specs.Held.{is_void, is_record, is_lvalue, is_taken, acts, holds_call, some_holds_call, operand, operand_before, part_of, whole_of, full, is_held_form}
 use Rattle.rs_text.specs.Tree.{Ty, Integer, Boolean, Void, Pointer, Place, Local, Field, Expr, Literal, Read, AddressOf, Stmt, Assign, If, Stmts, stmts}
 use Rattle.rs_text.specs.declared.integer.IntegerTy.TheVariants.{I32}
@@ -101,18 +102,18 @@ decided_form where_true left right = and_form left right
 decided_form where_false left right = or_form left right
 
 -- its value is held, or isn't used
-abbrev pub decided_by_branch : Names → (used : Bool) → Deciding → (test other : Operand) → Both → Written
-decided_by_branch names true which test other two =
+abbrev pub decided_by_branch : Names → (used : Bool) → CTy → Deciding → (test other : Operand) → Both → Written
+decided_by_branch names true type which test other two =
     let temporary = temporary_place names two.second.next in
-    then_takes (Integer I32)
+    then_takes (type_in names type)
     (decides which test (two.second.body ++ (Assign temporary (number_of (test_of other)) ∷ [])) (Assign temporary (decided which) ∷ []))
     (value (Read temporary)) (joined two two.first.body nothing)
-decided_by_branch names false which test other two = joined two (two.first.body ++ decides which test two.second.body []) nothing
+decided_by_branch names false type which test other two = joined two (two.first.body ++ decides which test two.second.body []) nothing
 
 -- `&&` and `||`
-abbrev pub decided_written : Names → (used acting : Bool) → Deciding → (test other : Operand) → Both → Written
-decided_written names used true which test other two = decided_by_branch names used which test other two
-decided_written names used false which test other two = in_turn two (decided_form which test other)
+abbrev pub decided_written : Names → (used acting : Bool) → CTy → Deciding → (test other : Operand) → Both → Written
+decided_written names used true type which test other two = decided_by_branch names used type which test other two
+decided_written names used false type which test other two = in_turn two (decided_form which test other)
 
 -- the parts of `?:`
 pub record Choice : Type 0 where
@@ -202,9 +203,9 @@ abbrev pub binary_written : Names → Op2 → CExpr → CExpr → Both → Writt
 binary_written names op left right two =
     in_turn two (binary_form op (operand_of names left two.first.given) (operand_of names right two.second.given))
 
-abbrev pub decided_node : Names → (used : Bool) → Deciding → CExpr → CExpr → Both → Written
-decided_node names used which left right two =
-    decided_written names used (acts true right) which (operand_of names left two.first.given) (operand_of names right two.second.given) two
+abbrev pub decided_node : Names → (used : Bool) → CTy → Deciding → CExpr → CExpr → Both → Written
+decided_node names used type which left right two =
+    decided_written names used (acts true right) type which (operand_of names left two.first.given) (operand_of names right two.second.given) two
 
 abbrev pub chosen_node : Names → (used : Bool) → CTy → CExpr → CExpr → CExpr → Choice → Written
 chosen_node names used type test first second three =
@@ -238,19 +239,19 @@ abbrev mutual
       binary_written names op left right
       (both (λ from. lifted names (operand_before (holds_call right)) left from) (λ from. lifted names operand right from) next)
   lifted_form names asked type (and left right) next =
-      decided_node names asked.used where_true left right (both (λ from. lifted names operand left from) (λ from. lifted names operand right from) next)
+      decided_node names asked.used type where_true left right (both (λ from. lifted names operand left from) (λ from. lifted names operand right from) next)
   lifted_form names asked type (or left right) next =
-      decided_node names asked.used where_false left right (both (λ from. lifted names operand left from) (λ from. lifted names operand right from) next)
+      decided_node names asked.used type where_false left right (both (λ from. lifted names operand left from) (λ from. lifted names operand right from) next)
   lifted_form names asked type (cond test first second) next =
       chosen_node names asked.used type test first second
       (choice_behind (lifted names operand test next) (λ from. lifted names (part_of asked.used) first from) (λ from. lifted names (part_of asked.used) second from))
   lifted_form names asked type (assign target from) next =
-      assigned names asked.used target
+      assigned names asked.used type target
       (both (λ number. lifted names (operand_before (holds_call from)) target number) (λ number. lifted names operand from number) next)
   lifted_form names asked type (assign_by op computes target from) next =
-      assigned_by names asked.used op computes target from
+      assigned_by names asked.used type op computes target from
       (both (λ number. lifted names (operand_before (holds_call from)) target number) (λ number. lifted names operand from number) next)
-  lifted_form names asked type (step up post on) next = stepped_by_one names asked.used up post on (lifted names operand on next)
+  lifted_form names asked type (step up post on) next = stepped_by_one names type asked.used up post on (lifted names operand on next)
   lifted_form names asked type (call callee args) next =
       called_with names asked.used type (called_by_name names callee) (lifted_args names args next)
   lifted_form names asked type (call_by callee args) next =

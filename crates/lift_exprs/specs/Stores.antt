@@ -33,10 +33,10 @@ abbrev pub member_target : Names → CTy → Spot → Given → Target
 member_target names type spot given =
     if nat_lt 0 spot.width then a_field (address_of_given given) spot (type_in names type) else whole_target names type (place_of_given given)
 
--- where an lvalue that was written is
-abbrev pub target_of : Names → CExpr → Given → Target
-target_of names (expr type place (member of spot)) given = member_target names type spot given
-target_of names (expr type place form) given = whole_target names type (place_of_given given)
+-- where an lvalue that was written is, which gets a value of a type
+abbrev pub target_of : Names → CTy → CExpr → Given → Target
+target_of names type (expr own place (member of spot)) given = member_target names type spot given
+target_of names type (expr own place form) given = whole_target names type (place_of_given given)
 
 -- ---- bit-fields
 
@@ -122,9 +122,9 @@ abbrev pub stored : Names → (used : Bool) → Target → Expr → Written → 
 stored names used target e one = if used || is_field target then held_store names used target e one else plain_store target e one
 
 -- a simple assignment (6.5.16.1)
-abbrev pub assigned : Names → (used : Bool) → CExpr → Both → Written
-assigned names used to two =
-    let target = target_of names to two.first.given in
+abbrev pub assigned : Names → (used : Bool) → CTy → CExpr → Both → Written
+assigned names used type to two =
+    let target = target_of names type to two.first.given in
     stored names used target (stored_value target two.second.given) (in_turn two nothing)
 
 -- ---- `op=`, `++` and `--`
@@ -169,9 +169,9 @@ stepped names true true target change one = changed_behind names target change o
 stepped names used post target change one = changed_first names used target change one
 
 -- a compound assignment
-abbrev pub assigned_by : Names → (used : Bool) → Op2 → (computes : CTy) → CExpr → CExpr → Both → Written
-assigned_by names used op computes to from two =
-    changed_first names used (target_of names to two.first.given)
+abbrev pub assigned_by : Names → (used : Bool) → CTy → Op2 → (computes : CTy) → CExpr → CExpr → Both → Written
+assigned_by names used type op computes to from two =
+    changed_first names used (target_of names type to two.first.given)
     (record { op = op; computes = type_in names computes; right = record { ty = type_in names (type_of from); given = two.second.given } })
     (in_turn two nothing)
 
@@ -201,7 +201,7 @@ up_or_down false = Subtract
 abbrev pub step_by_one : (up : Bool) → Ty → Change
 step_by_one up computes = record { op = up_or_down up; computes = computes; right = one_of computes }
 
-abbrev pub stepped_by_one : Names → (used up post : Bool) → CExpr → Written → Written
-stepped_by_one names used up post on one =
-    let target = target_of names on one.given in
+abbrev pub stepped_by_one : Names → CTy → (used up post : Bool) → CExpr → Written → Written
+stepped_by_one names type used up post on one =
+    let target = target_of names type on one.given in
     stepped names used post target (step_by_one up (promoted_type (target_type target) (width_of on))) one
