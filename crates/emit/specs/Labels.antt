@@ -1,6 +1,6 @@
 -- Labels by their depth: each has the number of labels that are written around it.
-use Rattle.std.specs.Prelude.{ℕ, List, [], ◌∷◌, length, Option, Some, None, bytes_eq, if◌then◌else◌}
-use Rattle.rs_text.specs.Tree.{Stmt, Assign, Eval, CopyBytes, If, Loop, Block, Break, Continue, Match, Return, Stmts, no_stmts, more_stmts, ArmTree, LiteralArm, Arms, no_arms, more_arms}
+use Rattle.std.specs.Prelude.{ℕ, List, [], ◌∷◌, length, Some, None, bytes_eq, if◌then◌else◌}
+use Rattle.rs_text.specs.Tree.{Stmt, Assign, Eval, CopyBytes, If, Loop, Block, Break, Continue, Match, Return, Stmts, no_stmts, more_stmts, LiteralArm, Arms, no_arms, more_arms}
 use Rattle.emit.specs.Jumps.{label_of}
 
 -- the label by depth of one among those around, the innermost first

@@ -1,9 +1,10 @@
 -- Which branches lead to a nest of a list, and from where.
-use Rattle.std.specs.Prelude.{ℕ, suc, Bool, true, false, not, ◌&&◌, ◌||◌, ◌==◌, nat_lt, List, [], ◌∷◌, ◌++◌, map, flat_map, Option, Some, None, if◌then◌else◌}
+use Rattle.std.specs.Prelude.{ℕ, suc, Bool, true, false, not, ◌&&◌, ◌||◌, ◌==◌, nat_lt, List, [], ◌∷◌, flat_map, Option, Some, None, if◌then◌else◌}
 use Rattle.std.specs.List.{list_any}
 use Rattle.reloop.specs.Graphs.{is_in}
+use Rattle.rs_text.specs.Tree.{Stmts, no_stmts, more_stmts}
 use Rattle.flow.specs.Flows.{BranchTree, go, if_test, switch, gives, NodeTree, FlowTree, node_at, targets_of}
-use Rattle.emit.specs.Nests.{Nest, single, choice, group, repeated, dispatched, Chain, chain_nodes}
+use Rattle.emit.specs.Nests.{Nest, single, choice, group, repeated, dispatched, chain_nodes}
 
 -- a way out of a nest: an arm of a node's branch, the node to which it goes, and whether that may stand in this arm
 pub record Leaving : Type 0 where
@@ -51,14 +52,18 @@ is_left_at_a_test flow head nodes =
 abbrev pub is_gives : BranchTree → Bool
 is_gives (go to) = false
 is_gives (if_test test if_true if_false) = false
-is_gives (switch choice) = false
+is_gives (switch choices) = false
 is_gives (gives value) = true
+
+abbrev pub is_empty : Stmts → Bool
+is_empty no_stmts = true
+is_empty (more_stmts first others) = false
 
 abbrev pub node_gives : Option NodeTree → Bool
 node_gives None = false
-node_gives (Some node) = is_gives node.last
+node_gives (Some node) = is_empty node.body && is_gives node.last
 
--- a nest is a node with a `return`
+-- a nest is a node with nothing but a `return`
 abbrev pub gives_back : FlowTree → Nest → Bool
 gives_back flow (single node arms) = node_gives (node_at flow node)
 gives_back flow nest = false

@@ -49,8 +49,8 @@ seen_at table (Some node) = table node
 abbrev pub stays : Sorted → Seen → Bool
 stays sorted seen = suc seen.sibling == length sorted.siblings && sorted.ahead == seen.count
 
--- A loop holds what it is left for from one arm. What follows this stands there too only where the loop is left as a `while` or a `do` is, or where it is a `return`: else all that
--- follows the loop could stand in it.
+-- A loop holds what it is left for from one arm. What follows this stands there too only where the loop is left as a `while` or a `do` is, or where it is a `return` alone: else all
+-- that follows the loop could stand in it.
 abbrev pub holds : FlowTree → (around : Nest) → (inner : Nest) → (is_direct : Bool) → Bool
 holds flow (repeated head body) inner is_direct = is_direct || gives_back flow inner || is_left_at_a_test flow head (chain_nodes body)
 holds flow around inner is_direct = true

@@ -1,6 +1,6 @@
 -- Statements as they are written by hand, made from others: an `if` without an empty side and without `else` behind what doesn't come to its end, and blocks and labels where they are
 -- named alone (the Rust Reference, "if expressions" and "Loops and other breakable expressions").
-use Rattle.std.specs.Prelude.{ℕ, Bool, true, false, not, pos, List, [], ◌∷◌, Option, Some, None, if◌then◌else◌}
+use Rattle.std.specs.Prelude.{ℕ, pos, List, [], ◌∷◌, Option, Some, None, if◌then◌else◌}
 use Rattle.reloop.specs.Graphs.{is_in}
 use Rattle.rs_mean.specs.Laws.{behind}
 use Rattle.rs_mean_ends.specs.Ways.{goes, stmts_end, stmts_name}
@@ -9,7 +9,7 @@ use Rattle.rs_text.specs.declared.integer.IntegerTy.TheVariants.{U32}
 use Rattle.rs_text.specs.declared.operator.Operator.{Operator}
 use Rattle.rs_text.specs.declared.operator.Operator.TheVariants.{Equal, NotEqual, Less, LessEqual, Greater, GreaterEqual}
 use Rattle.rs_text.specs.Tree.{Expr, Read, Not, Binary, Stmt, If, Loop, Block, Match, Return, Stmts, no_stmts, more_stmts, LiteralArm, Arms, no_arms, more_arms}
-use Rattle.flow.specs.Flows.{CaseTree, SwitchTree, BranchTree, go, if_test, switch, gives}
+use Rattle.flow.specs.Flows.{CaseTree, BranchTree, go, if_test, switch, gives}
 use Rattle.emit.specs.Jumps.{label_of, current_block}
 
 abbrev pub one_stmt : Stmt → Stmts
@@ -43,7 +43,7 @@ negated e = Not e
 abbrev pub if_else : Expr → Stmts → Stmts → Stmts
 if_else condition if_true if_false =
     if stmts_end if_true goes then
-      (if stmts_end if_false goes then one_stmt (If condition if_true if_false) else more_stmts (If (negated condition) if_false no_stmts) if_true)
+    (if stmts_end if_false goes then one_stmt (If condition if_true if_false) else more_stmts (If (negated condition) if_false no_stmts) if_true)
     else more_stmts (If condition if_true no_stmts) if_false
 
 abbrev pub if_of : Expr → Stmts → Stmts → Stmts
@@ -89,7 +89,7 @@ abbrev pub branch_stmts : BranchTree → List Stmts → Stmts
 branch_stmts (go to) texts = first_text texts
 branch_stmts (if_test test if_true if_false) [] = no_stmts
 branch_stmts (if_test test if_true if_false) (text ∷ texts) = if_of test text (first_text texts)
-branch_stmts (switch choice) texts = one_stmt (Match choice.on (case_arms choice.by choice.cases texts) (other_text choice.cases texts))
+branch_stmts (switch choices) texts = one_stmt (Match choices.on (case_arms choices.by choices.cases texts) (other_text choices.cases texts))
 branch_stmts (gives value) texts = one_stmt (Return value)
 
 -- ---- blocks and loops

@@ -1,6 +1,6 @@
 -- Flows: the body of a function as nodes, each some statements and a branch (ISO C99, 6.8: control goes from one full expression, declaration or jump to
 -- the next).
-use Rattle.std.specs.Prelude.{◌≡◌, ◌≢◌, ℕ, ◌<◌, ℤ, List, [], ◌∷◌, ◌++◌, length, get_or, map, Option, Some, None, slice_get}
+use Rattle.std.specs.Prelude.{ℕ, ◌<◌, ℤ, List, [], ◌∷◌, ◌++◌, length, map, Option, Some, None, slice_get}
 use Rattle.reloop.specs.Graphs.{FlowGraph, IsIn}
 use Rattle.rs_text.specs.declared.integer.IntegerTy.{IntegerTy}
 use Rattle.rs_text.specs.Tree.{Expr, Stmts}

@@ -1,11 +1,10 @@
 -- The flow's machine: a node's statements run, then its branch chooses the next node or gives back a value; each branch takes a unit.
-use Rattle.std.specs.Prelude.{ℕ, Bool, ℤ, List, [], ◌∷◌, Option, Some, None, if◌then◌else◌}
-use Rattle.rs_text.specs.Tree.{Expr}
+use Rattle.std.specs.Prelude.{ℕ, List, [], ◌∷◌, Option, Some, None, if◌then◌else◌}
 use Rattle.rs_mean.specs.declared.cause.Cause.TheVariants.{WrongCall}
 use Rattle.rs_mean.specs.Run.{Frame, Flow, normal, breaks, continues, returned, run_expr, run_stmts, tests, is_arm}
 use Rattle.rs_mean.specs.Values.{Typed}
 use Rattle.rs_mean.specs.World.{Run, pure, fails, seq, Round, again, done, rounds}
-use Rattle.flow.specs.Flows.{CaseTree, SwitchTree, BranchTree, go, if_test, switch, gives, NodeTree, FlowTree, node_at}
+use Rattle.flow.specs.Flows.{CaseTree, BranchTree, go, if_test, switch, gives, NodeTree, FlowTree, node_at}
 
 -- where control goes from a node
 pub data Onto : Type 0 where

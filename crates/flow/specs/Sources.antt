@@ -1,6 +1,6 @@
 -- Any source whose steps go along a flow, node by node: a run of C is the source of the text that is written from the flow of its body. What the text owes it follows
 -- from what each node owes it.
-use Rattle.std.specs.Prelude.{◌≡◌, ◌⊎◌, ℕ, ◌<◌, ◌≤◌, List, Option}
+use Rattle.std.specs.Prelude.{◌≡◌, ℕ, ◌<◌, ◌≤◌, List, Option}
 use Rattle.cr_runs.specs.Runs.{Ran}
 use Rattle.cr_runs.specs.Owes.{Owes, Rests}
 use Rattle.cr_runs_rules.specs.Steps.{Waits}
