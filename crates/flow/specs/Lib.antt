@@ -1,0 +1,4 @@
+pub mod Flows
+pub mod Machine
+pub mod Sources
+pub mod Views
