@@ -1,0 +1,5 @@
+pub mod Builder
+pub mod Flows
+pub mod Labels
+pub mod Parts
+pub mod Points
