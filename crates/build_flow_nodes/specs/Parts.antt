@@ -1,6 +1,6 @@
 -- What the parts of a body are written as: full expressions, conditions, declarations and returns (ISO C99, 6.2.4, 6.7.8, 6.8). Temporaries are numbered in the order of the text, over all
 -- parts, whether control reaches them or not.
-use Rattle.std.specs.Prelude.{ℕ, ◌+◌, ◌*◌, ◌==◌, ◌&&◌, ◌||◌, not, Bool, true, false, if◌then◌else◌, List, [], ◌∷◌, ◌++◌, length, Option, Some, None, is_some}
+use Rattle.std.specs.Prelude.{ℕ, ◌+◌, ◌*◌, ◌==◌, ◌&&◌, ◌||◌, not, Bool, true, false, if◌then◌else◌, List, [], ◌∷◌, ◌++◌, length, filter, Option, Some, None, is_some}
 use Rattle.cx_core.specs.Trees.{CTy, CExpr, type_of, CPut, CPuts, no_puts, more_puts, CStmt, stmt, CStmtForm, label, case, default, block, expression, if_then, switch, while, do_while, for_loop, goto, continue, break, returns, begin, COtherwise, no_else, else_do, CStmts, no_stmts, more_stmts}
 use Rattle.lift_exprs.specs.Lifted.{lifted, lifted_full, lifted_test, lifted_puts, Condition}
 use Rattle.lift_exprs.specs.Names.{Names, type_in}
@@ -26,56 +26,75 @@ pub record BodyNames : Type 0 where
   pub result_type : CTy
   pub result : List ℕ
 
--- ---- how many temporaries there are
+-- ---- temporaries
 
-abbrev pub count_in : Names → CExpr → ℕ
-count_in names e = length (held_types names (full e) e)
+-- of a full expression, and of a condition or another operand
+abbrev pub temporaries_in : Names → CExpr → List Ty
+temporaries_in names e = held_types names (full e) e
 
-abbrev pub count_in_test : Names → CExpr → ℕ
-count_in_test names e = length (held_types names operand e)
+abbrev pub temporaries_in_operand : Names → CExpr → List Ty
+temporaries_in_operand names e = held_types names operand e
 
-abbrev pub count_in_option : Names → Option CExpr → ℕ
-count_in_option names None = 0
-count_in_option names (Some e) = count_in names e
+abbrev pub temporaries_in_option : Names → Option CExpr → List Ty
+temporaries_in_option names None = []
+temporaries_in_option names (Some e) = temporaries_in names e
 
-abbrev pub count_in_condition : Names → Option CExpr → ℕ
-count_in_condition names None = 0
-count_in_condition names (Some e) = count_in_test names e
+abbrev pub temporaries_in_condition : Names → Option CExpr → List Ty
+temporaries_in_condition names None = []
+temporaries_in_condition names (Some e) = temporaries_in_operand names e
 
-abbrev pub count_in_contents : Names → Option CPuts → ℕ
-count_in_contents names None = 0
-count_in_contents names (Some puts) = length (held_types_in_puts names puts)
+abbrev pub temporaries_in_contents : Names → Option CPuts → List Ty
+temporaries_in_contents names None = []
+temporaries_in_contents names (Some puts) = held_types_in_puts names puts
 
 abbrev mutual
-  -- in a statement
-  pub count_in_stmt : Names → CStmt → ℕ
-  count_in_stmt names (stmt place objects form) = count_in_form names form
+  -- of a statement, in the order of the text
+  pub temporaries_in_stmt : Names → CStmt → List Ty
+  temporaries_in_stmt names (stmt place objects form) = temporaries_in_form names form
 
-  pub count_in_form : Names → CStmtForm → ℕ
-  count_in_form names (label name body) = count_in_stmt names body
-  count_in_form names (case value body) = count_in_stmt names body
-  count_in_form names (default body) = count_in_stmt names body
-  count_in_form names (block stmts) = count_in_stmts names stmts
-  count_in_form names (expression value) = count_in_option names value
-  count_in_form names (if_then test body otherwise) = count_in_test names test + (count_in_stmt names body + count_in_else names otherwise)
-  count_in_form names (switch value body) = count_in_test names value + count_in_stmt names body
-  count_in_form names (while test body) = count_in_test names test + count_in_stmt names body
-  count_in_form names (do_while body test) = count_in_stmt names body + count_in_test names test
-  count_in_form names (for_loop first test next body) =
-      count_in_stmts names first + (count_in_condition names test + (count_in_option names next + count_in_stmt names body))
-  count_in_form names (goto name) = 0
-  count_in_form names continue = 0
-  count_in_form names break = 0
-  count_in_form names (returns value) = count_in_option names value
-  count_in_form names (begin number puts) = count_in_contents names puts
+  pub temporaries_in_form : Names → CStmtForm → List Ty
+  temporaries_in_form names (label name body) = temporaries_in_stmt names body
+  temporaries_in_form names (case value body) = temporaries_in_stmt names body
+  temporaries_in_form names (default body) = temporaries_in_stmt names body
+  temporaries_in_form names (block stmts) = temporaries_in_stmts names stmts
+  temporaries_in_form names (expression value) = temporaries_in_option names value
+  temporaries_in_form names (if_then test body otherwise) =
+      temporaries_in_operand names test ++ (temporaries_in_stmt names body ++ temporaries_in_else names otherwise)
+  temporaries_in_form names (switch value body) = temporaries_in_operand names value ++ temporaries_in_stmt names body
+  temporaries_in_form names (while test body) = temporaries_in_operand names test ++ temporaries_in_stmt names body
+  temporaries_in_form names (do_while body test) = temporaries_in_stmt names body ++ temporaries_in_operand names test
+  temporaries_in_form names (for_loop first test next body) =
+      temporaries_in_stmts names first
+      ++ (temporaries_in_condition names test ++ (temporaries_in_option names next ++ temporaries_in_stmt names body))
+  temporaries_in_form names (goto name) = []
+  temporaries_in_form names continue = []
+  temporaries_in_form names break = []
+  temporaries_in_form names (returns value) = temporaries_in_option names value
+  temporaries_in_form names (begin number puts) = temporaries_in_contents names puts
 
-  pub count_in_else : Names → COtherwise → ℕ
-  count_in_else names no_else = 0
-  count_in_else names (else_do body) = count_in_stmt names body
+  pub temporaries_in_else : Names → COtherwise → List Ty
+  temporaries_in_else names no_else = []
+  temporaries_in_else names (else_do body) = temporaries_in_stmt names body
 
-  pub count_in_stmts : Names → CStmts → ℕ
-  count_in_stmts names no_stmts = 0
-  count_in_stmts names (more_stmts first others) = count_in_stmt names first + count_in_stmts names others
+  pub temporaries_in_stmts : Names → CStmts → List Ty
+  temporaries_in_stmts names no_stmts = []
+  temporaries_in_stmts names (more_stmts first others) = temporaries_in_stmt names first ++ temporaries_in_stmts names others
+
+-- how many they are
+abbrev pub count_in_test : Names → CExpr → ℕ
+count_in_test names e = length (temporaries_in_operand names e)
+
+abbrev pub count_in_option : Names → Option CExpr → ℕ
+count_in_option names e = length (temporaries_in_option names e)
+
+abbrev pub count_in_condition : Names → Option CExpr → ℕ
+count_in_condition names e = length (temporaries_in_condition names e)
+
+abbrev pub count_in_stmt : Names → CStmt → ℕ
+count_in_stmt names s = length (temporaries_in_stmt names s)
+
+abbrev pub count_in_stmts : Names → CStmts → ℕ
+count_in_stmts names ss = length (temporaries_in_stmts names ss)
 
 -- ---- objects
 
@@ -97,10 +116,25 @@ all_cleared of (number ∷ numbers) = cleared of number ++ all_cleared of number
 abbrev pub begun : BodyNames → List ℕ → List Stmt
 begun of numbers = if of.names.has_bits then all_cleared of numbers else []
 
+-- what isn't a scalar
+abbrev pub is_copied : Names → CTy → Bool
+is_copied names type = not (is_scalar (type_in names type))
+
+abbrev pub zeroed_of : Names → (ℕ → CTy) → List ℕ → List ℕ
+zeroed_of names types numbers = if names.has_bits then filter (λ number. is_copied names (types number)) numbers else []
+
+-- an initialiser leaves bits of an object of a type
+abbrev pub leaves_bits_of : Names → CTy → Option CPuts → Bool
+leaves_bits_of names type None = false
+leaves_bits_of names type (Some puts) = leave_bits names puts 0 (8 * names.size_of type)
+
+abbrev pub zeroed_at : Names → (ℕ → CTy) → ℕ → Option CPuts → List ℕ
+zeroed_at names types number puts =
+    if not names.has_bits && (is_copied names (types number) && leaves_bits_of names (types number) puts) then number ∷ [] else []
+
 -- a declaration is reached whose initialiser leaves bits of the object: they are zero (6.7.8p21); in a program with a bit-field member any object becomes zero
 abbrev pub leaves_bits : BodyNames → ℕ → Option CPuts → Bool
-leaves_bits of number None = false
-leaves_bits of number (Some puts) = leave_bits of.names puts 0 (8 * of.names.size_of (of.type_of_object number))
+leaves_bits of number puts = leaves_bits_of of.names (of.type_of_object number) puts
 
 abbrev pub contents : BodyNames → ℕ → Option CPuts → (next : ℕ) → List Stmt
 contents of number None next = []
@@ -109,6 +143,36 @@ contents of number (Some puts) next =
 
 abbrev pub declared : BodyNames → ℕ → Option CPuts → (next : ℕ) → List Stmt
 declared of number puts next = cleared_where (of.names.has_bits || leaves_bits of number puts) of number ++ contents of number puts next
+
+abbrev mutual
+  -- the objects to which zero bytes are copied: in a program with a bit-field member all of blocks but scalars, else those whose initialisers leave bits; in the order of the text
+  pub zeroed_in : Names → (type_of_object : ℕ → CTy) → CStmt → List ℕ
+  zeroed_in names types (stmt place objects form) = zeroed_of names types objects ++ zeroed_in_form names types form
+
+  pub zeroed_in_form : Names → (ℕ → CTy) → CStmtForm → List ℕ
+  zeroed_in_form names types (label name body) = zeroed_in names types body
+  zeroed_in_form names types (case value body) = zeroed_in names types body
+  zeroed_in_form names types (default body) = zeroed_in names types body
+  zeroed_in_form names types (block stmts) = zeroed_among names types stmts
+  zeroed_in_form names types (expression value) = []
+  zeroed_in_form names types (if_then test body otherwise) = zeroed_in names types body ++ zeroed_in_else names types otherwise
+  zeroed_in_form names types (switch value body) = zeroed_in names types body
+  zeroed_in_form names types (while test body) = zeroed_in names types body
+  zeroed_in_form names types (do_while body test) = zeroed_in names types body
+  zeroed_in_form names types (for_loop first test next body) = zeroed_among names types first ++ zeroed_in names types body
+  zeroed_in_form names types (goto name) = []
+  zeroed_in_form names types continue = []
+  zeroed_in_form names types break = []
+  zeroed_in_form names types (returns value) = []
+  zeroed_in_form names types (begin number puts) = zeroed_at names types number puts
+
+  pub zeroed_in_else : Names → (ℕ → CTy) → COtherwise → List ℕ
+  zeroed_in_else names types no_else = []
+  zeroed_in_else names types (else_do body) = zeroed_in names types body
+
+  pub zeroed_among : Names → (ℕ → CTy) → CStmts → List ℕ
+  zeroed_among names types no_stmts = []
+  zeroed_among names types (more_stmts first others) = zeroed_in names types first ++ zeroed_among names types others
 
 -- ---- expressions
 
