@@ -1,0 +1,3 @@
+pub mod Bodies
+pub mod Crates
+pub mod Names
