@@ -1,6 +1,7 @@
 pub mod Binary
 pub mod BitWrites
 pub mod Bits
+pub mod BothMemories
 pub mod Constants
 pub mod Conversions
 pub mod FieldBytes
@@ -11,3 +12,4 @@ pub mod Operands
 pub mod Pointers
 pub mod Runs
 pub mod Unary
+mod Worked

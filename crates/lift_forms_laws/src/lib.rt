@@ -5,5 +5,6 @@
 mod laws;
 
 pub use laws::{
-    bit_fields_give, bit_fields_store, choices_stand, constants_stand, forms_stand, places_stand,
+    bit_fields_give, bit_fields_in_both, bit_fields_store, choices_stand, constants_stand,
+    forms_stand, places_stand,
 };
