@@ -1,5 +1,4 @@
 -- Which form a value of the declared type is.
-use Rattle.std.specs.Prelude.{List, []}
 use Rattle.lift_forms_code.specs.declared.given.RGiven.{RGiven}
 use Rattle.lift_forms_code.specs.declared.given.RGiven.TheVariants as made
 use Rattle.lift_forms.specs.Given.{Given, nothing, truth, value, place}

@@ -10,12 +10,12 @@ ghost use Rattle.rs_text.specs.declared.integer.IntegerTy.TheVariants.{I64, Isiz
 ghost use Rattle.rs_tree.specs.Views.{ty_view, expr_view};
 
 use crate::given::RGiven;
-use crate::makers::{binary, offset, offset_from, wrapped};
 use crate::operands::{as_integer, as_type, integer_as, value_of};
 use crate::same::is_signed_integer;
 use crate::unary::minus;
 use cr_base::{Boxed, Items, Memory};
 use cx_core::Op2;
+use rs_makers::{binary, offset, offset_from, wrapped};
 use rs_tree::{IntegerTy, Operator, RExpr, RTy, Wrapping};
 use std::alloc::Global;
 

@@ -7,11 +7,10 @@ ghost use Rattle.lift_forms_code.specs.Views.{given_view, operand_view};
 ghost use Rattle.rs_text.specs.Tree as tree;
 ghost use Rattle.rs_tree.specs.Views.{ty_view, expr_view};
 
-use crate::copies::copy_ty;
 use crate::given::RGiven;
-use crate::makers::{and, choose, literal, no_function, null_pointer, or, transmute, truth};
 use crate::operands::{as_type, integer_as, test_of, value_of};
 use cr_base::{Boxed, Int, Memory};
+use rs_makers::{and, choose, copy_ty, literal, no_function, null_pointer, or, transmute, truth};
 use rs_tree::{IntegerTy, RExpr, RTy};
 use std::alloc::Global;
 

@@ -4,9 +4,7 @@
 
 mod binary;
 mod conversions;
-mod copies;
 mod given;
-mod makers;
 mod operands;
 mod places;
 mod same;
@@ -14,7 +12,6 @@ mod unary;
 
 pub use binary::binary_form;
 pub use conversions::{and_form, choice_form, constant, converted, null_of, or_form, zero_of};
-pub use copies::copy_ty;
 pub use given::RGiven;
 pub use operands::{
     as_type, cast_to, integer_as, is_not_zero, is_zero, opposite_of, test_of, transmute_to,

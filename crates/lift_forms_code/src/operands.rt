@@ -6,11 +6,12 @@ ghost use Rattle.lift_forms_code.specs.Views.{given_view, operand_view};
 ghost use Rattle.rs_text.specs.Tree as tree;
 ghost use Rattle.rs_tree.specs.Views.{ty_view, expr_view};
 
-use crate::copies::copy_ty;
 use crate::given::RGiven;
-use crate::makers::{binary, cast, is_none, is_null, literal, no_function, not, read, transmute};
 use crate::same::same_type;
 use cr_base::{Boxed, Memory};
+use rs_makers::{
+    binary, cast, copy_ty, is_none, is_null, literal, no_function, not, read, transmute,
+};
 use rs_tree::{IntegerTy, Operator, RExpr, RTy};
 use std::alloc::Global;
 

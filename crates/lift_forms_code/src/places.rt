@@ -9,12 +9,11 @@ ghost use Rattle.rs_text.specs.Tree as tree;
 ghost use Rattle.rs_text.specs.Tree.{tys, option_ty};
 ghost use Rattle.rs_tree.specs.Views.{ty_view, place_view, expr_view};
 
-use crate::copies::{copy_given, copy_ty, copy_tys};
 use crate::given::RGiven;
-use crate::makers::{address, cast, no_function, target};
 use crate::operands::{as_type, cast_to};
 use crate::same::same_type;
 use cr_base::{Boxed, Items, Memory};
+use rs_makers::{address, cast, copy_given, copy_ty, copy_tys, no_function, some_function, target};
 use rs_tree::{RExpr, RPath, RPlace, RTy};
 use std::alloc::Global;
 
@@ -92,18 +91,6 @@ pub fn address_form(
 {
     let address = address_of(alloc, place)?;
     Ok(RGiven::Value(pointer_as(alloc, ty, target, address)?))
-}
-
-#[tactic(auto, using(rs_tree::proofs::Opened::some_view))]
-fn some_function(
-    alloc: Global,
-    path: RPath,
-    params: Items<RTy>,
-    given: Option<Boxed<RTy>>,
-) -> Result<Boxed<RExpr>, Memory>
-    ensures { IfOk result (λ e. expr_view e ≡ tree.SomeFunction path.home path.name (tys (map ty_view params)) (option_ty (option_map ty_view given))) }
-{
-    Boxed::new(alloc, RExpr::SomeFunction(path, params, given))
 }
 
 fn function_of_type(alloc: Global, path: RPath, kept: &RTy) -> Result<Boxed<RExpr>, Memory>

@@ -1,5 +1,5 @@
 -- Operators between two numbers.
-use Rattle.std.proofs.Common.{◌≡◌, ℕ, ℤ, pos, ◌+ℤ◌, ◌-ℤ◌, ◌*ℤ◌, int_lt, int_le, Bool, true, false, not, if◌then◌else◌, Option, Some, None, Result, Ok, Err, refl, sym, ap, subst, ◌∙◌}
+use Rattle.std.proofs.Common.{◌≡◌, ℤ, ◌+ℤ◌, ◌-ℤ◌, ◌*ℤ◌, int_lt, int_le, Bool, true, false, not, if◌then◌else◌, Option, Some, None, Result, Ok, refl, sym, ap, subst, ◌∙◌}
 use Rattle.std.specs.Ordering.{int_eq}
 use Rattle.cr_base.specs.Scalar.{converted}
 use Rattle.cr_base.specs.declared.rule.URule.TheVariants.{U2}
@@ -18,9 +18,9 @@ use Rattle.mem_bytes.specs.declared.value.Value.TheVariants.{Whole}
 use Rattle.mem_bytes.proofs.Reached.{and_then_ok}
 use Rattle.rs_mean.specs.declared.cause.Cause.{Cause}
 use Rattle.rs_mean.specs.declared.cause.Cause.TheVariants.{Overflow}
-use Rattle.rs_mean.specs.Numbers.{number_of_truth, compared, computed, checked, wrapping, wrapped_in}
+use Rattle.rs_mean.specs.Numbers.{computed, checked, wrapping, wrapped_in}
 use Rattle.rs_mean.specs.Run.{Frame}
-use Rattle.rs_mean.specs.Scalars.{integer_scalar, is_signed_integer, fits_integer, same_integer, scalar_of}
+use Rattle.rs_mean.specs.Scalars.{integer_scalar, is_signed_integer, same_integer, scalar_of}
 use Rattle.rs_mean.specs.Values.{typed, numbered, by_type}
 use Rattle.rs_text.specs.declared.integer.IntegerTy.{IntegerTy}
 use Rattle.rs_text.specs.declared.integer.IntegerTy.TheVariants.{I32, U32}
@@ -29,13 +29,13 @@ use Rattle.rs_text.specs.declared.operator.Operator.TheVariants as rust
 use Rattle.rs_text.specs.declared.operator.Wrapping.{Wrapping}
 use Rattle.rs_text.specs.declared.operator.Wrapping.TheVariants.{WrappingAdd, WrappingSub, WrappingMul}
 use Rattle.rs_text.specs.Tree.{Ty, Integer, Boolean, Expr, Wrapped, Binary}
-use Rattle.lift_forms.specs.Given.{Given, truth}
+use Rattle.lift_forms.specs.Given.{truth}
 use Rattle.lift_forms.specs.LawsTyping.{is_comparison, numbers_result}
 use Rattle.lift_forms.specs.Operators.{Operand, value_of, count_of, summed, integers_form}
 use Rattle.lift_forms.proofs.SameTypes.{integer_is}
 use Rattle.lift_forms.proofs.Typed.{by_test, if_some}
 use Rattle.lift_stands.specs.Stands.{Images}
-use Rattle.lift_forms_laws.specs.Gives.{GivesAt, GivesBelow, GivesTruth, truth_number, GivenStands}
+use Rattle.lift_forms_laws.specs.Gives.{GivesAt, GivesBelow, truth_number, GivenStands}
 use Rattle.lift_forms_laws.proofs.Numbers.{signed_type, unsigned_type, checked_is, quotient_is, remainder_is, left_is, right_is}
 use Rattle.lift_forms_laws.proofs.Runs.{binary_gives, wrapped_gives}
 use Rattle.lift_forms_laws.proofs.Unary.{same_truth, number_stands}

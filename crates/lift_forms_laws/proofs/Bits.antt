@@ -1,5 +1,5 @@
 -- What a bit-field gives that is read by its bytes.
-use Rattle.std.proofs.Common.{◌≡◌, ℕ, zero, suc, ◌+◌, ◌-◌, ◌*◌, ◌/◌, ◌%◌, ◌^◌, ◌≤◌, ◌<◌, ℤ, pos, negsuc, ◌+ℤ◌, ◌-ℤ◌, ◌*ℤ◌, nat_le, nat_lt, int_le, int_lt, int_div, int_rem, Bool, true, false, cond, if◌then◌else◌, List, [], ◌∷◌, map, length, drop, get_or, drop-cons, drop_of_length-le, Option, Some, None, Result, Ok, Err, refl, sym, ap, subst, ◌∙◌, tests, arith}
+use Rattle.std.proofs.Common.{◌≡◌, ℕ, zero, suc, ◌+◌, ◌-◌, ◌*◌, ◌/◌, ◌%◌, ◌^◌, ◌≤◌, ◌<◌, pos, ◌+ℤ◌, ◌-ℤ◌, ◌*ℤ◌, nat_le, nat_lt, int_le, int_lt, int_div, Bool, true, false, if◌then◌else◌, List, [], ◌∷◌, map, length, drop, get_or, drop-cons, drop_of_length-le, Ok, Err, refl, sym, ap, subst, ◌∙◌, tests, arith}
 use Rattle.std.proofs.lemmas.Bool.Decides.{nat_tests}
 use Rattle.std.proofs.lemmas.Int.{ints}
 use Rattle.std.proofs.lemmas.List.{length-map}
@@ -8,34 +8,32 @@ use Rattle.std.proofs.Math.IntN.{pos-*ℤ-pos}
 use Rattle.std.proofs.Math.Nat.{div-le_self, two-pow-succ, mod-eq_of_lt, mod-lt, mod-add-mod, add-mod_right}
 use Rattle.std.proofs.Math.Pow.{pow_mono}
 use Rattle.std.specs.Ordering.{int_eq}
-use Rattle.cr_base.specs.Scalar.{IsInRange, least, above as most_number, converted, residue, from_half, wrapped}
+use Rattle.cr_base.specs.Scalar.{IsInRange, least, above as most_number, residue, from_half}
 use Rattle.cr_base.specs.declared.layout.Spot.{Spot}
-use Rattle.cr_base.specs.declared.scalar.Scalar.TheVariants as scalar
 use Rattle.cr_world.specs.World.{World}
-use Rattle.mem_bytes.specs.Access.{and_then, part_of, live_read, part_at, value_at}
-use Rattle.mem_bytes.specs.Bits.{bytes_touched, field_of}
+use Rattle.mem_bytes.specs.Access.{and_then, part_of, live_read}
+use Rattle.mem_bytes.specs.Bits.{bytes_touched}
 use Rattle.mem_bytes.specs.Coding.{number_of}
 use Rattle.mem_bytes.specs.Laws.{behind}
-use Rattle.mem_bytes.specs.Memory.{Block, Blocks, live_block, size_of, byte_cell}
-use Rattle.mem_bytes.specs.Pointers.{live_size, object_size, place_inside, place_moved, moved}
+use Rattle.mem_bytes.specs.Memory.{size_of, byte_cell}
+use Rattle.mem_bytes.specs.Pointers.{live_size, place_inside, moved}
 use Rattle.mem_bytes.specs.declared.pointer.PointerFault.TheVariants.{LeavesObject}
 use Rattle.mem_bytes.specs.declared.value.Ptr.{Ptr}
 use Rattle.mem_bytes.specs.declared.value.Value.{Value}
 use Rattle.mem_bytes.specs.declared.value.Value.TheVariants.{Whole, Object}
 use Rattle.mem_bytes.proofs.Reached.{part_ok, length_part}
-use Rattle.mem_bytes_bits.specs.Laws.{HoldsBytes, byte_scalar}
+use Rattle.mem_bytes_bits.specs.Laws.{HoldsBytes}
 use Rattle.mem_bytes_bits.proofs.ByBytes.{byte_loaded}
 use Rattle.rs_mean.specs.declared.cause.Cause.TheVariants.{Overflow, Divisor, Shift}
 use Rattle.rs_mean.specs.Numbers.{checked, remainder_by}
 use Rattle.rs_mean.specs.Calls.{Spot as Where, spot as where_at, load, with_type, loaded_as}
-use Rattle.rs_mean.specs.Run.{Frame, run_expr, run_place}
+use Rattle.rs_mean.specs.Run.{Frame, run_place}
 use Rattle.rs_mean.specs.Scalars.{integer_scalar, fits_integer, scalar_of}
 use Rattle.rs_mean.specs.Values.{typed, pointing, numbered}
 use Rattle.rs_mean.specs.World.{or_cause, cause_of, cause_of_pointer}
-use Rattle.rs_text.specs.declared.integer.IntegerTy.{IntegerTy}
 use Rattle.rs_text.specs.declared.integer.IntegerTy.TheVariants.{I64, U8, U32, U64, Isize}
 use Rattle.rs_text.specs.declared.operator.Operator.TheVariants as rust
-use Rattle.rs_text.specs.Tree.{Ty, Integer, Pointer, Place, Deref, Expr, Literal, Read, Offset, Cast, Binary}
+use Rattle.rs_text.specs.Tree.{Ty, Integer, Pointer, Place, Expr, Literal, Read, Offset, Cast, Binary}
 use Rattle.lift_forms.specs.BitFields.{word, byte_place, byte_word, bytes_word, more_bytes, shifted_word, unsigned_read, half, signed_read, bit_read, read_type}
 use Rattle.lift_forms.specs.LawsTyping.{IsBitField}
 use Rattle.lift_forms.proofs.SameTypes.{both_are_true}
@@ -67,10 +65,10 @@ above_most (suc (suc (suc zero))) most = omega arith
 above_most (suc (suc (suc (suc zero)))) most = omega arith
 above_most (suc (suc (suc (suc (suc n))))) most = absurd (omega (arith, most))
 
-fits_word : (n : ℕ) → n < 18446744073709551616 → fits_integer U64 (pos n) ≡ true
+pub fits_word : (n : ℕ) → n < 18446744073709551616 → fits_integer U64 (pos n) ≡ true
 fits_word n less = grind (arith, nat_tests, less)
 
-word_range : (n : ℕ) → n < 18446744073709551616 → IsInRange (integer_scalar U64) (pos n)
+pub word_range : (n : ℕ) → n < 18446744073709551616 → IsInRange (integer_scalar U64) (pos n)
 word_range n less = (omega (arith, ints), omega (arith, ints, less))
 
 long_range : (n : ℕ) → n < 8589934592 → IsInRange (integer_scalar I64) (pos n)
@@ -82,11 +80,11 @@ difference_fits a b less small =
     (grind (arith, ints, tests, less, small)) (grind (arith, ints, tests, less, small))
 
 module _ (frame : Frame) (world : World) where
-  word_gives : (n : ℕ) → GivesAt frame world (word n) (Integer U64) (Whole (pos n))
+  pub word_gives : (n : ℕ) → GivesAt frame world (word n) (Integer U64) (Whole (pos n))
   word_gives n = literal_gives frame world (pos n) U64
 
   -- `+` and `*` of words that don't overflow
-  added : (left right : Expr) (a b : ℕ) → GivesAt frame world left (Integer U64) (Whole (pos a)) → GivesAt frame world right (Integer U64) (Whole (pos b)) → a + b < 18446744073709551616 →
+  pub added : (left right : Expr) (a b : ℕ) → GivesAt frame world left (Integer U64) (Whole (pos a)) → GivesAt frame world right (Integer U64) (Whole (pos b)) → a + b < 18446744073709551616 →
       GivesAt frame world (Binary left rust.Add right) (Integer U64) (Whole (pos (a + b)))
   added left right a b h k less =
       binary_gives frame world left right rust.Add (Integer U64) (Integer U64) (Integer U64) (Whole (pos a)) (Whole (pos b)) (Whole (pos (a + b))) h k
@@ -98,7 +96,7 @@ module _ (frame : Frame) (world : World) where
       binary_gives frame world left right rust.Mul (Integer U64) (Integer U64) (Integer U64) (Whole (pos a)) (Whole (pos b)) (Whole (pos (a * b))) h k
       (ap (λ (t : Bool). numbered U64 (if t then Ok (pos (a * b)) else Err Overflow)) (fits_word (a * b) less))
 
-  remaining : (left right : Expr) (a b : ℕ) → GivesAt frame world left (Integer U64) (Whole (pos a)) → GivesAt frame world right (Integer U64) (Whole (pos b)) → 0 < b → a < 18446744073709551616 →
+  pub remaining : (left right : Expr) (a b : ℕ) → GivesAt frame world left (Integer U64) (Whole (pos a)) → GivesAt frame world right (Integer U64) (Whole (pos b)) → 0 < b → a < 18446744073709551616 →
       GivesAt frame world (Binary left rust.Rem right) (Integer U64) (Whole (pos (a % b)))
   remaining left right a b h k some less =
       let nonzero : int_eq (pos b) (pos 0) ≡ false = grind (arith, nat_tests, ints, tests, some) in
@@ -108,7 +106,7 @@ module _ (frame : Frame) (world : World) where
       (ap (λ (t : Bool). numbered U64 (remainder_by (pos a) (pos b) (if t then Err Divisor else checked Divisor U64 (int_div (pos a) (pos b))))) nonzero
       ∙ ap (λ (t : Bool). numbered U64 (remainder_by (pos a) (pos b) (if t then Ok (int_div (pos a) (pos b)) else Err Divisor))) fits)
 
-  shifted : (left : Expr) (a bit : ℕ) → GivesAt frame world left (Integer U64) (Whole (pos a)) → bit < 64 →
+  pub shifted : (left : Expr) (a bit : ℕ) → GivesAt frame world left (Integer U64) (Whole (pos a)) → bit < 64 →
       GivesAt frame world (Binary left rust.Shr (Literal (pos bit) U32)) (Integer U64) (Whole (pos (a / 2 ^ bit)))
   shifted left a bit h less =
       binary_gives frame world left (Literal (pos bit) U32) rust.Shr (Integer U64) (Integer U32) (Integer U64) (Whole (pos a)) (Whole (pos bit)) (Whole (pos (a / 2 ^ bit))) h
@@ -156,7 +154,7 @@ module _ (frame : Frame) (world : World) where
     pub place_gives : (k : ℕ) → k ≤ count → GivesPlace frame world (byte_place base (first + k)) (where_at (Integer U8) (Object (behind (behind to first) k)))
     place_gives k most = target_gives frame world (Offset (Cast base (Pointer (Integer U8))) (Literal (pos (first + k)) Isize)) (Integer U8) (Object (behind (behind to first) k)) (address_gives k most) refl
 
-    byte_gives : (k : ℕ) → k < count → GivesAt frame world (byte_word base (first + k)) (Integer U64) (Whole (pos (get_or bytes k 0)))
+    pub byte_gives : (k : ℕ) → k < count → GivesAt frame world (byte_word base (first + k)) (Integer U64) (Whole (pos (get_or bytes k 0)))
     byte_gives k less =
         let b = get_or bytes k 0 in
         let bound = small k less in

@@ -1,9 +1,8 @@
 -- Constants, functions and places.
-use Rattle.std.proofs.Common.{◌≡◌, ℕ, ℤ, pos, Bool, true, false, ◌||◌, if◌then◌else◌, List, Option, Some, None, Result, Ok, Err, refl, sym, ap, subst, ◌∙◌}
+use Rattle.std.proofs.Common.{◌≡◌, ℕ, pos, Bool, true, false, ◌||◌, if◌then◌else◌, List, Some, None, Ok, refl, ap, subst, ◌∙◌}
 use Rattle.cr_base.specs.declared.scalar.Scalar.{Scalar}
 use Rattle.cr_base.specs.declared.scalar.Scalar.TheVariants as scalar
 use Rattle.cr_runs.specs.Runs.{Ran, came, halted, bad, out, bind}
-use Rattle.cr_world.specs.Held.{Held}
 use Rattle.cr_world.specs.World.{World, Stop}
 use Rattle.mem_bytes.specs.Coding.{IsValueOf}
 use Rattle.mem_bytes.specs.declared.value.Value.{Value}
@@ -16,17 +15,17 @@ use Rattle.rs_mean.specs.Run.{Frame, run_expr, run_place, is_base, spot_by_type,
 use Rattle.rs_mean.specs.Scalars.{is_scalar, scalar_of, integer_scalar, same_type}
 use Rattle.rs_mean.specs.Typing.{is_bits, is_pointer, is_code}
 use Rattle.rs_mean.specs.Values.{Typed, typed}
-use Rattle.rs_mean.specs.World.{Run, pure, fails, seq, local, looks}
+use Rattle.rs_mean.specs.World.{pure, fails, seq, local}
 use Rattle.rs_text.specs.declared.integer.IntegerTy.{IntegerTy}
 use Rattle.rs_text.specs.declared.integer.IntegerTy.TheVariants.{I8, I16, I32, I64, U8, U16, U32, U64, Isize, Usize}
-use Rattle.rs_text.specs.Tree.{Ty, Integer, Boolean, Void, Pointer, Array, Code, Record, Tys, no_tys, OptionTy, no_ty, Place, Local, Static, Deref, Field, Expr, NoFunction, SomeFunction, Transmute, AddressOf, Cast}
+use Rattle.rs_text.specs.Tree.{Ty, Integer, Boolean, Pointer, Code, Tys, no_tys, OptionTy, no_ty, Place, Local, Static, Deref, Field, Expr, NoFunction, SomeFunction, Cast}
 use Rattle.lift_forms.specs.Given.{address_of, pointed}
-use Rattle.lift_forms.specs.Operators.{constant, null_of, zero_of, function_form, cast_to}
+use Rattle.lift_forms.specs.Operators.{constant, null_of, zero_of, function_form}
 use Rattle.lift_forms.specs.Places.{Kept, object_place, address_form}
 use Rattle.lift_forms.proofs.SameTypes.{type_is}
 use Rattle.lift_forms.proofs.Typed.{by_test}
 use Rattle.lift_stands.specs.Stands.{Images, ValueBelow}
-use Rattle.lift_forms_laws.specs.Gives.{GivesAt, GivesPlace, GivesBelow, truth_number, GivenStands, IsOf}
+use Rattle.lift_forms_laws.specs.Gives.{GivesAt, GivesPlace, truth_number, GivenStands, IsOf}
 use Rattle.lift_forms_laws.proofs.Operands.{as_type_gives}
 use Rattle.lift_forms_laws.proofs.Runs.{seq_is, looks_is, pure_is, literal_gives, constant_gives, null_gives, cast_gives, transmute_gives}
 

@@ -1,5 +1,5 @@
 -- Conversions, and conditions of which the second is evaluated by the first.
-use Rattle.std.proofs.Common.{◌≡◌, ℕ, ℤ, pos, Bool, true, false, not, ◌&&◌, ◌||◌, if◌then◌else◌, Option, Some, None, Result, Ok, Err, refl, sym, ap, subst, ◌∙◌}
+use Rattle.std.proofs.Common.{◌≡◌, ℕ, ℤ, Bool, true, false, ◌&&◌, ◌||◌, if◌then◌else◌, Some, Result, Ok, Err, refl, sym, ap, subst, ◌∙◌}
 use Rattle.cr_base.specs.Scalar.{converted as converted_number}
 use Rattle.cr_base.specs.declared.rule.URule.TheVariants.{U11}
 use Rattle.cr_base.specs.declared.scalar.Scalar.{Scalar}
@@ -7,9 +7,8 @@ use Rattle.cr_base.specs.declared.scalar.Scalar.TheVariants as scalar
 use Rattle.cr_runs.specs.Runs.{came}
 use Rattle.cr_world.specs.World.{World}
 use Rattle.cx_mean.specs.Operands.{by_pointers}
-use Rattle.cx_mean.specs.Values.{is_of_kind, is_true, number_in, to_number, to_pointer, to_scalar}
-use Rattle.cx_numbers.specs.Numbers.{CWhy, stuck, number_of_truth as c_number_of_truth}
-use Rattle.mem_bytes.specs.Access.{and_then}
+use Rattle.cx_mean.specs.Values.{is_of_kind, is_true, to_pointer, to_scalar}
+use Rattle.cx_numbers.specs.Numbers.{stuck, number_of_truth as c_number_of_truth}
 use Rattle.mem_bytes.specs.Memory.{Blocks}
 use Rattle.mem_bytes.specs.Pointers.{usable, object_size}
 use Rattle.mem_bytes.specs.declared.pointer.PointerFault.{PointerFault}
@@ -24,16 +23,14 @@ use Rattle.rs_mean.specs.Values.{Typed, typed, truth as truth_typed, test_of as 
 use Rattle.rs_mean.specs.World.{Run, pure, seq, either}
 use Rattle.rs_text.specs.declared.integer.IntegerTy.{IntegerTy}
 use Rattle.rs_text.specs.declared.integer.IntegerTy.TheVariants.{I8, I16, I32, I64, U8, U16, U32, U64, Isize, Usize}
-use Rattle.rs_text.specs.Tree.{Ty, Integer, Boolean, Void, Pointer, Array, Code, Record, Tys, OptionTy, Expr, And, Or, Choose}
-use Rattle.lift_forms.specs.Given.{Given, nothing, truth, value, place}
+use Rattle.rs_text.specs.Tree.{Ty, Integer, Boolean, Pointer, Code, Tys, OptionTy, Expr, And, Or, Choose}
+use Rattle.lift_forms.specs.Given.{Given}
 use Rattle.lift_forms.specs.LawsTyping.{converts}
 use Rattle.lift_forms.specs.Operators.{Operand, as_type, value_of, integer_as, test_of, converted}
 use Rattle.lift_forms.proofs.Typed.{is_same_sort}
 use Rattle.lift_stands.specs.Stands.{Images, ValueBelow}
 use Rattle.lift_forms_laws.specs.Gives.{GivesAt, GivesBelow, truth_number, GivenStands, OperandStands, IsOf}
 use Rattle.lift_forms_laws.specs.LawsMeaning.{Standing}
-use Rattle.lift_forms_laws.proofs.Binary.{c_gives}
-use Rattle.lift_forms_laws.proofs.Numbers.{converted_is}
 use Rattle.lift_forms_laws.proofs.Operands.{value_gives, integer_gives, as_type_gives, test_gives}
 use Rattle.lift_forms_laws.proofs.Runs.{seq_is, fails_is, pure_is}
 use Rattle.lift_forms_laws.proofs.Unary.{same_truth, number_stands}

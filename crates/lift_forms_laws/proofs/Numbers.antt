@@ -1,18 +1,17 @@
 -- What operators give of numbers in C and in Rust.
-use Rattle.std.proofs.Common.{◌≡◌, ℕ, zero, suc, ◌+◌, ◌-◌, ◌*◌, ◌/◌, ◌%◌, ◌^◌, ◌≤◌, ◌<◌, ℤ, pos, negsuc, neg_ℤ, ◌-ℤ◌, ◌*ℤ◌, ◌≤ℤ◌, ◌<ℤ◌, int_div, int_rem, Bool, true, false, cond, nat_lt, if◌then◌else◌, Result, Ok, Err, refl, sym, ap, subst, ◌∙◌, arith}
+use Rattle.std.proofs.Common.{◌≡◌, ℕ, ◌+◌, ◌-◌, ◌*◌, ◌%◌, ◌^◌, ◌≤◌, ◌<◌, ℤ, pos, negsuc, neg_ℤ, ◌-ℤ◌, ◌≤ℤ◌, ◌<ℤ◌, int_div, int_rem, Bool, true, false, cond, nat_lt, if◌then◌else◌, Result, Ok, Err, refl, sym, ap, subst, ◌∙◌, arith}
 use Rattle.std.proofs.lemmas.Bool.Decides.{nat_tests}
 use Rattle.std.proofs.lemmas.Int.{ints}
 use Rattle.std.proofs.Math.Nat.{mod-eq_of_lt}
 use Rattle.std.specs.Ordering.{int_eq}
 use Rattle.cr_base.specs.Scalar.{IsInRange, residue, from_half, wrapped, converted}
 use Rattle.cr_base.specs.declared.rule.URule.{URule}
-use Rattle.cr_base.specs.declared.rule.URule.TheVariants.{U2, U3, U4}
-use Rattle.cr_base.specs.declared.scalar.Scalar.{Scalar}
+use Rattle.cr_base.specs.declared.rule.URule.TheVariants.{U3, U4}
 use Rattle.cr_base.specs.declared.scalar.Scalar.TheVariants.{Whole}
-use Rattle.cx_numbers.specs.Numbers.{CWhy, breaks, represents, represented, in_type, quotient as c_quotient, remainder_by as c_remainder_by, left_shifted, right_shifted, shifted as c_shifted, width_of_scalar}
+use Rattle.cx_numbers.specs.Numbers.{CWhy, breaks, represented, in_type, quotient as c_quotient, remainder_by as c_remainder_by, left_shifted, right_shifted, shifted as c_shifted, width_of_scalar}
 use Rattle.cx_typed_values.proofs.Ranges.{in_range}
 use Rattle.rs_mean.specs.declared.cause.Cause.{Cause}
-use Rattle.rs_mean.specs.declared.cause.Cause.TheVariants.{Overflow, Divisor, Shift}
+use Rattle.rs_mean.specs.declared.cause.Cause.TheVariants.{Divisor, Shift}
 use Rattle.rs_mean.specs.Numbers.{checked, wrapped_in, quotient, remainder_by, shifted, shifted_left, shifted_right}
 use Rattle.rs_mean.specs.Scalars.{integer_scalar, is_signed_integer, fits_integer, width_of}
 use Rattle.rs_text.specs.declared.integer.IntegerTy.{IntegerTy}

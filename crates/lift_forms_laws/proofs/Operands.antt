@@ -1,5 +1,5 @@
 -- What operands give: their values, as numbers of an integer type, and as conditions.
-use Rattle.std.proofs.Common.{◌≡◌, ℕ, zero, suc, ℤ, pos, negsuc, Bool, true, false, not, if◌then◌else◌, Option, Some, None, Result, Ok, Err, refl, sym, ap, subst, ◌∙◌, ◌<ℤ◌, ◌≤ℤ◌, arith}
+use Rattle.std.proofs.Common.{◌≡◌, zero, suc, ℤ, pos, negsuc, Bool, true, false, not, Ok, refl, sym, ap, subst, ◌∙◌, arith}
 use Rattle.std.proofs.lemmas.Int.{ints}
 use Rattle.std.specs.Ordering.{int_eq}
 use Rattle.cr_base.specs.Scalar.{IsInRange, converted}
@@ -11,22 +11,22 @@ use Rattle.mem_bytes.specs.declared.value.Value.{Value}
 use Rattle.mem_bytes.specs.declared.value.Value.TheVariants.{Whole, Null, Object, Code as Function}
 use Rattle.rs_mean.specs.Numbers.{number_of_truth}
 use Rattle.rs_mean.specs.Run.{Frame}
-use Rattle.rs_mean.specs.Scalars.{integer_scalar, is_scalar, same_type}
+use Rattle.rs_mean.specs.Scalars.{integer_scalar, same_type}
 use Rattle.rs_mean.specs.Typing.{casts}
-use Rattle.rs_mean.specs.Values.{typed, truth as truth_typed, cast_by_type, transmuted_to, is_null_value}
+use Rattle.rs_mean.specs.Values.{typed, truth as truth_typed}
 use Rattle.rs_text.specs.declared.integer.IntegerTy.{IntegerTy}
 use Rattle.rs_text.specs.declared.integer.IntegerTy.TheVariants.{I32}
 use Rattle.rs_text.specs.declared.operator.Operator.TheVariants as rust
-use Rattle.rs_text.specs.Tree.{Ty, Integer, Boolean, Void, Pointer, Array, Code, Record, Expr, Literal, Read, IsNull, IsNone, Transmute, Not, Cast, Binary}
+use Rattle.rs_text.specs.Tree.{Ty, Integer, Boolean, Pointer, Code, Expr, Literal, Read, IsNull, IsNone, Transmute, Not, Cast, Binary}
 use Rattle.lift_forms.specs.Given.{Given, nothing, truth, value, place}
-use Rattle.lift_forms.specs.Operators.{Operand, cast_to, transmute_to, as_type, value_of, integer_as, is_not_zero, is_zero, test_of, opposite_of}
+use Rattle.lift_forms.specs.Operators.{Operand, cast_to, as_type, value_of, integer_as, is_not_zero, is_zero, test_of, opposite_of}
 use Rattle.lift_forms.proofs.SameTypes.{type_is}
 use Rattle.lift_forms.proofs.Typed.{by_test, is_same_sort}
 use Rattle.lift_stands.specs.Stands.{Images, ValueBelow, StandsFor}
 use Rattle.lift_stands.proofs.Forms.{number_below}
 use Rattle.lift_stands_pointers.specs.LawsOperators.{IsAddress}
 use Rattle.lift_stands_pointers.proofs.Operators.{tests}
-use Rattle.lift_forms_laws.specs.Gives.{GivesAt, GivesBelow, GivesTruth, truth_number, GivenStands, OperandStands, IsOf}
+use Rattle.lift_forms_laws.specs.Gives.{GivesAt, GivesBelow, truth_number, GivenStands, OperandStands, IsOf}
 use Rattle.lift_forms_laws.proofs.Numbers.{converted_same}
 use Rattle.lift_forms_laws.proofs.Runs.{cast_gives, transmute_gives, binary_gives, not_gives, is_null_gives, is_none_gives, literal_gives}
 

@@ -1,5 +1,5 @@
 -- Operators on pointers, and all operators with two operands.
-use Rattle.std.proofs.Common.{◌≡◌, ℕ, zero, suc, ◌+◌, ◌*◌, ◌≤◌, ◌<◌, ℤ, pos, negsuc, neg_ℤ, ◌+ℤ◌, ◌*ℤ◌, ◌≤ℤ◌, ◌<ℤ◌, nat_le, Bool, true, false, not, if◌then◌else◌, Option, Some, None, Result, Ok, Err, int_lt, int_le, tests, refl, sym, ap, subst, ◌∙◌, arith}
+use Rattle.std.proofs.Common.{◌≡◌, ℕ, zero, suc, ◌*◌, ◌≤◌, ◌<◌, ℤ, pos, negsuc, neg_ℤ, ◌+ℤ◌, ◌*ℤ◌, ◌≤ℤ◌, nat_le, Bool, true, false, not, if◌then◌else◌, Option, Some, None, Result, Ok, Err, int_lt, int_le, tests, refl, sym, ap, subst, ◌∙◌, arith}
 use Rattle.std.proofs.lemmas.Bool.Decides.{nat_tests}
 use Rattle.std.proofs.lemmas.Int.{ints}
 use Rattle.std.proofs.Math.IntN.{pos-*ℤ-pos, negsuc-*ℤ-pos}
@@ -15,7 +15,7 @@ use Rattle.cx_core.specs.declared.expr.Op2.TheVariants as op2
 use Rattle.cx_core.specs.Trees.{CTy, form_of_type}
 use Rattle.cx_mean.specs.Operands.{needed, by_pointers}
 use Rattle.cx_mean.specs.Settings.{CSetting, element_extent, scalar_in_type}
-use Rattle.cx_mean.specs.Values.{bytes_of_elements, moved_by, differ_by, two_pointers, ordered, pointer_and_number, number_and_pointer, number_of_pointers, binary_of, binary_value}
+use Rattle.cx_mean.specs.Values.{bytes_of_elements, moved_by, differ_by, two_pointers, pointer_and_number, number_and_pointer, number_of_pointers, binary_of, binary_value}
 use Rattle.cx_numbers.specs.Numbers.{number_of_truth as c_number_of_truth}
 use Rattle.cx_typed_values.specs.Outcomes.{Comes}
 use Rattle.cx_typed_values.specs.Values.{AreObjects, IsNear, most_bytes}
@@ -23,7 +23,7 @@ use Rattle.cx_typed_values.proofs.PointerValues.{IsDistance, IsObjectPointer, di
 use Rattle.mem_bytes.specs.Access.{and_then}
 use Rattle.mem_bytes.specs.Coding.{IsValueOf}
 use Rattle.mem_bytes.specs.Memory.{Block, Blocks, live_block, size_of}
-use Rattle.mem_bytes.specs.Pointers.{live_size, object_size, place_inside, place_moved, moved, difference, distance, equality}
+use Rattle.mem_bytes.specs.Pointers.{live_size, place_inside, place_moved, moved, difference, distance, equality}
 use Rattle.mem_bytes.specs.declared.pointer.PointerFault.{PointerFault}
 use Rattle.mem_bytes.specs.declared.pointer.PointerFault.TheVariants.{LeavesObject}
 use Rattle.mem_bytes.specs.declared.value.Ptr.{Ptr}
@@ -38,7 +38,7 @@ use Rattle.rs_text.specs.declared.integer.IntegerTy.{IntegerTy}
 use Rattle.rs_text.specs.declared.integer.IntegerTy.TheVariants.{I32, I64, U32, Isize}
 use Rattle.rs_text.specs.declared.operator.Operator.{Operator}
 use Rattle.rs_text.specs.declared.operator.Operator.TheVariants as rust
-use Rattle.rs_text.specs.Tree.{Ty, Integer, Boolean, Void, Pointer, Array, Code, Record, Tys, OptionTy, Expr, Offset, OffsetFrom, Cast, Binary}
+use Rattle.rs_text.specs.Tree.{Ty, Integer, Boolean, Pointer, Code, Tys, OptionTy, Expr, Offset, OffsetFrom, Cast, Binary}
 use Rattle.lift_forms.specs.Given.{Given, truth}
 use Rattle.lift_forms.specs.LawsTyping.{is_comparison, moved_result, added_result, pointers_result, functions_result, binary_result}
 use Rattle.lift_forms.specs.Operators.{Operand, as_type, value_of, minus, elements_of, moved_form, beside, pointers_form, binary_form}

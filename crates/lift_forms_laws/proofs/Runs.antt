@@ -1,21 +1,19 @@
 -- What an expression comes to, by what its operands come to.
-use Rattle.std.proofs.Common.{◌≡◌, ℕ, ℤ, Bool, true, false, ◌&&◌, ◌||◌, Result, Ok, Err, Option, refl, sym, ap, ◌∙◌}
-use Rattle.cr_base.specs.declared.layout.Laid.{Laid}
-use Rattle.cr_runs.specs.Runs.{Ran, came, bind}
+use Rattle.std.proofs.Common.{◌≡◌, ℕ, ℤ, Bool, Result, Ok, refl, ap, ◌∙◌}
+use Rattle.cr_runs.specs.Runs.{came, bind}
 use Rattle.cr_world.specs.Held.{Held}
-use Rattle.cr_world.specs.World.{World, Stop}
+use Rattle.cr_world.specs.World.{World}
 use Rattle.mem_bytes.specs.declared.value.Value.{Value}
 use Rattle.mem_bytes.specs.declared.value.Value.TheVariants.{Whole, Null}
 use Rattle.rs_mean.specs.declared.cause.Cause.{Cause}
 use Rattle.rs_mean.specs.Layout.{laid_of}
-use Rattle.rs_mean.specs.Numbers.{number_of_truth}
-use Rattle.rs_mean.specs.Run.{Frame, run_expr, tests}
-use Rattle.rs_mean.specs.Values.{Typed, typed, truth, by_type, wrapped_by_type, neg_by_type, wrapping_neg_by_type, not_by_type, cast_by_type, transmuted_to, null_by_type, none_by_type, offset_by_type, apart_by_type, test_by_type}
-use Rattle.rs_mean.specs.World.{Run, pure, fails, seq, either, local, looks, kept, after_step, or_fails}
+use Rattle.rs_mean.specs.Run.{Frame, run_expr}
+use Rattle.rs_mean.specs.Values.{Typed, typed, truth, by_type, wrapped_by_type, neg_by_type, wrapping_neg_by_type, not_by_type, cast_by_type, transmuted_to, null_by_type, none_by_type, offset_by_type, apart_by_type}
+use Rattle.rs_mean.specs.World.{Run, pure, seq, local, looks, kept, after_step, or_fails}
 use Rattle.rs_text.specs.declared.integer.IntegerTy.{IntegerTy}
 use Rattle.rs_text.specs.declared.operator.Operator.{Operator}
 use Rattle.rs_text.specs.declared.operator.Wrapping.{Wrapping}
-use Rattle.rs_text.specs.Tree.{Ty, Integer, Boolean, Pointer, Code, Expr, Literal, Truth, NoFunction, Wrapped, WrappingNeg, Offset, OffsetFrom, IsNull, IsNone, NullPointer, Transmute, Neg, Not, Cast, Binary, And, Or, Choose}
+use Rattle.rs_text.specs.Tree.{Ty, Integer, Boolean, Pointer, Expr, Literal, Truth, Wrapped, WrappingNeg, Offset, OffsetFrom, IsNull, IsNone, NullPointer, Transmute, Neg, Not, Cast, Binary}
 use Rattle.lift_forms_laws.specs.Gives.{GivesAt, truth_number}
 
 -- ---- pieces

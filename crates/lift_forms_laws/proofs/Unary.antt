@@ -1,6 +1,5 @@
 -- Operators with one operand, and minus.
-use Rattle.std.proofs.Common.{◌≡◌, ℕ, ℤ, pos, neg_ℤ, Bool, true, false, not, if◌then◌else◌, Option, Some, None, Result, Ok, Err, refl, sym, ap, subst, ◌∙◌}
-use Rattle.cr_base.specs.Scalar.{IsInRange}
+use Rattle.std.proofs.Common.{◌≡◌, ℤ, neg_ℤ, Bool, true, false, not, if◌then◌else◌, Option, Some, None, Ok, Err, refl, sym, ap, subst, ◌∙◌}
 use Rattle.cr_base.specs.declared.scalar.Scalar.{Scalar}
 use Rattle.cr_base.specs.declared.rule.URule.TheVariants.{U2}
 use Rattle.cr_runs.specs.Runs.{Ran, came, halted, bad, out}
@@ -9,9 +8,8 @@ use Rattle.cx_core.specs.declared.expr.Op1.{Op1}
 use Rattle.cx_core.specs.declared.expr.Op1.TheVariants.{Plus, Minus, Complement, Not as Negates}
 use Rattle.cx_core.specs.Trees.{CTy}
 use Rattle.cx_mean.specs.Settings.{CSetting, scalar_in_type}
-use Rattle.cx_mean.specs.Values.{is_true, number_in, unary_of, unary_value}
-use Rattle.cx_numbers.specs.Numbers.{number_of_truth as c_number_of_truth, in_type, represented, number_of_unary}
-use Rattle.cx_typed_values.proofs.Ranges.{in_range}
+use Rattle.cx_mean.specs.Values.{is_true, unary_of, unary_value}
+use Rattle.cx_numbers.specs.Numbers.{number_of_truth as c_number_of_truth, in_type, number_of_unary}
 use Rattle.mem_bytes.specs.Access.{and_then}
 use Rattle.mem_bytes.specs.Memory.{Blocks}
 use Rattle.mem_bytes.specs.declared.value.Value.{Value}
@@ -19,24 +17,23 @@ use Rattle.mem_bytes.specs.declared.value.Value.TheVariants.{Whole, Null, Object
 use Rattle.mem_bytes.proofs.Reached.{and_then_ok}
 use Rattle.rs_mean.specs.declared.cause.Cause.{Cause}
 use Rattle.rs_mean.specs.declared.cause.Cause.TheVariants.{Overflow}
-use Rattle.rs_mean.specs.Numbers.{number_of_truth, checked, wrapped_in, complement}
+use Rattle.rs_mean.specs.Numbers.{number_of_truth, wrapped_in, complement}
 use Rattle.rs_mean.specs.Run.{Frame}
-use Rattle.rs_mean.specs.Scalars.{integer_scalar, is_signed_integer, fits_integer, is_scalar, is_integer, scalar_of}
+use Rattle.rs_mean.specs.Scalars.{integer_scalar, is_signed_integer, fits_integer, is_scalar, scalar_of}
 use Rattle.rs_mean.specs.Values.{Typed, typed, numbered}
 use Rattle.rs_mean.specs.World.{pure}
 use Rattle.rs_text.specs.declared.integer.IntegerTy.{IntegerTy}
 use Rattle.rs_text.specs.declared.integer.IntegerTy.TheVariants.{I32}
-use Rattle.rs_text.specs.declared.operator.Operator.TheVariants as rust
-use Rattle.rs_text.specs.Tree.{Ty, Integer, Boolean, Void, Pointer, Array, Code, Record, Expr, Literal, Neg, Not, WrappingNeg, Binary}
-use Rattle.lift_forms.specs.Given.{Given, nothing, truth, value, place}
+use Rattle.rs_text.specs.Tree.{Ty, Integer, Expr, Literal, Neg, Not, WrappingNeg}
+use Rattle.lift_forms.specs.Given.{Given, truth}
 use Rattle.lift_forms.specs.LawsTyping.{unary_result}
 use Rattle.lift_forms.specs.Operators.{Operand, value_of, minus, literal_or_minus, minus_literal, negated, unary_form, opposite_of}
 use Rattle.lift_forms.proofs.Typed.{by_test, if_some}
 use Rattle.lift_stands.specs.Stands.{Images, ValueBelow}
-use Rattle.lift_forms_laws.specs.Gives.{GivesAt, GivesBelow, GivesTruth, truth_number, GivenStands, OperandStands, IsOf}
+use Rattle.lift_forms_laws.specs.Gives.{GivesAt, GivesBelow, GivenStands, OperandStands, IsOf}
 use Rattle.lift_forms_laws.specs.LawsMeaning.{Standing}
-use Rattle.lift_forms_laws.proofs.Numbers.{signed_type, unsigned_type, represented_is, checked_is}
-use Rattle.lift_forms_laws.proofs.Operands.{value_gives, number_gives, opposite_gives}
+use Rattle.lift_forms_laws.proofs.Numbers.{signed_type, unsigned_type, represented_is}
+use Rattle.lift_forms_laws.proofs.Operands.{number_gives, opposite_gives}
 use Rattle.lift_forms_laws.proofs.Runs.{neg_gives, wrapping_neg_gives, not_gives, literal_gives}
 
 pub same_truth : (test : Bool) → c_number_of_truth test ≡ number_of_truth test

@@ -12,7 +12,7 @@ use Rattle.rs_mean.specs.Run.{Frame, run_expr, run_place}
 use Rattle.rs_mean.specs.Scalars.{integer_scalar}
 use Rattle.rs_mean.specs.Values.{typed}
 use Rattle.rs_text.specs.declared.integer.IntegerTy.TheVariants.{I32}
-use Rattle.rs_text.specs.Tree.{Ty, Integer, Boolean, Void, Pointer, Array, Code, Record, Place, Expr, Read}
+use Rattle.rs_text.specs.Tree.{Ty, Integer, Boolean, Pointer, Code, Place, Expr, Read}
 use Rattle.lift_forms.specs.Given.{Given, nothing, truth, value, place}
 use Rattle.lift_forms.specs.Operators.{Operand}
 use Rattle.lift_stands.specs.Stands.{Images, ValueBelow}

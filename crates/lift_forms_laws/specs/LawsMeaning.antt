@@ -1,6 +1,6 @@
 -- Laws of meaning: from operands that stand for C's, where the operator or the conversion of C has a meaning, the form gives what stands for C's result, takes no unit and
 -- changes nothing (ISO C99, 6.3, 6.5.3.3, 6.5.5 to 6.5.14; the Rust Reference, "Operator expressions" and "Type cast expressions").
-use Rattle.std.specs.Prelude.{◌≡◌, ℕ, ◌<◌, ℤ, pos, Bool, true, ◌&&◌, ◌||◌, false, if◌then◌else◌, List, Option, Some, Ok}
+use Rattle.std.specs.Prelude.{◌≡◌, ℕ, ◌<◌, ℤ, pos, Bool, true, ◌&&◌, ◌||◌, false, if◌then◌else◌, List, Some, Ok}
 use Rattle.cr_base.specs.declared.layout.Laid.{Laid}
 use Rattle.cr_base.specs.declared.scalar.Scalar.{Scalar}
 use Rattle.cr_world.specs.World.{World}

@@ -1,3 +1,4 @@
 pub mod Gives
 pub mod LawsBits
+pub mod LawsBoth
 pub mod LawsMeaning

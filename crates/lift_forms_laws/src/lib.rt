@@ -4,4 +4,7 @@
 
 mod laws;
 
-pub use laws::{bit_fields_give, choices_stand, constants_stand, forms_stand, places_stand};
+pub use laws::{
+    bit_fields_give, bit_fields_in_both, bit_fields_store, choices_stand, constants_stand,
+    forms_stand, places_stand,
+};

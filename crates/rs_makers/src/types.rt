@@ -10,7 +10,7 @@ use rs_tree::{RPath, RTy};
 use std::alloc::Global;
 
 /// An equal path.
-pub(crate) fn copy_path(path: &RPath) -> Result<RPath, Memory>
+pub fn copy_path(path: &RPath) -> Result<RPath, Memory>
     ensures { IfOk result (λ made. made ≡ path.now) }
 {
     let home = path.home.copy()?;
@@ -87,7 +87,7 @@ pub fn copy_ty(alloc: Global, ty: &RTy) -> Result<Boxed<RTy>, Memory>
 
 /// Equal types, in their order.
 #[cycle(copy)]
-pub(crate) fn copy_tys(alloc: Global, types: &[RTy]) -> Result<Items<RTy>, Memory>
+pub fn copy_tys(alloc: Global, types: &[RTy]) -> Result<Items<RTy>, Memory>
     ensures { IfOk result (λ made. map ty_view made ≡ map ty_view types.now) }
 {
     let mut made = Items::new(alloc);
@@ -99,10 +99,7 @@ pub(crate) fn copy_tys(alloc: Global, types: &[RTy]) -> Result<Items<RTy>, Memor
 
 /// An equal type of a result, if there is one.
 #[cycle(copy)]
-pub(crate) fn copy_given(
-    alloc: Global,
-    given: &Option<Boxed<RTy>>,
-) -> Result<Option<Boxed<RTy>>, Memory>
+pub fn copy_given(alloc: Global, given: &Option<Boxed<RTy>>) -> Result<Option<Boxed<RTy>>, Memory>
     ensures { IfOk result (λ made. option_map ty_view made ≡ option_map ty_view given.now) }
 {
     match given {

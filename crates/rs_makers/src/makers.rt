@@ -1,50 +1,51 @@
-//! Makers of nodes of expressions. Each is refused only for want of memory.
+//! Makers of nodes of expressions and places. Each is refused only for want of memory.
 
-ghost use Rattle.std.specs.Prelude.{◌≡◌, IfOk};
+ghost use Rattle.std.specs.Prelude.{◌≡◌, map, option_map, IfOk};
 ghost use Rattle.rs_text.specs.Tree as tree;
+ghost use Rattle.rs_text.specs.Tree.{exprs, tys, option_ty};
 ghost use Rattle.rs_tree.specs.Views.{ty_view, place_view, expr_view};
 
-use cr_base::{Boxed, Int, Memory};
-use rs_tree::{IntegerTy, Operator, RExpr, RPlace, RTy, Wrapping};
+use cr_base::{Boxed, Int, Items, Memory, Name};
+use rs_tree::{IntegerTy, Operator, RExpr, RPath, RPlace, RTy, Wrapping};
 use std::alloc::Global;
 
 /// An integer literal of a type.
-pub(crate) fn literal(alloc: Global, number: Int, which: IntegerTy) -> Result<Boxed<RExpr>, Memory>
+pub fn literal(alloc: Global, number: Int, which: IntegerTy) -> Result<Boxed<RExpr>, Memory>
     ensures { IfOk result (λ e. expr_view e ≡ tree.Literal number which) }
 {
     Boxed::new(alloc, RExpr::Literal(number, which))
 }
 
 /// `true` or `false`.
-pub(crate) fn truth(alloc: Global, test: bool) -> Result<Boxed<RExpr>, Memory>
+pub fn truth(alloc: Global, test: bool) -> Result<Boxed<RExpr>, Memory>
     ensures { IfOk result (λ e. expr_view e ≡ tree.Truth test) }
 {
     Boxed::new(alloc, RExpr::Truth(test))
 }
 
 /// `None`.
-pub(crate) fn no_function(alloc: Global) -> Result<Boxed<RExpr>, Memory>
+pub fn no_function(alloc: Global) -> Result<Boxed<RExpr>, Memory>
     ensures { IfOk result (λ e. expr_view e ≡ tree.NoFunction) }
 {
     Boxed::new(alloc, RExpr::NoFunction)
 }
 
 /// A place that is read.
-pub(crate) fn read(alloc: Global, place: Boxed<RPlace>) -> Result<Boxed<RExpr>, Memory>
+pub fn read(alloc: Global, place: Boxed<RPlace>) -> Result<Boxed<RExpr>, Memory>
     ensures { IfOk result (λ e. expr_view e ≡ tree.Read (place_view place)) }
 {
     Boxed::new(alloc, RExpr::Read(place))
 }
 
 /// `core::ptr::addr_of_mut!(p)`.
-pub(crate) fn address(alloc: Global, place: Boxed<RPlace>) -> Result<Boxed<RExpr>, Memory>
+pub fn address(alloc: Global, place: Boxed<RPlace>) -> Result<Boxed<RExpr>, Memory>
     ensures { IfOk result (λ e. expr_view e ≡ tree.AddressOf (place_view place)) }
 {
     Boxed::new(alloc, RExpr::AddressOf(place))
 }
 
 /// `core::ptr::null_mut::<T>()`.
-pub(crate) fn null_pointer(alloc: Global, target: Boxed<RTy>) -> Result<Boxed<RExpr>, Memory>
+pub fn null_pointer(alloc: Global, target: Boxed<RTy>) -> Result<Boxed<RExpr>, Memory>
     ensures { IfOk result (λ e. expr_view e ≡ tree.NullPointer (ty_view target)) }
 {
     Boxed::new(alloc, RExpr::NullPointer(target))
@@ -52,11 +53,7 @@ pub(crate) fn null_pointer(alloc: Global, target: Boxed<RTy>) -> Result<Boxed<RE
 
 /// `o as T`.
 #[tactic(auto, using(rs_tree::proofs::Opened::cast_view))]
-pub(crate) fn cast(
-    alloc: Global,
-    operand: Boxed<RExpr>,
-    to: Boxed<RTy>,
-) -> Result<Boxed<RExpr>, Memory>
+pub fn cast(alloc: Global, operand: Boxed<RExpr>, to: Boxed<RTy>) -> Result<Boxed<RExpr>, Memory>
     ensures { IfOk result (λ e. expr_view e ≡ tree.Cast (expr_view operand) (ty_view to)) }
 {
     Boxed::new(alloc, RExpr::Cast(operand, to))
@@ -64,7 +61,7 @@ pub(crate) fn cast(
 
 /// `core::mem::transmute::<T, T>(e)`.
 #[tactic(auto, using(rs_tree::proofs::Opened::transmute_view))]
-pub(crate) fn transmute(
+pub fn transmute(
     alloc: Global,
     from: Boxed<RTy>,
     to: Boxed<RTy>,
@@ -76,14 +73,14 @@ pub(crate) fn transmute(
 }
 
 /// `-o`.
-pub(crate) fn neg(alloc: Global, operand: Boxed<RExpr>) -> Result<Boxed<RExpr>, Memory>
+pub fn neg(alloc: Global, operand: Boxed<RExpr>) -> Result<Boxed<RExpr>, Memory>
     ensures { IfOk result (λ e. expr_view e ≡ tree.Neg (expr_view operand)) }
 {
     Boxed::new(alloc, RExpr::Neg(operand))
 }
 
 /// `!o`.
-pub(crate) fn not(alloc: Global, operand: Boxed<RExpr>) -> Result<Boxed<RExpr>, Memory>
+pub fn not(alloc: Global, operand: Boxed<RExpr>) -> Result<Boxed<RExpr>, Memory>
     ensures { IfOk result (λ e. expr_view e ≡ tree.Not (expr_view operand)) }
 {
     Boxed::new(alloc, RExpr::Not(operand))
@@ -91,28 +88,28 @@ pub(crate) fn not(alloc: Global, operand: Boxed<RExpr>) -> Result<Boxed<RExpr>, 
 
 /// `o.wrapping_neg()`.
 #[tactic(auto, using(rs_tree::proofs::Opened::wrapping_neg_view))]
-pub(crate) fn wrapping_neg(alloc: Global, operand: Boxed<RExpr>) -> Result<Boxed<RExpr>, Memory>
+pub fn wrapping_neg(alloc: Global, operand: Boxed<RExpr>) -> Result<Boxed<RExpr>, Memory>
     ensures { IfOk result (λ e. expr_view e ≡ tree.WrappingNeg (expr_view operand)) }
 {
     Boxed::new(alloc, RExpr::WrappingNeg(operand))
 }
 
 /// `o.is_null()`.
-pub(crate) fn is_null(alloc: Global, operand: Boxed<RExpr>) -> Result<Boxed<RExpr>, Memory>
+pub fn is_null(alloc: Global, operand: Boxed<RExpr>) -> Result<Boxed<RExpr>, Memory>
     ensures { IfOk result (λ e. expr_view e ≡ tree.IsNull (expr_view operand)) }
 {
     Boxed::new(alloc, RExpr::IsNull(operand))
 }
 
 /// `o.is_none()`.
-pub(crate) fn is_none(alloc: Global, operand: Boxed<RExpr>) -> Result<Boxed<RExpr>, Memory>
+pub fn is_none(alloc: Global, operand: Boxed<RExpr>) -> Result<Boxed<RExpr>, Memory>
     ensures { IfOk result (λ e. expr_view e ≡ tree.IsNone (expr_view operand)) }
 {
     Boxed::new(alloc, RExpr::IsNone(operand))
 }
 
 /// `o.offset(e)`.
-pub(crate) fn offset(
+pub fn offset(
     alloc: Global,
     left: Boxed<RExpr>,
     right: Boxed<RExpr>,
@@ -124,7 +121,7 @@ pub(crate) fn offset(
 
 /// `o.offset_from(e)`.
 #[tactic(auto, using(rs_tree::proofs::Opened::offset_from_view))]
-pub(crate) fn offset_from(
+pub fn offset_from(
     alloc: Global,
     left: Boxed<RExpr>,
     right: Boxed<RExpr>,
@@ -135,29 +132,21 @@ pub(crate) fn offset_from(
 }
 
 /// `o && o`.
-pub(crate) fn and(
-    alloc: Global,
-    left: Boxed<RExpr>,
-    right: Boxed<RExpr>,
-) -> Result<Boxed<RExpr>, Memory>
+pub fn and(alloc: Global, left: Boxed<RExpr>, right: Boxed<RExpr>) -> Result<Boxed<RExpr>, Memory>
     ensures { IfOk result (λ e. expr_view e ≡ tree.And (expr_view left) (expr_view right)) }
 {
     Boxed::new(alloc, RExpr::And(left, right))
 }
 
 /// `o || o`.
-pub(crate) fn or(
-    alloc: Global,
-    left: Boxed<RExpr>,
-    right: Boxed<RExpr>,
-) -> Result<Boxed<RExpr>, Memory>
+pub fn or(alloc: Global, left: Boxed<RExpr>, right: Boxed<RExpr>) -> Result<Boxed<RExpr>, Memory>
     ensures { IfOk result (λ e. expr_view e ≡ tree.Or (expr_view left) (expr_view right)) }
 {
     Boxed::new(alloc, RExpr::Or(left, right))
 }
 
 /// `o.wrapping_add(e)` and its like.
-pub(crate) fn wrapped(
+pub fn wrapped(
     alloc: Global,
     left: Boxed<RExpr>,
     operation: Wrapping,
@@ -169,7 +158,7 @@ pub(crate) fn wrapped(
 }
 
 /// `o op o`.
-pub(crate) fn binary(
+pub fn binary(
     alloc: Global,
     left: Boxed<RExpr>,
     operator: Operator,
@@ -182,7 +171,7 @@ pub(crate) fn binary(
 
 /// `if e { e } else { e }`.
 #[tactic(auto, using(rs_tree::proofs::Opened::choose_view))]
-pub(crate) fn choose(
+pub fn choose(
     alloc: Global,
     condition: Boxed<RExpr>,
     if_true: Boxed<RExpr>,
@@ -194,8 +183,60 @@ pub(crate) fn choose(
 }
 
 /// `*o`.
-pub(crate) fn target(alloc: Global, operand: Boxed<RExpr>) -> Result<Boxed<RPlace>, Memory>
+pub fn target(alloc: Global, operand: Boxed<RExpr>) -> Result<Boxed<RPlace>, Memory>
     ensures { IfOk result (λ p. place_view p ≡ tree.Deref (expr_view operand)) }
 {
     Boxed::new(alloc, RPlace::Deref(operand))
+}
+
+/// A parameter or a local.
+pub fn local(alloc: Global, name: Name) -> Result<Boxed<RPlace>, Memory>
+    ensures { IfOk result (λ p. place_view p ≡ tree.Local name) }
+{
+    Boxed::new(alloc, RPlace::Local(name))
+}
+
+/// A static object of a module.
+pub fn static_object(alloc: Global, path: RPath) -> Result<Boxed<RPlace>, Memory>
+    ensures { IfOk result (λ p. place_view p ≡ tree.Static path.home path.name) }
+{
+    Boxed::new(alloc, RPlace::Static(path))
+}
+
+/// `p.f`.
+pub fn field(alloc: Global, of: Boxed<RPlace>, name: Name) -> Result<Boxed<RPlace>, Memory>
+    ensures { IfOk result (λ p. place_view p ≡ tree.Field (place_view of) name) }
+{
+    Boxed::new(alloc, RPlace::Field(of, name))
+}
+
+/// `crate::m::x(e, e)`.
+pub fn call(alloc: Global, path: RPath, args: Items<RExpr>) -> Result<Boxed<RExpr>, Memory>
+    ensures { IfOk result (λ e. expr_view e ≡ tree.Call path.home path.name (exprs (map expr_view args))) }
+{
+    Boxed::new(alloc, RExpr::Call(path, args))
+}
+
+/// `o.unwrap()(e, e)`.
+pub fn call_by(
+    alloc: Global,
+    operand: Boxed<RExpr>,
+    args: Items<RExpr>,
+) -> Result<Boxed<RExpr>, Memory>
+    ensures { IfOk result (λ e. expr_view e ≡ tree.CallBy (expr_view operand) (exprs (map expr_view args))) }
+{
+    Boxed::new(alloc, RExpr::CallBy(operand, args))
+}
+
+/// `Some(crate::m::x as unsafe extern "C" fn(T) -> T)`.
+#[tactic(auto, using(rs_tree::proofs::Opened::some_view))]
+pub fn some_function(
+    alloc: Global,
+    path: RPath,
+    params: Items<RTy>,
+    given: Option<Boxed<RTy>>,
+) -> Result<Boxed<RExpr>, Memory>
+    ensures { IfOk result (λ e. expr_view e ≡ tree.SomeFunction path.home path.name (tys (map ty_view params)) (option_ty (option_map ty_view given))) }
+{
+    Boxed::new(alloc, RExpr::SomeFunction(path, params, given))
 }
