@@ -2,16 +2,15 @@ ghost use Rattle.std.specs.Prelude.{◌≡◌, ℕ, ◌==◌, if◌then◌else�
 ghost use Rattle.indexmap.specs.IndexMap.{get_by};
 ghost use Rattle.rs_items.specs.Known.{Begins, KeepsAll, KeepsOne, Names, same_named, view_field, view_known, view_names};
 ghost use Rattle.rs_items.specs.Known as known;
-ghost use Rattle.rs_items.specs.Names.{rust_name};
-ghost use Rattle.rs_items.specs.Sets.{begun, set_of, with_name};
+ghost use Rattle.rs_items_sets.specs.Names.{rust_name};
+ghost use Rattle.rs_items_sets.specs.Sets.{begun, set_of, with_name};
 ghost use Rattle.rs_items.specs.Walks.{with_field_names};
-ghost use Rattle.rs_items.specs.declared.scope.NameScope.TheVariants.{Fields};
+ghost use Rattle.rs_items_sets.specs.declared.scope.NameScope.TheVariants.{Fields};
 
 use crate::known::{Known, MemberField, Named};
-use crate::scope::NameScope;
-use crate::scopes::Scopes;
 use cr_base::{Items, Memory, Name};
 use indexmap::IndexMap;
+use rs_items_sets::{NameScope, Scopes};
 use std::alloc::Global;
 
 /// The names of a module of the written crate: those that are taken in it, in a function of it and among the fields of a record, and what the things of the C

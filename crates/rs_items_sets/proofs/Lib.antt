@@ -1,0 +1,5 @@
+pub mod FirstFree
+mod Found
+mod Pigeons
+pub mod Several
+mod Taken
