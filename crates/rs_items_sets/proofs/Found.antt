@@ -48,7 +48,7 @@ itself_first taken scope name one is =
 pub none_passed : (taken : List (List ℕ)) (scope : NameScope) (name : List ℕ) → ArePassed taken scope name 0
 none_passed taken scope name k low = absurd (omega (arith, low))
 
-behind : (taken : List (List ℕ)) (scope : NameScope) (name : List ℕ) (passed : ℕ) → IsGone taken (candidate scope name 0) → ArePassed taken scope name passed → AreGone taken scope name (suc passed)
+behind : (taken : List (List ℕ)) (scope : NameScope) (name : List ℕ) (passed : ℕ) → IsGone taken (candidate scope name 0) → ArePassed taken scope name passed → AreGone taken (candidate scope name) (suc passed)
 behind taken scope name passed first passes zero low = first
 behind taken scope name passed first passes (suc k) low = passes k (omega (arith, low))
 

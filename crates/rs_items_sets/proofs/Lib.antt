@@ -1,5 +1,7 @@
 pub mod FirstFree
 mod Found
-mod Pigeons
+pub mod Pigeons
+pub mod Search
 pub mod Several
+pub mod Suffixes
 mod Taken

@@ -55,15 +55,15 @@ abbrev pub name_or : Option (List ℕ) → List ℕ → List ℕ
 name_or None other = other
 name_or (Some name) other = name
 
--- the first free candidate from one number on, among so many
-abbrev pub first_free : List (List ℕ) → NameScope → List ℕ → (from : ℕ) → (count : ℕ) → List ℕ
-first_free taken scope name from zero = suffixed name from
-first_free taken scope name from (suc count) = name_or (free taken (candidate scope name from)) (first_free taken scope name (suc from) count)
+-- the first free candidate from one number on, among so many: no name where none of them is free
+abbrev pub first_free : List (List ℕ) → (candidates : ℕ → Option (List ℕ)) → (from : ℕ) → (count : ℕ) → List ℕ
+first_free taken candidates from zero = []
+first_free taken candidates from (suc count) = name_or (free taken (candidates from)) (first_free taken candidates (suc from) count)
 
 -- The Rust name of a C name in a set. Two candidates at most aren't there, and no more than all that are taken aren't free, so one of
 -- the first `length taken + 3` is.
 abbrev pub rust_name : List (List ℕ) → NameScope → List ℕ → List ℕ
-rust_name taken scope name = first_free taken scope name 0 (length taken + 3)
+rust_name taken scope name = first_free taken (candidate scope name) 0 (length taken + 3)
 
 -- ---- what that says
 
@@ -73,15 +73,19 @@ IsGone taken None = Unit {0}
 IsGone taken (Some name) = IsTrue (is_among taken name)
 
 -- the candidates before a number are gone
-abbrev pub AreGone : List (List ℕ) → NameScope → List ℕ → ℕ → Type 0
-AreGone taken scope name above = (k : ℕ) → k < above → IsGone taken (candidate scope name k)
+abbrev pub AreGone : List (List ℕ) → (candidates : ℕ → Option (List ℕ)) → ℕ → Type 0
+AreGone taken candidates above = (k : ℕ) → k < above → IsGone taken (candidates k)
 
 -- the first candidate that isn't taken
-pub record IsRustName (taken : List (List ℕ)) (scope : NameScope) (c_name name : List ℕ) : Type 0 where
+pub record IsFirstFree (taken : List (List ℕ)) (candidates : ℕ → Option (List ℕ)) (name : List ℕ) : Type 0 where
   pub number : ℕ
-  pub is : candidate scope c_name number ≡ Some name
+  pub is : candidates number ≡ Some name
   pub free : IsTrue (not (is_among taken name))
-  pub first : AreGone taken scope c_name number
+  pub first : AreGone taken candidates number
+
+-- the first candidate for a name of C that isn't taken
+abbrev pub IsRustName : List (List ℕ) → NameScope → (c_name name : List ℕ) → Type 0
+IsRustName taken scope c_name name = IsFirstFree taken (candidate scope c_name) name
 
 -- ---- several names
 

@@ -41,7 +41,8 @@ pub(crate) fn with_suffix(
     Ok(Some(bytes))
 }
 
-fn suffixed(alloc: Global, name: &[u8], number: u64) -> Result<Vec<u8>, Memory>
+/// A name with a number behind `_`.
+pub fn suffixed(alloc: Global, name: &[u8], number: u64) -> Result<Vec<u8>, Memory>
     ensures { IfOk result (λ bytes. bytes.items ≡ suffixed name.now number) }
 {
     let suffix = format!(in alloc; "_{number}")?;

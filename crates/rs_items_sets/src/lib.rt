@@ -9,6 +9,8 @@ mod scopes;
 mod sets;
 mod words;
 
+pub use candidates::suffixed;
 pub use laws::{names_are_first, names_differ};
 pub use scope::NameScope;
 pub use scopes::Scopes;
+pub use words::{is_keyword, is_path_word, is_reserved};

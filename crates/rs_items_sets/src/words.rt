@@ -81,22 +81,25 @@ const RESERVED: [&[u8]; 19] = [
     b"bool",
 ];
 
+/// Whether a name is no identifier, also behind `r#`.
 #[tactic(auto, unfolding(rs_text::specs::Names::path_words))]
-pub(crate) fn is_path_word(name: &[u8]) -> bool
+pub fn is_path_word(name: &[u8]) -> bool
     ensures { result ≡ is_among path_words name.now }
 {
     is_among(&PATH_WORDS, name)
 }
 
+/// Whether a name is a keyword of Rust, one that is reserved too.
 #[tactic(auto, unfolding(rs_text::specs::Names::keywords))]
-pub(crate) fn is_keyword(name: &[u8]) -> bool
+pub fn is_keyword(name: &[u8]) -> bool
     ensures { result ≡ is_among keywords name.now }
 {
     is_among(&KEYWORDS, name)
 }
 
+/// Whether a name has a meaning of its own in a written crate.
 #[tactic(auto, unfolding(crate::specs::Names::reserved))]
-pub(crate) fn is_reserved(name: &[u8]) -> bool
+pub fn is_reserved(name: &[u8]) -> bool
     ensures { result ≡ is_among reserved name.now }
 {
     is_among(&RESERVED, name)
