@@ -1,3 +1,4 @@
 mod Aligns
 mod Kept
+mod Lefts
 mod TypeLists

@@ -1,4 +1,5 @@
 pub mod Known
+pub mod Laid
 pub mod Records
 pub mod Types
 pub mod Walks

@@ -94,6 +94,7 @@ impl NameMap {
     pub(crate) fn field_name(&mut self, wanted: &Name) -> Result<Name, Memory>
         ensures name { IfOk result (λ name. name ≡ rust_name self.old.scopes.field_names Fields wanted.now) }
         ensures taken { IfOk result (λ name. self.new ≡ with_field_names self.old (self.old.scopes.field_names ++ name ∷ [])) }
+        ensures rest { self.new ≡ with_field_names self.old self.new.scopes.field_names }
     {
         self.scopes
             .rust_name(self.alloc, NameScope::Fields, wanted.bytes())
@@ -114,6 +115,7 @@ impl NameMap {
     ) -> Result<(), Memory>
         ensures fields { OnOk result ((other : ℕ) → (view_names self.new).fields other ≡
             if other == number then Some (map view_field members) else (view_names self.old).fields other) }
+        ensures err { OnErr result ((other : ℕ) → (view_names self.new).fields other ≡ (view_names self.old).fields other) }
         ensures rest { self.new ≡ record self.old { fields = self.new.fields } }
     {
         self.fields.insert(number, members)?;
