@@ -2,3 +2,4 @@ mod Aligns
 mod Kept
 mod Lefts
 mod TypeLists
+mod Worked

@@ -5,3 +5,4 @@ pub mod Search
 pub mod Several
 pub mod Suffixes
 mod Taken
+mod Worked
