@@ -1,8 +1,5 @@
 mod Aligns
-pub mod FirstFree
-mod Found
 mod Kept
-mod Pigeons
-pub mod Several
-mod Taken
+mod Lefts
 mod TypeLists
+mod Worked

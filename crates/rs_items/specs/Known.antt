@@ -1,14 +1,14 @@
 -- What the things of a C program have become in a written crate.
 use Rattle.std.specs.Prelude.{◌≡◌, ℕ, ◌==◌, Bool, true, false, if◌then◌else◌, List, map, Option, Some, None, option_map}
 use Rattle.indexmap.specs.IndexMap.{IndexMap, get_by}
-use Rattle.rs_items.specs.Sets.{TakenNames}
+use Rattle.rs_items_sets.specs.Sets.{TakenNames}
 use Rattle.rs_items.specs.declared.known.Known.{Known}
 use Rattle.rs_items.specs.declared.known.Named.{Named}
 use Rattle.rs_items.specs.declared.known.Named.TheVariants.{Object, Function, Record, Enum, Temporary, Result}
 use Rattle.rs_items.specs.declared.known.MemberField.{MemberField as FieldOfMember}
 use Rattle.rs_items.specs.declared.map.NameMap.{NameMap}
-use Rattle.rs_items.specs.declared.scope.NameScope.{NameScope}
-use Rattle.rs_items.specs.declared.scope.NameScope.TheVariants.{Module, Fields, Function as FunctionNames}
+use Rattle.rs_items_sets.specs.declared.scope.NameScope.{NameScope}
+use Rattle.rs_items_sets.specs.declared.scope.NameScope.TheVariants.{Module, Fields, Function as FunctionNames}
 use Rattle.rs_text.specs.Tree.{Ty}
 use Rattle.rs_tree.specs.Views.{ty_view}
 

@@ -1,8 +1,5 @@
 pub mod Known
-pub mod LawsNames
-pub mod Names
+pub mod Laid
 pub mod Records
-pub mod Scopes
-pub mod Sets
 pub mod Types
 pub mod Walks

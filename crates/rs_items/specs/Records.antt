@@ -7,10 +7,10 @@ use Rattle.cx_core.specs.Trees.{CTy, ty, CTyForm, void, basic, enum_type, pointe
 use Rattle.rs_text.specs.Tree.{Ty, Integer, Array, FieldTree, RecordTree}
 use Rattle.rs_text.specs.declared.integer.IntegerTy.TheVariants.{U8}
 use Rattle.rs_items.specs.Known.{KnownThing, Knows, MemberField}
-use Rattle.rs_items.specs.Names.{rust_name}
+use Rattle.rs_items_sets.specs.Names.{rust_name}
 use Rattle.rs_items.specs.Types.{path_in, rust_type, type_names}
 use Rattle.rs_items.specs.declared.known.Named.TheVariants.{Record as RecordNamed}
-use Rattle.rs_items.specs.declared.scope.NameScope.TheVariants.{Fields}
+use Rattle.rs_items_sets.specs.declared.scope.NameScope.TheVariants.{Fields}
 use Rattle.rs_tree.specs.declared.ty.RPath.{RPath}
 
 -- ---- sizes and alignments

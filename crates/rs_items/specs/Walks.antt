@@ -10,6 +10,10 @@ use Rattle.rs_tree.specs.Views.{field_view}
 abbrev pub with_field_names : NameMap → List (List ℕ) → NameMap
 with_field_names names taken = record names { scopes = record names.scopes { field_names = taken } }
 
+-- names with what others have of fields: the names that are taken among those, and the fields of records
+abbrev pub with_fields_of : (names others : NameMap) → NameMap
+with_fields_of names others = record names { scopes = record names.scopes { field_names = others.scopes.field_names }; fields = others.fields }
+
 abbrev pub view_walk : List (List ℕ) → Walk → FieldsWalk
 view_walk taken walk = record {
   taken = walk.taken;

@@ -1,24 +1,17 @@
-//! The names of the things of a written crate, and what each of them has become: names of modules' items, of locals and of fields, the Rust
-//! types of C types, and the records that structures and unions are written as (ISO C99, 6.2.1, 6.2.3, 6.7.2.1; the Rust Reference,
-//! "Identifiers", "Keywords" and "The C representation").
+//! What each thing of a C program has become in a written crate: its name in the module, function or record that has it, the Rust types of C
+//! types, and the records that structures and unions are written as (ISO C99, 6.2.1, 6.2.3, 6.7.2.1; the Rust Reference, "Type system" and
+//! "The C representation").
 #![tactic(auto)]
 
-mod candidates;
 mod known;
-mod laws;
 mod map;
 mod records;
-mod scope;
-mod scopes;
-mod sets;
 mod sizes;
 mod types;
 mod walk;
-mod words;
 
 pub use known::{Known, MemberField, Named};
-pub use laws::{names_are_first, names_differ};
 pub use map::NameMap;
 pub use records::record_item;
-pub use scope::NameScope;
+pub use rs_items_sets::{NameScope, names_are_first, names_differ};
 pub use types::rust_type;

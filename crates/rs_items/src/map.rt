@@ -2,16 +2,15 @@ ghost use Rattle.std.specs.Prelude.{◌≡◌, ℕ, ◌==◌, if◌then◌else�
 ghost use Rattle.indexmap.specs.IndexMap.{get_by};
 ghost use Rattle.rs_items.specs.Known.{Begins, KeepsAll, KeepsOne, Names, same_named, view_field, view_known, view_names};
 ghost use Rattle.rs_items.specs.Known as known;
-ghost use Rattle.rs_items.specs.Names.{rust_name};
-ghost use Rattle.rs_items.specs.Sets.{begun, set_of, with_name};
+ghost use Rattle.rs_items_sets.specs.Names.{rust_name};
+ghost use Rattle.rs_items_sets.specs.Sets.{begun, set_of, with_name};
 ghost use Rattle.rs_items.specs.Walks.{with_field_names};
-ghost use Rattle.rs_items.specs.declared.scope.NameScope.TheVariants.{Fields};
+ghost use Rattle.rs_items_sets.specs.declared.scope.NameScope.TheVariants.{Fields};
 
 use crate::known::{Known, MemberField, Named};
-use crate::scope::NameScope;
-use crate::scopes::Scopes;
 use cr_base::{Items, Memory, Name};
 use indexmap::IndexMap;
+use rs_items_sets::{NameScope, Scopes};
 use std::alloc::Global;
 
 /// The names of a module of the written crate: those that are taken in it, in a function of it and among the fields of a record, and what the things of the C
@@ -95,6 +94,7 @@ impl NameMap {
     pub(crate) fn field_name(&mut self, wanted: &Name) -> Result<Name, Memory>
         ensures name { IfOk result (λ name. name ≡ rust_name self.old.scopes.field_names Fields wanted.now) }
         ensures taken { IfOk result (λ name. self.new ≡ with_field_names self.old (self.old.scopes.field_names ++ name ∷ [])) }
+        ensures rest { self.new ≡ with_field_names self.old self.new.scopes.field_names }
     {
         self.scopes
             .rust_name(self.alloc, NameScope::Fields, wanted.bytes())
@@ -115,6 +115,7 @@ impl NameMap {
     ) -> Result<(), Memory>
         ensures fields { OnOk result ((other : ℕ) → (view_names self.new).fields other ≡
             if other == number then Some (map view_field members) else (view_names self.old).fields other) }
+        ensures err { OnErr result ((other : ℕ) → (view_names self.new).fields other ≡ (view_names self.old).fields other) }
         ensures rest { self.new ≡ record self.old { fields = self.new.fields } }
     {
         self.fields.insert(number, members)?;

@@ -1,12 +1,15 @@
 //! The record of a structure or union.
 
-ghost use Rattle.std.specs.Prelude.{◌≡◌, ℕ, ◌==◌, if◌then◌else◌, [], Some, map, IfOk, OnOk};
+ghost use Rattle.std.specs.Prelude.{◌≡◌, ℕ, ◌==◌, if◌then◌else◌, [], Some, map, IfOk, OnErr, OnOk};
 ghost use Rattle.cx_core.specs.Views.{view_member, view_record};
 ghost use Rattle.rs_items.specs.Known.{view_names};
+ghost use Rattle.rs_items.specs.Laid.{IsLaidOut};
 ghost use Rattle.rs_items.specs.Records.{fields_walk, no_fields, path_name, placed_members, record_name, record_tree, record_walk, struct_end, struct_walk, union_walk};
 ghost use Rattle.rs_items.specs.Types.{path_in};
-ghost use Rattle.rs_items.specs.Walks.{view_walk, with_field_names};
+ghost use Rattle.rs_items.specs.Walks.{view_walk, with_field_names, with_fields_of};
 ghost use Rattle.rs_items.specs.declared.known.Named.TheVariants as named;
+ghost use Rattle.rs_items_sets.specs.Sets.{begun};
+ghost use Rattle.rs_items_sets.specs.declared.scope.NameScope.TheVariants.{Fields};
 ghost use Rattle.rs_text.specs.Tree as tree;
 ghost use Rattle.rs_tree.specs.Views.{item_view, ty_view};
 
@@ -20,23 +23,48 @@ use rs_tree::{Item, RTy, Record};
 use std::alloc::Global;
 
 /// The record of a completed structure or union, which is kept with its path, where its members stand at these spots and it has this size and alignment. Its
-/// fields get their names in a set of their own, and are kept. Refused only for want of memory.
+/// fields get their names in a set of their own, and are kept. Refused only for want of memory; then no name is taken among those of fields.
 pub fn record_item(
     alloc: Global,
     r: &RecordTy,
     spots: &[Spot],
-    _size: u64,
+    size: u64,
+    align: u64,
+    names: &mut NameMap,
+) -> Result<Item, Memory>
+    requires { IsLaidOut (view_record r.now) spots.now size align }
+    ensures item { IfOk result (λ item. item_view item ≡ tree.RecordItem (record_tree (view_names names.old).known (view_record r.now) spots.now align)) }
+    ensures fields { OnOk result ((number : ℕ) → (view_names names.new).fields number ≡
+        if number == r.now.number then Some (fields_walk (view_names names.old).known (view_record r.now) spots.now).members else (view_names names.old).fields number) }
+    ensures no_fields { OnErr result ((number : ℕ) → (view_names names.new).fields number ≡ (view_names names.old).fields number) }
+    ensures taken { OnOk result ((view_names names.new).taken ≡
+        record (view_names names.old).taken { field_names = (fields_walk (view_names names.old).known (view_record r.now) spots.now).names }) }
+    ensures no_names { OnErr result ((view_names names.new).taken ≡ begun Fields (view_names names.old).taken) }
+    ensures known { (view_names names.new).known ≡ (view_names names.old).known }
+    ensures unit { (view_names names.new).unit ≡ (view_names names.old).unit }
+    ensures bits { (view_names names.new).has_bits ≡ (view_names names.old).has_bits }
+{
+    let made = record_of(alloc, r, spots, align, names);
+    if made.is_err() {
+        names.begin_fields();
+    }
+    made
+}
+
+// The same, whatever spots and alignment these are.
+fn record_of(
+    alloc: Global,
+    r: &RecordTy,
+    spots: &[Spot],
     align: u64,
     names: &mut NameMap,
 ) -> Result<Item, Memory>
     ensures item { IfOk result (λ item. item_view item ≡ tree.RecordItem (record_tree (view_names names.old).known (view_record r.now) spots.now align)) }
     ensures fields { OnOk result ((number : ℕ) → (view_names names.new).fields number ≡
         if number == r.now.number then Some (fields_walk (view_names names.old).known (view_record r.now) spots.now).members else (view_names names.old).fields number) }
-    ensures taken { OnOk result ((view_names names.new).taken ≡
-        record (view_names names.old).taken { field_names = (fields_walk (view_names names.old).known (view_record r.now) spots.now).names }) }
-    ensures known { OnOk result ((view_names names.new).known ≡ (view_names names.old).known) }
-    ensures unit { OnOk result ((view_names names.new).unit ≡ (view_names names.old).unit) }
-    ensures bits { OnOk result ((view_names names.new).has_bits ≡ (view_names names.old).has_bits) }
+    ensures err { OnErr result ((number : ℕ) → (view_names names.new).fields number ≡ (view_names names.old).fields number) }
+    ensures taken { OnOk result (names.new.scopes.field_names ≡ (fields_walk (view_names names.old).known (view_record r.now) spots.now).names) }
+    ensures rest { names.new ≡ with_fields_of names.old names.new }
 {
     let Walk {
         fields,
@@ -62,7 +90,7 @@ fn walk_all(
     spots: &[Spot],
     names: &mut NameMap,
 ) -> Result<Walk, Memory>
-    ensures rest { OnOk result (names.new ≡ with_field_names names.old names.new.scopes.field_names) }
+    ensures rest { names.new ≡ with_field_names names.old names.new.scopes.field_names }
     ensures walk { IfOk result (λ walk. view_walk names.new.scopes.field_names walk ≡
         record_walk is_union (placed_members (view_names names.old).known (map view_member members.now) spots.now)) }
 {
@@ -82,7 +110,7 @@ fn walk_union(
     names: &mut NameMap,
 ) -> Result<Walk, Memory>
     requires { names.old.scopes.field_names ≡ [] }
-    ensures rest { OnOk result (names.new ≡ with_field_names names.old names.new.scopes.field_names) }
+    ensures rest { names.new ≡ with_field_names names.old names.new.scopes.field_names }
     ensures walk { IfOk result (λ walk. view_walk names.new.scopes.field_names walk ≡
         union_walk no_fields (placed_members (view_names names.old).known (map view_member members.now) spots.now)) }
 {
@@ -106,7 +134,7 @@ fn walk_struct(
     names: &mut NameMap,
 ) -> Result<Walk, Memory>
     requires { names.old.scopes.field_names ≡ [] }
-    ensures rest { OnOk result (names.new ≡ with_field_names names.old names.new.scopes.field_names) }
+    ensures rest { names.new ≡ with_field_names names.old names.new.scopes.field_names }
     ensures walk { IfOk result (λ walk. view_walk names.new.scopes.field_names walk ≡
         struct_end (struct_walk no_fields (placed_members (view_names names.old).known (map view_member members.now) spots.now))) }
 {
@@ -123,7 +151,7 @@ fn walk_members(
     names: &mut NameMap,
 ) -> Result<Walk, Memory>
     requires { names.old.scopes.field_names ≡ [] }
-    ensures rest { OnOk result (names.new ≡ with_field_names names.old names.new.scopes.field_names) }
+    ensures rest { names.new ≡ with_field_names names.old names.new.scopes.field_names }
     ensures walk { IfOk result (λ walk. view_walk names.new.scopes.field_names walk ≡
         struct_walk no_fields (placed_members (view_names names.old).known (map view_member members.now) spots.now)) }
 {

@@ -49,7 +49,7 @@ impl Walk {
         ty: Boxed<RTy>,
         names: &mut NameMap,
     ) -> Result<Name, Memory>
-        ensures rest { OnOk result (names.new ≡ with_field_names names.old names.new.scopes.field_names) }
+        ensures rest { names.new ≡ with_field_names names.old names.new.scopes.field_names }
         ensures walk { OnOk result (view_walk names.new.scopes.field_names self.new ≡ put_field (view_walk names.old.scopes.field_names self.old) wanted.now (ty_view ty)) }
         ensures name { IfOk result (λ name. name ≡ field_name (view_walk names.old.scopes.field_names self.old) wanted.now) }
     {
@@ -61,7 +61,7 @@ impl Walk {
 
     // So many bytes, in which bit-fields stand: no field where there are none.
     fn put_bytes(&mut self, alloc: Global, count: u64, names: &mut NameMap) -> Result<(), Memory>
-        ensures rest { OnOk result (names.new ≡ with_field_names names.old names.new.scopes.field_names) }
+        ensures rest { names.new ≡ with_field_names names.old names.new.scopes.field_names }
         ensures walk { OnOk result (view_walk names.new.scopes.field_names self.new ≡ put_bytes (view_walk names.old.scopes.field_names self.old) count) }
     {
         if count == 0 {
@@ -81,7 +81,7 @@ impl Walk {
         spot: Spot,
         names: &mut NameMap,
     ) -> Result<(), Memory>
-        ensures rest { OnOk result (names.new ≡ with_field_names names.old names.new.scopes.field_names) }
+        ensures rest { names.new ≡ with_field_names names.old names.new.scopes.field_names }
         ensures walk { OnOk result (view_walk names.new.scopes.field_names self.new ≡
             put_member (view_walk names.old.scopes.field_names self.old) (placed_member (view_names names.old).known (view_member one.now) spot)) }
     {
@@ -106,7 +106,7 @@ impl Walk {
         spot: Spot,
         names: &mut NameMap,
     ) -> Result<(), Memory>
-        ensures rest { OnOk result (names.new ≡ with_field_names names.old names.new.scopes.field_names) }
+        ensures rest { names.new ≡ with_field_names names.old names.new.scopes.field_names }
         ensures walk { OnOk result (view_walk names.new.scopes.field_names self.new ≡
             struct_step (view_walk names.old.scopes.field_names self.old) (placed_member (view_names names.old).known (view_member one.now) spot)) }
     {
@@ -124,7 +124,7 @@ impl Walk {
         spot: Spot,
         names: &mut NameMap,
     ) -> Result<(), Memory>
-        ensures rest { OnOk result (names.new ≡ with_field_names names.old names.new.scopes.field_names) }
+        ensures rest { names.new ≡ with_field_names names.old names.new.scopes.field_names }
         ensures walk { OnOk result (view_walk names.new.scopes.field_names self.new ≡
             filled (put_member (struct_end (view_walk names.old.scopes.field_names self.old)) (placed_member (view_names names.old).known (view_member one.now) spot))
             (spot.byte + size_of (view_names names.old).known (view_member one.now).type)) }
@@ -150,7 +150,7 @@ impl Walk {
     /// Bit-fields at the end of a structure, or in front of a member that is none.
     #[tactic(auto, unfolding(crate::specs::Records::struct_end))]
     pub(crate) fn struct_end(&mut self, alloc: Global, names: &mut NameMap) -> Result<(), Memory>
-        ensures rest { OnOk result (names.new ≡ with_field_names names.old names.new.scopes.field_names) }
+        ensures rest { names.new ≡ with_field_names names.old names.new.scopes.field_names }
         ensures walk { OnOk result (view_walk names.new.scopes.field_names self.new ≡ struct_end (view_walk names.old.scopes.field_names self.old)) }
     {
         self.put_bytes(alloc, self.due.saturating_sub(self.taken), names)
@@ -164,7 +164,7 @@ impl Walk {
         spot: Spot,
         names: &mut NameMap,
     ) -> Result<(), Memory>
-        ensures rest { OnOk result (names.new ≡ with_field_names names.old names.new.scopes.field_names) }
+        ensures rest { names.new ≡ with_field_names names.old names.new.scopes.field_names }
         ensures walk { OnOk result (view_walk names.new.scopes.field_names self.new ≡
             union_step (view_walk names.old.scopes.field_names self.old) (placed_member (view_names names.old).known (view_member one.now) spot)) }
     {

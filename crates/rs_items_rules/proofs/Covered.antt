@@ -11,9 +11,9 @@ use Rattle.cr_base.specs.declared.layout.Spot.{Spot}
 use Rattle.cr_base.specs.Layout.{after, after_all, bits_start, most_bytes, no_front, spot, spots_behind, spots_of}
 use Rattle.cx_core.specs.Trees.{CMember, CTy}
 use Rattle.rs_items.specs.Known.{Knows}
-use Rattle.rs_items.specs.Names.{rust_name}
+use Rattle.rs_items_sets.specs.Names.{rust_name}
 use Rattle.rs_items.specs.Records.{FieldsWalk, PlacedMember, member_name, no_fields, placed_member, placed_members, put_bytes, put_field, put_member, reached, record_walk, struct_end, struct_step, struct_walk, union_step, union_walk, whole_bytes}
-use Rattle.rs_items.specs.declared.scope.NameScope.TheVariants.{Fields}
+use Rattle.rs_items_sets.specs.declared.scope.NameScope.TheVariants.{Fields}
 use Rattle.rs_items_rules.proofs.Found.{AreNamed, found_last, found_stays, name_free, named_fewer}
 use Rattle.rs_items_rules.proofs.Parts.{Parts, bytes_laid, front, member, plain_align}
 use Rattle.rs_items_rules.proofs.Parts.Parts.{no_part, plain_part, bits_part}

@@ -9,11 +9,11 @@ use Rattle.cr_base.specs.Layout.{no_front, spot}
 use Rattle.cr_base.specs.declared.layout.Front.{Front}
 use Rattle.cr_base.specs.declared.layout.Laid.{Laid}
 use Rattle.rs_items.specs.Known.{MemberField}
-use Rattle.rs_items.specs.Names.{rust_name}
+use Rattle.rs_items_sets.specs.Names.{rust_name}
 use Rattle.rs_items.specs.Records.{FieldsWalk, put_field}
-use Rattle.rs_items.specs.declared.scope.NameScope.TheVariants.{Fields}
-use Rattle.rs_items.proofs.FirstFree.{names_first}
-use Rattle.rs_items.proofs.Several.{differ_last}
+use Rattle.rs_items_sets.specs.declared.scope.NameScope.TheVariants.{Fields}
+use Rattle.rs_items_sets.proofs.FirstFree.{names_first}
+use Rattle.rs_items_sets.proofs.Several.{differ_last}
 use Rattle.rs_items_rules.specs.LawsRecords.{StandsIn}
 use Rattle.rs_mean.specs.Layout.{FieldPlace, behind, field_behind, front_after, piece_of, placed}
 use Rattle.rs_text.specs.Names.{is_among}

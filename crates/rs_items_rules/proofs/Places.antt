@@ -9,9 +9,9 @@ use Rattle.cr_base.specs.declared.layout.Spot.{Spot}
 use Rattle.cr_base.specs.Layout.{after, after_all, most_bytes, no_front, spot, spots_behind, spots_of}
 use Rattle.cx_core.specs.Trees.{CMember, CTy}
 use Rattle.rs_items.specs.Known.{Knows, MemberField}
-use Rattle.rs_items.specs.Names.{rust_name}
+use Rattle.rs_items_sets.specs.Names.{rust_name}
 use Rattle.rs_items.specs.Records.{FieldsWalk, PlacedMember, member_name, no_fields, placed_member, placed_members, put_bytes, put_field, put_member, record_walk, struct_end, struct_step, struct_walk, union_step, union_walk, whole_bytes}
-use Rattle.rs_items.specs.declared.scope.NameScope.TheVariants.{Fields}
+use Rattle.rs_items_sets.specs.declared.scope.NameScope.TheVariants.{Fields}
 use Rattle.rs_items_rules.proofs.Found.{AllStand, AreNamed, found_last, name_free, named_fewer, named_more, still_stand}
 use Rattle.rs_items_rules.proofs.Parts.{Parts, front, member}
 use Rattle.rs_items_rules.proofs.Parts.Parts.{no_part, plain_part, bits_part}

@@ -2,8 +2,8 @@
 use Rattle.std.proofs.Common.{◌≡◌, ℕ, zero, suc, List, [], ◌∷◌, ◌++◌, refl, sym, ap, ◌∙◌, append-nil, append_assoc}
 use Rattle.std.specs.Prelude.{flat_map, codes}
 use Rattle.cx_core.specs.Trees.{CFun}
-use Rattle.rs_items.specs.Names.{rust_name}
-use Rattle.rs_items.specs.declared.scope.NameScope.TheVariants.{Function}
+use Rattle.rs_items_sets.specs.Names.{rust_name}
+use Rattle.rs_items_sets.specs.declared.scope.NameScope.TheVariants.{Function}
 use Rattle.rs_text.specs.Tree.{LocalTree}
 use Rattle.whole_items.specs.Items.{WrittenBody, count_of, function_tree, names_of_body, param_of}
 use Rattle.whole_items.specs.Laws.{BodiesAreInside}

@@ -8,7 +8,7 @@ use Rattle.cx_core.specs.declared.program.Linkage.TheVariants.{External, Nothing
 use Rattle.cx_core.specs.declared.ty.Basic.TheVariants.{Char, Int}
 use Rattle.cx_core.specs.Layouts.{layouts_of}
 use Rattle.cx_core.specs.Trees.{CTy, ty, basic, array, record_type, function, listed, no_types, more_types, CExpr, expr, whole, call, no_exprs, more_exprs, CPut, put, CPuts, no_puts, more_puts, CStmt, stmt, expression, block, no_stmts, more_stmts, CMember, CRecord, CObject, CFun, CProgram, a_function, an_object}
-use Rattle.rs_items.specs.Names.{reserved}
+use Rattle.rs_items_sets.specs.Names.{reserved}
 use Rattle.rs_items.specs.Records.{struct_end, struct_step}
 use Rattle.rs_text.specs.declared.attribute.Attribute.TheVariants.{Mangled, NoMangle, ExportName}
 use Rattle.rs_text.specs.declared.integer.IntegerTy.TheVariants.{I8, I32, U8}

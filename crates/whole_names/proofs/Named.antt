@@ -2,10 +2,10 @@
 use Rattle.std.proofs.Common.{◌≡◌, ℕ, true, List, [], ◌∷◌, ◌++◌, map, refl, sym, ap, ◌∙◌, subst, append_assoc, append-nil}
 use Rattle.std.specs.List.{list_all}
 use Rattle.cx_core.specs.Trees.{CFun, CProgram}
-use Rattle.rs_items.specs.LawsNames.{AreFewWith, NamesDiffer}
-use Rattle.rs_items.specs.Names.{names_from, rust_name}
-use Rattle.rs_items.specs.declared.scope.NameScope.TheVariants.{Module, Function}
-use Rattle.rs_items.proofs.Several.{names_differ}
+use Rattle.rs_items_sets.specs.LawsNames.{AreFewWith, NamesDiffer}
+use Rattle.rs_items_sets.specs.Names.{names_from, rust_name}
+use Rattle.rs_items_sets.specs.declared.scope.NameScope.TheVariants.{Module, Function}
+use Rattle.rs_items_sets.proofs.Several.{names_differ}
 use Rattle.rs_text.specs.Names.{is_identifier}
 use Rattle.rs_text.specs.Valid.{all_differ}
 use Rattle.whole_names.specs.FunctionNames.{LocalName, WantedLocal, locals_from, wanted_in}

@@ -7,7 +7,7 @@ use Rattle.cr_base.specs.declared.refusal.Place.{Place}
 use Rattle.cx_core.specs.declared.program.Linkage.TheVariants.{External, Internal, Nothing}
 use Rattle.cx_core.specs.declared.ty.Basic.TheVariants.{Char, Int}
 use Rattle.cx_core.specs.Trees.{CTy, ty, void, basic, array, record_type, function, listed, no_types, more_types, CPuts, no_puts, CStmt, stmt, block, begin, no_stmts, more_stmts, CRecord, CTypes, CObject, CFun, COuter, CProgram, CKey, a_function, an_object}
-use Rattle.rs_items.specs.Names.{reserved}
+use Rattle.rs_items_sets.specs.Names.{reserved}
 use Rattle.rs_text.specs.Names.{keywords, path_words}
 use Rattle.whole_names.specs.FunctionNames.{LocalName, local_names}
 use Rattle.rs_items.specs.Known.{KnownThing}

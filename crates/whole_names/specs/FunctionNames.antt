@@ -5,8 +5,8 @@ use Rattle.std.specs.List.{list_any}
 use Rattle.cx_core.specs.Statements.{objects_in}
 use Rattle.cx_core.specs.Trees.{CTy, form_of_type, CTyForm, void, basic, enum_type, pointer, array, record_type, function, CObject, CFun, CProgram}
 use Rattle.cx_core.specs.Typing.{object_with}
-use Rattle.rs_items.specs.Names.{rust_name}
-use Rattle.rs_items.specs.declared.scope.NameScope.TheVariants.{Function}
+use Rattle.rs_items_sets.specs.Names.{rust_name}
+use Rattle.rs_items_sets.specs.declared.scope.NameScope.TheVariants.{Function}
 use Rattle.whole_names.specs.ModuleNames.{name_or, taken_names}
 
 -- what gets a name in a function

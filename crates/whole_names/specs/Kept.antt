@@ -8,7 +8,7 @@ use Rattle.cx_core.specs.Layouts.{extent, layouts_of}
 use Rattle.cx_core.specs.Trees.{CTy, ty, CTyForm, pointer, record_type, CRecord, CObject, CFun, COuter, CProgram}
 use Rattle.cx_core.specs.Typing.{function_with, outer_with, object_with}
 use Rattle.rs_items.specs.Known.{KnownThing, Names}
-use Rattle.rs_items.specs.Sets.{TakenNames}
+use Rattle.rs_items_sets.specs.Sets.{TakenNames}
 use Rattle.rs_items.specs.Types.{TypeNames, rust_type, record_or_void}
 use Rattle.rs_items.specs.declared.known.Named.{Named}
 use Rattle.rs_items.specs.declared.known.Named.TheVariants.{Object, Function, Record, Enum, Temporary, Result}

@@ -2,7 +2,7 @@
 use Rattle.std.specs.Prelude.{◌≡◌, ℕ, true, List, ◌++◌, map}
 use Rattle.std.specs.List.{list_all}
 use Rattle.cx_core.specs.Trees.{CFun, CProgram}
-use Rattle.rs_items.specs.LawsNames.{AreFewWith}
+use Rattle.rs_items_sets.specs.LawsNames.{AreFewWith}
 use Rattle.rs_text.specs.Names.{is_word, is_identifier}
 use Rattle.rs_text.specs.Valid.{all_differ}
 use Rattle.whole_names.specs.FunctionNames.{LocalName, WantedLocal, wanted_in, local_names}

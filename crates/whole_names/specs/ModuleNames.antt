@@ -2,8 +2,8 @@
 use Rattle.std.specs.Prelude.{ℕ, Bool, true, false, List, [], ◌∷◌, ◌++◌, Option, Some, None, codes, if◌then◌else◌, slice_get}
 use Rattle.cx_core.specs.Trees.{CRecordTag, CObject, CFun, COuter, CProgram}
 use Rattle.cx_core.specs.Typing.{function_with, outer_with, object_with}
-use Rattle.rs_items.specs.Names.{rust_name}
-use Rattle.rs_items.specs.declared.scope.NameScope.TheVariants.{Module}
+use Rattle.rs_items_sets.specs.Names.{rust_name}
+use Rattle.rs_items_sets.specs.declared.scope.NameScope.TheVariants.{Module}
 use Rattle.whole_names.specs.Keys.{NameKey, a_function, an_object, a_record, a_calloc, a_bare_function, same_key, module_keys, entries_of}
 
 -- ---- the names that are wanted

@@ -1,5 +1,0 @@
-use Rattle.rs_items.proofs.FirstFree.{names_first}
-use Rattle.rs_items.proofs.laws.names_are_first.Goals as goal
-
-pub returns : goal.returns
-returns c = names_first

@@ -1,0 +1,4 @@
+mod Firsts
+mod Several
+mod Valid
+mod Worked

@@ -1,0 +1,2 @@
+pub mod LawsModules
+pub mod Modules

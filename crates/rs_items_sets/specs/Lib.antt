@@ -1,0 +1,4 @@
+pub mod LawsNames
+pub mod Names
+pub mod Scopes
+pub mod Sets
