@@ -1,10 +1,11 @@
 -- What the things that an expression of C names have become in the crate (ISO C99, 6.2.1; the Rust Reference, "Paths").
-use Rattle.std.specs.Prelude.{ℕ, ◌==◌, ◌&&◌, Bool, true, false, if◌then◌else◌, List, [], ◌∷◌, Option, Some, None}
+use Rattle.std.specs.Prelude.{ℕ, Bool, List, [], Option, Some, None}
+use Rattle.std.specs.Option.{option_and_then}
 use Rattle.cx_core.specs.Trees.{CTy, CTyForm, void, basic, enum_type, pointer, array, record_type, function, form_of_type}
 use Rattle.lift_forms.specs.Places.{Kept}
 use Rattle.rs_items.specs.Known.{MemberField}
 use Rattle.rs_items.specs.Types.{TypeNames, rust_type}
-use Rattle.rs_mean.specs.Scalars.{same_type}
+use Rattle.rs_items_fields.specs.Fields.{name_at}
 use Rattle.rs_text.specs.Tree.{Ty, Integer, Boolean, Void, Pointer, Array, Code, Record, Tys, no_tys, more_tys, OptionTy, no_ty, some_ty, Place, Local}
 
 -- a function, as an item of the crate
@@ -58,18 +59,9 @@ number_in_form _ = 0
 abbrev pub record_number : CTy → ℕ
 record_number type = number_in_form (form_of_type type)
 
--- the first field at a byte with a type: two of them are one and the same in memory
-abbrev pub field_among : (byte : ℕ) → Ty → List MemberField → Option (List ℕ)
-field_among byte ty [] = None
-field_among byte ty (one ∷ others) = if one.byte == byte && same_type one.ty ty then Some one.name else field_among byte ty others
-
-abbrev pub field_or_none : (byte : ℕ) → Ty → Option (List MemberField) → Option (List ℕ)
-field_or_none byte ty None = None
-field_or_none byte ty (Some fields) = field_among byte ty fields
-
 -- the field of a member of a structure or union
 abbrev pub field_in : Names → (holder : CTy) → (byte : ℕ) → Ty → Option (List ℕ)
-field_in names holder byte ty = field_or_none byte ty (names.fields (record_number holder))
+field_in names holder byte ty = option_and_then (name_at byte ty) (names.fields (record_number holder))
 
 -- ---- things
 

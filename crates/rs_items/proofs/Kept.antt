@@ -10,7 +10,7 @@ use Rattle.rs_items.specs.declared.known.Known.{Known}
 use Rattle.rs_items.specs.declared.known.MemberField.{MemberField as FieldOfMember}
 use Rattle.rs_items.specs.declared.map.NameMap.{NameMap}
 use Rattle.rs_items.specs.declared.known.Named.{Named}
-use Rattle.rs_items.specs.declared.known.Named.TheVariants.{Object, Function, Record, Enum, Temporary, Result}
+use Rattle.rs_items.specs.declared.known.Named.TheVariants.{Object, Function, BareFunction, Record, Enum, Temporary, Result}
 
 module _ {K X : Type 0} (test other : K → Bool) (alike : (key : K) → test key ≡ other key) where
   same_found : (entries : List (K × X)) → lookup test entries ≡ lookup other entries
@@ -22,36 +22,49 @@ module _ {K X : Type 0} (test other : K → Bool) (alike : (key : K) → test ke
 derived : (one other : Named) → ghosts.eq one other ≡ same_named one other
 derived (Object one) (Object other) = refl
 derived (Object one) (Function other) = refl
+derived (Object one) (BareFunction other) = refl
 derived (Object one) (Record other) = refl
 derived (Object one) (Enum other) = refl
 derived (Object one) (Temporary other) = refl
 derived (Object one) Result = refl
 derived (Function one) (Object other) = refl
 derived (Function one) (Function other) = refl
+derived (Function one) (BareFunction other) = refl
 derived (Function one) (Record other) = refl
 derived (Function one) (Enum other) = refl
 derived (Function one) (Temporary other) = refl
 derived (Function one) Result = refl
+derived (BareFunction one) (Object other) = refl
+derived (BareFunction one) (Function other) = refl
+derived (BareFunction one) (BareFunction other) = refl
+derived (BareFunction one) (Record other) = refl
+derived (BareFunction one) (Enum other) = refl
+derived (BareFunction one) (Temporary other) = refl
+derived (BareFunction one) Result = refl
 derived (Record one) (Object other) = refl
 derived (Record one) (Function other) = refl
+derived (Record one) (BareFunction other) = refl
 derived (Record one) (Record other) = refl
 derived (Record one) (Enum other) = refl
 derived (Record one) (Temporary other) = refl
 derived (Record one) Result = refl
 derived (Enum one) (Object other) = refl
 derived (Enum one) (Function other) = refl
+derived (Enum one) (BareFunction other) = refl
 derived (Enum one) (Record other) = refl
 derived (Enum one) (Enum other) = refl
 derived (Enum one) (Temporary other) = refl
 derived (Enum one) Result = refl
 derived (Temporary one) (Object other) = refl
 derived (Temporary one) (Function other) = refl
+derived (Temporary one) (BareFunction other) = refl
 derived (Temporary one) (Record other) = refl
 derived (Temporary one) (Enum other) = refl
 derived (Temporary one) (Temporary other) = refl
 derived (Temporary one) Result = refl
 derived Result (Object other) = refl
 derived Result (Function other) = refl
+derived Result (BareFunction other) = refl
 derived Result (Record other) = refl
 derived Result (Enum other) = refl
 derived Result (Temporary other) = refl
@@ -61,36 +74,49 @@ derived Result Result = refl
 turned : (one other : Named) → same_named other one ≡ ghosts.eq one other
 turned (Object one) (Object other) = nat_eq_equiv.symm other one
 turned (Object one) (Function other) = refl
+turned (Object one) (BareFunction other) = refl
 turned (Object one) (Record other) = refl
 turned (Object one) (Enum other) = refl
 turned (Object one) (Temporary other) = refl
 turned (Object one) Result = refl
 turned (Function one) (Object other) = refl
 turned (Function one) (Function other) = nat_eq_equiv.symm other one
+turned (Function one) (BareFunction other) = refl
 turned (Function one) (Record other) = refl
 turned (Function one) (Enum other) = refl
 turned (Function one) (Temporary other) = refl
 turned (Function one) Result = refl
+turned (BareFunction one) (Object other) = refl
+turned (BareFunction one) (Function other) = refl
+turned (BareFunction one) (BareFunction other) = nat_eq_equiv.symm other one
+turned (BareFunction one) (Record other) = refl
+turned (BareFunction one) (Enum other) = refl
+turned (BareFunction one) (Temporary other) = refl
+turned (BareFunction one) Result = refl
 turned (Record one) (Object other) = refl
 turned (Record one) (Function other) = refl
+turned (Record one) (BareFunction other) = refl
 turned (Record one) (Record other) = nat_eq_equiv.symm other one
 turned (Record one) (Enum other) = refl
 turned (Record one) (Temporary other) = refl
 turned (Record one) Result = refl
 turned (Enum one) (Object other) = refl
 turned (Enum one) (Function other) = refl
+turned (Enum one) (BareFunction other) = refl
 turned (Enum one) (Record other) = refl
 turned (Enum one) (Enum other) = nat_eq_equiv.symm other one
 turned (Enum one) (Temporary other) = refl
 turned (Enum one) Result = refl
 turned (Temporary one) (Object other) = refl
 turned (Temporary one) (Function other) = refl
+turned (Temporary one) (BareFunction other) = refl
 turned (Temporary one) (Record other) = refl
 turned (Temporary one) (Enum other) = refl
 turned (Temporary one) (Temporary other) = nat_eq_equiv.symm other one
 turned (Temporary one) Result = refl
 turned Result (Object other) = refl
 turned Result (Function other) = refl
+turned Result (BareFunction other) = refl
 turned Result (Record other) = refl
 turned Result (Enum other) = refl
 turned Result (Temporary other) = refl
@@ -145,6 +171,7 @@ IsOther one = (number : ℕ) → one ≡ Temporary number → ⊥
 pub known_other : (names : NameMap) (one : Named) → IsOther one → known_in names one ≡ option_map view_known (get_by (same_named one) names.kept)
 known_other names (Object number) other = refl
 known_other names (Function number) other = refl
+known_other names (BareFunction number) other = refl
 known_other names (Record number) other = refl
 known_other names (Enum number) other = refl
 known_other names (Temporary number) other = absurd (other number refl)
@@ -153,6 +180,7 @@ known_other names Result other = refl
 temporary_apart : (number : ℕ) (named : Named) → IsOther named → same_named (Temporary number) named ≡ false
 temporary_apart number (Object one) other = refl
 temporary_apart number (Function one) other = refl
+temporary_apart number (BareFunction one) other = refl
 temporary_apart number (Record one) other = refl
 temporary_apart number (Enum one) other = refl
 temporary_apart number (Temporary one) other = absurd (other one refl)
@@ -173,6 +201,7 @@ pub puts_other : (old new : NameMap) (named : Named) (entry : KnownThing) → Is
     → (one : Named) → known_in new one ≡ if same_named one named then Some entry else known_in old one
 puts_other old new named entry other same puts (Object number) = puts (Object number)
 puts_other old new named entry other same puts (Function number) = puts (Function number)
+puts_other old new named entry other same puts (BareFunction number) = puts (BareFunction number)
 puts_other old new named entry other same puts (Record number) = puts (Record number)
 puts_other old new named entry other same puts (Enum number) = puts (Enum number)
 puts_other old new named entry other same puts (Temporary number) =
@@ -183,6 +212,7 @@ puts_other old new named entry other same puts Result = puts Result
 pub leaves_other : (old new : NameMap) → new.temporaries ≡ old.temporaries → Leaves old new → (one : Named) → known_in new one ≡ known_in old one
 leaves_other old new same leaves (Object number) = leaves (Object number)
 leaves_other old new same leaves (Function number) = leaves (Function number)
+leaves_other old new same leaves (BareFunction number) = leaves (BareFunction number)
 leaves_other old new same leaves (Record number) = leaves (Record number)
 leaves_other old new same leaves (Enum number) = leaves (Enum number)
 leaves_other old new same leaves (Temporary number) = ap (told_of number) same

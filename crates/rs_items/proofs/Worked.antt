@@ -11,7 +11,7 @@ use Rattle.rs_items.specs.Known.{KnownThing, Knows, MemberField}
 use Rattle.rs_items.specs.Laid.{IsLaidOut}
 use Rattle.rs_items.specs.Records.{fields_walk, record_tree, struct_end, struct_step}
 use Rattle.rs_items.specs.declared.known.Named.{Named}
-use Rattle.rs_items.specs.declared.known.Named.TheVariants.{Object, Function, Record as RecordNamed, Enum, Temporary, Result}
+use Rattle.rs_items.specs.declared.known.Named.TheVariants.{Object, Function, BareFunction, Record as RecordNamed, Enum, Temporary, Result}
 use Rattle.rs_items_sets.specs.Names.{reserved}
 use Rattle.rs_text.specs.Names.{keywords, path_words}
 use Rattle.rs_text.specs.Tree.{Array, Integer, Record}
@@ -50,6 +50,7 @@ s_thing = record { named = RecordNamed 0; unit = 0; module_name = Some (codes "a
 abbrev s_known : Knows
 s_known (Object number) = None
 s_known (Function number) = None
+s_known (BareFunction number) = None
 s_known (RecordNamed number) = Some s_thing
 s_known (Enum number) = None
 s_known (Temporary number) = None

@@ -4,7 +4,7 @@ use Rattle.indexmap.specs.IndexMap.{IndexMap, get_by}
 use Rattle.rs_items_sets.specs.Sets.{TakenNames}
 use Rattle.rs_items.specs.declared.known.Known.{Known}
 use Rattle.rs_items.specs.declared.known.Named.{Named}
-use Rattle.rs_items.specs.declared.known.Named.TheVariants.{Object, Function, Record, Enum, Temporary, Result}
+use Rattle.rs_items.specs.declared.known.Named.TheVariants.{Object, Function, BareFunction, Record, Enum, Temporary, Result}
 use Rattle.rs_items.specs.declared.known.MemberField.{MemberField as FieldOfMember}
 use Rattle.rs_items.specs.declared.map.NameMap.{NameMap}
 use Rattle.rs_items_sets.specs.declared.scope.NameScope.{NameScope}
@@ -36,6 +36,7 @@ view_known one = record {
 abbrev pub same_named : Named → Named → Bool
 same_named (Object one) (Object other) = one == other
 same_named (Function one) (Function other) = one == other
+same_named (BareFunction one) (BareFunction other) = one == other
 same_named (Record one) (Record other) = one == other
 same_named (Enum one) (Enum other) = one == other
 same_named (Temporary one) (Temporary other) = one == other
@@ -62,6 +63,7 @@ Knows = Named → Option KnownThing
 abbrev pub known_of : {S : Type 0} → IndexMap Named Known S → IndexMap ℕ Known S → Named → Option KnownThing
 known_of kept temporaries (Object number) = option_map view_known (get_by (same_named (Object number)) kept)
 known_of kept temporaries (Function number) = option_map view_known (get_by (same_named (Function number)) kept)
+known_of kept temporaries (BareFunction number) = option_map view_known (get_by (same_named (BareFunction number)) kept)
 known_of kept temporaries (Record number) = option_map view_known (get_by (same_named (Record number)) kept)
 known_of kept temporaries (Enum number) = option_map view_known (get_by (same_named (Enum number)) kept)
 known_of kept temporaries (Temporary number) = option_map view_known (get_by (λ other. number == other) temporaries)
@@ -109,6 +111,7 @@ KeepsOne before after new = (one : Named) → after.known one ≡ if same_named 
 abbrev pub is_temporary : Named → Bool
 is_temporary (Object number) = false
 is_temporary (Function number) = false
+is_temporary (BareFunction number) = false
 is_temporary (Record number) = false
 is_temporary (Enum number) = false
 is_temporary (Temporary number) = true

@@ -7,6 +7,8 @@ use rs_tree::RTy;
 pub enum Named {
     Object(u32),
     Function(u32),
+    /// The item without parameters of an external function, for calls without arguments, where its own item lists some.
+    BareFunction(u32),
     Record(u32),
     Enum(u32),
     Temporary(u32),

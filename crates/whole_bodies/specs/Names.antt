@@ -10,11 +10,10 @@ use Rattle.lift_exprs.specs.Names.{KeptFunction, Names, type_in}
 use Rattle.lift_forms.specs.Places.{Kept}
 use Rattle.rs_items.specs.Known.{KnownThing, MemberField}
 use Rattle.rs_items.specs.Records.{fields_walk}
-use Rattle.rs_items.specs.declared.known.Named.TheVariants.{Object, Function}
+use Rattle.rs_items.specs.declared.known.Named.TheVariants.{Object, Function, BareFunction}
 use Rattle.rs_text.specs.Tree.{Ty, Code, no_tys, some_ty, no_ty, Place, Local, Static}
 use Rattle.whole_items.specs.Items.{result_of_form}
 use Rattle.whole_names.specs.FunctionNames.{LocalName, a_result, a_passed, a_local, a_temporary, local_names}
-use Rattle.whole_names.specs.Keys.{NameKey, a_bare_function, same_key, module_keys}
 use Rattle.whole_names.specs.Kept.{NamedProgram, LocalNames, known_thing, no_locals, local_among, module_of, name_in, record_unit, types_of, size_of}
 use Rattle.whole_names.specs.ModuleNames.{name_or}
 
@@ -29,23 +28,6 @@ kept_object one = record { place = place_of one.module_name one.name; ty = one.t
 
 abbrev pub kept_function : KnownThing → KeptFunction
 kept_function one = record { home = name_or [] one.module_name; name = one.name; ty = one.ty; symbol = one.symbol }
-
--- ---- external functions that are called without arguments though their items list some
-
-abbrev pub is_key_among : NameKey → List NameKey → Bool
-is_key_among key [] = false
-is_key_among key (one ∷ others) = if same_key key one then true else is_key_among key others
-
-abbrev pub result_of_code : Ty → Ty
-result_of_code (Code params result) = Code no_tys result
-result_of_code rust = rust
-
-abbrev pub bare_thing : NamedProgram → (unit number : ℕ) → KeptFunction → KeptFunction
-bare_thing program unit number kept = record kept { name = name_in program unit (a_bare_function number); ty = result_of_code kept.ty }
-
-abbrev pub bare_function : NamedProgram → (unit number : ℕ) → Option KeptFunction → Option KeptFunction
-bare_function program unit number kept =
-    if is_key_among (a_bare_function number) (module_keys program.program unit) then option_map (bare_thing program unit number) kept else None
 
 -- ---- members
 
@@ -69,7 +51,7 @@ abbrev pub names_in : NamedProgram → (unit : ℕ) → LocalNames → Names
 names_in program unit own = record {
   objects = λ number. option_map kept_object (known_thing program unit own (Object number));
   functions = λ number. option_map kept_function (known_thing program unit own (Function number));
-  bare_functions = λ number. bare_function program unit number (option_map kept_function (known_thing program unit own (Function number)));
+  bare_functions = λ number. option_map kept_function (known_thing program unit own (BareFunction number));
   fields = fields_in program;
   types = types_of program;
   size_of = size_of program;

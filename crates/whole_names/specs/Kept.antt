@@ -11,13 +11,13 @@ use Rattle.rs_items.specs.Known.{KnownThing, Names}
 use Rattle.rs_items_sets.specs.Sets.{TakenNames}
 use Rattle.rs_items.specs.Types.{TypeNames, rust_type, record_or_void}
 use Rattle.rs_items.specs.declared.known.Named.{Named}
-use Rattle.rs_items.specs.declared.known.Named.TheVariants.{Object, Function, Record, Enum, Temporary, Result}
+use Rattle.rs_items.specs.declared.known.Named.TheVariants.{Object, Function, BareFunction, Record, Enum, Temporary, Result}
 use Rattle.rs_text.specs.Tree.{Ty, Integer, Void, Pointer, Code, more_tys, no_tys, some_ty}
 use Rattle.rs_text.specs.declared.integer.IntegerTy.{IntegerTy}
 use Rattle.rs_text.specs.declared.integer.IntegerTy.TheVariants.{I32, U32, U64}
 use Rattle.rs_tree.specs.declared.ty.RPath.{RPath}
 use Rattle.whole_names.specs.FunctionNames.{LocalKey, a_result, a_passed, a_local, a_temporary, LocalName}
-use Rattle.whole_names.specs.Keys.{NameKey, a_function, an_object, a_record, a_calloc, is_outer_named, is_key_outer, needs_calloc, things_of}
+use Rattle.whole_names.specs.Keys.{NameKey, a_function, an_object, a_record, a_calloc, a_bare_function, same_key, module_keys, is_outer_named, is_key_outer, needs_calloc, things_of}
 use Rattle.whole_names.specs.ModuleNames.{name_or, GivenName, module_names, name_among}
 
 -- ---- a function's names
@@ -159,6 +159,26 @@ abbrev pub function_thing : NamedProgram → (unit : ℕ) → Option CFun → Op
 function_thing whole unit (Some one) outer = Some (function_item whole one)
 function_thing whole unit None outer = outer_thing whole unit outer
 
+-- the item without parameters of an external function, where the module has one
+abbrev pub without_params : Ty → Ty
+without_params (Code params result) = Code no_tys result
+without_params rust = rust
+
+abbrev pub bare_item : NamedProgram → (unit : ℕ) → COuter → KnownThing
+bare_item whole unit one = record (outer_item whole unit one) {
+  named = BareFunction one.function;
+  name = name_in whole unit (a_bare_function one.function);
+  ty = without_params (code_type whole one.type);
+}
+
+abbrev pub is_key_among : NameKey → List NameKey → Bool
+is_key_among key [] = false
+is_key_among key (one ∷ others) = if same_key key one then true else is_key_among key others
+
+abbrev pub bare_thing : NamedProgram → (unit number : ℕ) → Option COuter → Option KnownThing
+bare_thing whole unit number None = None
+bare_thing whole unit number (Some one) = if is_key_among (a_bare_function number) (module_keys whole.program unit) then Some (bare_item whole unit one) else None
+
 abbrev pub record_thing : NamedProgram → ℕ → Option RPath → Option KnownThing
 record_thing whole number None = None
 record_thing whole number (Some path) =
@@ -180,6 +200,7 @@ result_thing whole unit _ _ = None
 abbrev pub known_thing : NamedProgram → (unit : ℕ) → LocalNames → Named → Option KnownThing
 known_thing whole unit own (Object number) = object_thing whole own (object_with number whole.program.objects)
 known_thing whole unit own (Function number) = function_thing whole unit (function_with number whole.program.functions) (outer_with number whole.program.externals)
+known_thing whole unit own (BareFunction number) = bare_thing whole unit number (outer_with number whole.program.externals)
 known_thing whole unit own (Record number) = record_thing whole number (record_path whole number)
 known_thing whole unit own (Enum number) = enum_thing whole unit number (slice_get whole.program.types.enums number)
 known_thing whole unit own (Temporary number) = temporary_thing unit number (local_among (a_temporary number) own.names) (slice_get own.temporaries number)
