@@ -7,7 +7,6 @@ mod conversions;
 mod given;
 mod operands;
 mod places;
-mod same;
 mod unary;
 
 pub use binary::binary_form;
