@@ -11,11 +11,11 @@ ghost use Rattle.rs_tree.specs.Views.{ty_view, expr_view};
 
 use crate::given::RGiven;
 use crate::operands::{as_integer, as_type, integer_as, value_of};
-use crate::same::is_signed_integer;
 use crate::unary::minus;
 use cr_base::{Boxed, Items, Memory};
 use cx_core::Op2;
 use rs_makers::{binary, offset, offset_from, wrapped};
+use rs_same::is_signed_integer;
 use rs_tree::{IntegerTy, Operator, RExpr, RTy, Wrapping};
 use std::alloc::Global;
 

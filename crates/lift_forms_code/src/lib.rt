@@ -1,5 +1,5 @@
-//! The forms of operators, conversions, places and bit-fields of C as trees of Rust, each equal to its definition, want of memory aside (ISO C99, 6.3, 6.5 and 6.7.2.1; the Rust
-//! Reference, "Expressions").
+//! The forms of operators, conversions and places of C as trees of Rust, each equal to its definition, want of memory aside (ISO C99, 6.3 and 6.5; the Rust Reference,
+//! "Expressions"). Those of bit-fields are in `lift_forms_bits`.
 #![tactic(auto)]
 
 mod binary;
@@ -7,7 +7,6 @@ mod conversions;
 mod given;
 mod operands;
 mod places;
-mod same;
 mod unary;
 
 pub use binary::binary_form;

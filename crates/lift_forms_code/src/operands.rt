@@ -7,11 +7,11 @@ ghost use Rattle.rs_text.specs.Tree as tree;
 ghost use Rattle.rs_tree.specs.Views.{ty_view, expr_view};
 
 use crate::given::RGiven;
-use crate::same::same_type;
 use cr_base::{Boxed, Memory};
 use rs_makers::{
     binary, cast, copy_ty, is_none, is_null, literal, no_function, not, read, transmute,
 };
+use rs_same::same_type;
 use rs_tree::{IntegerTy, Operator, RExpr, RTy};
 use std::alloc::Global;
 

@@ -11,9 +11,9 @@ ghost use Rattle.rs_tree.specs.Views.{ty_view, place_view, expr_view};
 
 use crate::given::RGiven;
 use crate::operands::{as_type, cast_to};
-use crate::same::same_type;
 use cr_base::{Boxed, Items, Memory};
 use rs_makers::{address, cast, copy_given, copy_ty, copy_tys, no_function, some_function, target};
+use rs_same::same_type;
 use rs_tree::{RExpr, RPath, RPlace, RTy};
 use std::alloc::Global;
 

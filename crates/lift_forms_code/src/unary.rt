@@ -9,11 +9,11 @@ ghost use Rattle.rs_tree.specs.Views.{ty_view, expr_view};
 
 use crate::given::RGiven;
 use crate::operands::{opposite_of, value_of};
-use crate::same::is_signed_integer;
 use cr_base::{Boxed, Int, Memory};
 use cx_core::Op1;
 use rs_makers::{binary, literal, neg, not, wrapping_neg};
 use rs_mean::fits_integer;
+use rs_same::is_signed_integer;
 use rs_tree::{IntegerTy, Operator, RExpr, RTy};
 use std::alloc::Global;
 

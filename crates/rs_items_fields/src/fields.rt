@@ -5,7 +5,7 @@ ghost use Rattle.rs_tree.specs.Views.{ty_view};
 
 use cr_base::{Name, Spot};
 use rs_items::{MemberField, NameMap};
-use rs_kinds::same_type;
+use rs_same::same_type;
 use rs_tree::RTy;
 
 /// The name of the field of a member that is no bit-field, by the number of its structure or union, the spot at which it stands and its Rust type. None where no record

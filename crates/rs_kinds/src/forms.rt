@@ -14,13 +14,13 @@ ghost use Rattle.rs_layout.specs.Layouts.{ModulesAreAligned};
 
 use crate::kind::{HeldKind, common, is_of_pointer, kept, kind_of_type};
 use crate::operands::{casts, is_integer_of, is_of_type};
-use crate::same::same_results;
 use crate::signature::are_types_of;
 use crate::stands::{
     is_scalar_type, is_target, params_stand, pointer_stands, result_stands, type_stands,
 };
 use cr_base::{Boxed, Items, Name};
 use rs_layout::{field_type_at, own_function_at};
+use rs_same::same_results;
 use rs_tree::{IntegerTy, Module, RPath, RTy};
 
 /// What is read at a place of a type, where it is scalar.

@@ -9,10 +9,8 @@ ghost use Rattle.rs_text.specs.Tree.{tys, option_ty};
 ghost use Rattle.rs_tree.specs.Views.{ty_view};
 ghost use Rattle.rs_kinds.specs.Kinds.{kind_view, has_type, is_none_kind, is_of_kind, is_ordered, kept, takes_none};
 
-use crate::same::{
-    is_signed_integer, same_integer, same_path, same_results, same_type, same_types,
-};
 use cr_base::{Boxed, Items};
+use rs_same::{is_signed_integer, same_integer, same_path, same_results, same_type, same_types};
 use rs_tree::{IntegerTy, RPath, RTy};
 
 /// The type of a value, of which the parts are the crate's own, or that of `None`, which is of every

@@ -6,13 +6,11 @@ mod exprs;
 mod forms;
 mod kind;
 mod operands;
-mod same;
 mod scope;
 mod signature;
 mod stands;
 mod stmts;
 
-pub use same::{is_integer_of, same_results, same_type};
 pub use scope::{HeldScope, Labels};
 pub use stands::{is_scalar_type, params_stand, result_stands, type_stands};
 pub use stmts::stmts_typed;

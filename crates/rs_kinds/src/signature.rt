@@ -12,9 +12,9 @@ ghost use Rattle.rs_kinds.specs.Kinds.{kind_view};
 ghost use Rattle.rs_kinds.specs.Signatures.{ahead_view, first_param, params_view, signature_view};
 
 use crate::kind::{HeldKind, kind_of_type};
-use crate::same::same_type;
 use cr_base::{Boxed, Items};
 use rs_layout::{HeldCallee, callee_at};
+use rs_same::same_type;
 use rs_tree::{Local, Module, RPath, RTy};
 
 /// The types of parameters.

@@ -19,12 +19,12 @@ ghost use Rattle.rs_kinds.specs.Signatures.{signature_view};
 use crate::exprs::{args_fit, kind_of, place_type};
 use crate::kind::HeldKind;
 use crate::operands::{is_integer_of, is_of_type, is_truth};
-use crate::same::same_integer;
 use crate::scope::{HeldScope, Labels, has_label, has_loop};
 use crate::signature::{HeldSignature, pointed_types, signature_at};
 use crate::stands::is_scalar_type;
 use cr_base::{Boxed, Int, Items, Name};
 use rs_mean::fits_integer;
+use rs_same::same_integer;
 use rs_tree::{Arm, IntegerTy, RExpr, RPlace, RStmt, RTy};
 
 // ---- statements without others

@@ -10,7 +10,7 @@ ghost use Rattle.rs_text.specs.Tree.{option_ty, some_ty};
 ghost use Rattle.rs_tree.specs.Views.{function_view, outer_view, ty_view};
 
 use cr_base::{Boxed, Name};
-use rs_kinds::is_integer_of;
+use rs_same::is_integer_of;
 use rs_tree::{Function, IntegerTy, Outer, RTy};
 
 fn is_int(given: &Option<Boxed<RTy>>) -> bool

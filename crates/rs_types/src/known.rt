@@ -12,7 +12,8 @@ ghost use Rattle.rs_types.specs.KnownTypes.{known_view, param_view, params_view}
 
 use crate::heads::outer_head_typed;
 use cr_base::{Boxed, Items};
-use rs_kinds::{is_integer_of, result_stands, type_stands};
+use rs_kinds::{result_stands, type_stands};
+use rs_same::is_integer_of;
 use rs_tree::{IntegerTy, Module, Outer, RTy};
 
 /// A function whose meaning is known.

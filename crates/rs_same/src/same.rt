@@ -27,13 +27,13 @@ fn integer_number(ty: IntegerTy) -> u32
     }
 }
 
-pub(crate) fn same_integer(one: IntegerTy, other: IntegerTy) -> bool
+pub fn same_integer(one: IntegerTy, other: IntegerTy) -> bool
     ensures { result ≡ same_integer one other }
 {
     integer_number(one) == integer_number(other)
 }
 
-pub(crate) fn is_signed_integer(ty: IntegerTy) -> bool
+pub fn is_signed_integer(ty: IntegerTy) -> bool
     ensures { result ≡ is_signed_integer ty }
 {
     matches!(
@@ -42,13 +42,13 @@ pub(crate) fn is_signed_integer(ty: IntegerTy) -> bool
     )
 }
 
-pub(crate) fn same_path(one: &RPath, other: &RPath) -> bool
+pub fn same_path(one: &RPath, other: &RPath) -> bool
     ensures { result ≡ (bytes_eq one.now.home other.now.home && bytes_eq one.now.name other.now.name) }
 {
     one.home.bytes() == other.home.bytes() && one.name.bytes() == other.name.bytes()
 }
 
-pub(crate) fn is_integer_of(ty: IntegerTy, other: &RTy) -> bool
+pub fn is_integer_of(ty: IntegerTy, other: &RTy) -> bool
     ensures { result ≡ same_type (tree.Integer ty) (ty_view other.now) }
 {
     match other {
@@ -57,19 +57,19 @@ pub(crate) fn is_integer_of(ty: IntegerTy, other: &RTy) -> bool
     }
 }
 
-pub(crate) fn is_boolean(other: &RTy) -> bool
+fn is_boolean(other: &RTy) -> bool
     ensures { result ≡ same_type tree.Boolean (ty_view other.now) }
 {
     matches!(other, RTy::Boolean)
 }
 
-pub(crate) fn is_void(other: &RTy) -> bool
+fn is_void(other: &RTy) -> bool
     ensures { result ≡ same_type tree.Void (ty_view other.now) }
 {
     matches!(other, RTy::Void)
 }
 
-pub(crate) fn is_record_of(path: &RPath, other: &RTy) -> bool
+fn is_record_of(path: &RPath, other: &RTy) -> bool
     ensures { result ≡ same_type (tree.Record path.now.home path.now.name) (ty_view other.now) }
 {
     match other {
@@ -79,7 +79,7 @@ pub(crate) fn is_record_of(path: &RPath, other: &RTy) -> bool
 }
 
 #[cycle(same)]
-pub(crate) fn is_pointer_of(target: &Boxed<RTy>, other: &RTy) -> bool
+fn is_pointer_of(target: &Boxed<RTy>, other: &RTy) -> bool
     ensures { result ≡ same_type (tree.Pointer (ty_view target.now)) (ty_view other.now) }
 {
     match other {
@@ -89,7 +89,7 @@ pub(crate) fn is_pointer_of(target: &Boxed<RTy>, other: &RTy) -> bool
 }
 
 #[cycle(same)]
-pub(crate) fn is_array_of(element: &Boxed<RTy>, size: u64, other: &RTy) -> bool
+fn is_array_of(element: &Boxed<RTy>, size: u64, other: &RTy) -> bool
     ensures { result ≡ same_type (tree.Array (ty_view element.now) size) (ty_view other.now) }
 {
     match other {
@@ -102,7 +102,7 @@ pub(crate) fn is_array_of(element: &Boxed<RTy>, size: u64, other: &RTy) -> bool
 
 /// Whether two types are equal.
 #[cycle(same)]
-pub(crate) fn same_type(one: &RTy, other: &RTy) -> bool
+pub fn same_type(one: &RTy, other: &RTy) -> bool
     ensures { result ≡ same_type (ty_view one.now) (ty_view other.now) }
 {
     match one {
@@ -122,7 +122,7 @@ pub(crate) fn same_type(one: &RTy, other: &RTy) -> bool
 }
 
 #[cycle(same)]
-pub(crate) fn same_types(ones: &Items<RTy>, others: &Items<RTy>) -> bool
+pub fn same_types(ones: &Items<RTy>, others: &Items<RTy>) -> bool
     ensures { result ≡ same_types (tys (map ty_view ones.now)) (tys (map ty_view others.now)) }
 {
     let mut left = others.as_slice();
@@ -142,7 +142,7 @@ pub(crate) fn same_types(ones: &Items<RTy>, others: &Items<RTy>) -> bool
 }
 
 #[cycle(same)]
-pub(crate) fn same_results(one: &Option<Boxed<RTy>>, other: &Option<Boxed<RTy>>) -> bool
+pub fn same_results(one: &Option<Boxed<RTy>>, other: &Option<Boxed<RTy>>) -> bool
     ensures { result ≡ same_results (option_ty (option_map ty_view one.now)) (option_ty (option_map ty_view other.now)) }
 {
     match (one, other) {
