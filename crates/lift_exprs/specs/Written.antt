@@ -114,8 +114,14 @@ abbrev pub lvalue_kind : Names → CTy → CForm → NodeKind
 lvalue_kind names type (member of spot) = if spot.width == 0 then a_place (type_in names type) else a_bit_field (type_in names (type_of of))
 lvalue_kind names type form = a_place (type_in names type)
 
+abbrev pub place_kind : Names → CExpr → NodeKind
+place_kind names (expr type at form) = lvalue_kind names type form
+
 abbrev pub kind_in : Names → CTy → CForm → NodeKind
 kind_in names type form = if is_lvalue_form form then lvalue_kind names type form else value_kind names type
+
+abbrev pub kind_of_node : Names → CExpr → NodeKind
+kind_of_node names (expr type at form) = kind_in names type form
 
 -- the type of a temporary that holds it
 abbrev pub held_type : NodeKind → Ty

@@ -3,9 +3,11 @@ use Rattle.std.specs.Prelude.{ℕ, List, map}
 use Rattle.lift_exprs.specs.Written as spec
 use Rattle.lift_forms.specs.Given.{Given}
 use Rattle.lift_forms_code.specs.Views.{given_view}
+use Rattle.lift_stores.specs.declared.kinds.NodeKind.{NodeKind}
+use Rattle.lift_stores.specs.declared.kinds.NodeKind.TheVariants as node
 use Rattle.lift_stores.specs.declared.written.Written.{Written}
 use Rattle.rs_text.specs.Tree.{Stmt}
-use Rattle.rs_tree.specs.Views.{stmt_view}
+use Rattle.rs_tree.specs.Views.{ty_view, stmt_view}
 
 -- what is written, by itself: the types of its temporaries are kept with their names
 pub record Text : Type 0 where
@@ -18,3 +20,9 @@ text_of one = record { body = one.body; given = one.given; next = one.next }
 
 abbrev pub text_view : Written → Text
 text_view one = record { body = map stmt_view one.body; given = given_view one.given; next = one.next }
+
+abbrev pub kind_view : NodeKind → spec.NodeKind
+kind_view (node.Value ty) = spec.a_value (ty_view ty)
+kind_view (node.Record ty size) = spec.a_record (ty_view ty) size
+kind_view (node.Place ty) = spec.a_place (ty_view ty)
+kind_view (node.BitField ty) = spec.a_bit_field (ty_view ty)

@@ -14,4 +14,5 @@ pub use known::{Known, MemberField, Named};
 pub use map::NameMap;
 pub use records::record_item;
 pub use rs_items_sets::{NameScope, names_are_first, names_differ};
+pub use sizes::size_of;
 pub use types::rust_type;

@@ -12,7 +12,7 @@ use cr_base::Memory;
 use cx_core::{Member, Ty, TyForm};
 
 /// The size of a type in bytes: 0 for what has none. Refused where it is no number of 64 bits.
-pub(crate) fn size_of(t: &Ty, names: &NameMap) -> Result<u64, Memory>
+pub fn size_of(t: &Ty, names: &NameMap) -> Result<u64, Memory>
     ensures { IfOk result (λ size. size ≡ size_of (view_names names.now).known (view_type t.now)) }
 {
     match &t.form {
