@@ -29,7 +29,7 @@ fn byte_pointer(alloc: Global) -> Result<Boxed<RTy>, Memory>
 }
 
 /// An expression as an integer of a type.
-pub(crate) fn integer_as(
+pub fn integer_as(
     alloc: Global,
     which: IntegerTy,
     e: Boxed<RExpr>,
@@ -41,14 +41,14 @@ pub(crate) fn integer_as(
 }
 
 /// A number of the type in which bytes are put together.
-pub(crate) fn word(alloc: Global, number: u64) -> Result<Boxed<RExpr>, Memory>
+pub fn word(alloc: Global, number: u64) -> Result<Boxed<RExpr>, Memory>
     ensures { IfOk result (λ made. expr_view made ≡ word number) }
 {
     literal(alloc, Int::from(number), IntegerTy::U64)
 }
 
 /// 2 to a power.
-pub(crate) fn power(bits: u32) -> u64
+pub fn power(bits: u32) -> u64
     requires { bits ≤ 32 }
     ensures { result ≡ 2 ^ bits }
 {
@@ -58,7 +58,7 @@ pub(crate) fn power(bits: u32) -> u64
 // ---- operators
 
 /// What is left of an expression after division by a power of two: so many of its lowest bits.
-pub(crate) fn low_bits(alloc: Global, e: Boxed<RExpr>, bits: u32) -> Result<Boxed<RExpr>, Memory>
+pub fn low_bits(alloc: Global, e: Boxed<RExpr>, bits: u32) -> Result<Boxed<RExpr>, Memory>
     requires { bits ≤ 32 }
     ensures { IfOk result (λ made. expr_view made ≡ tree.Binary (expr_view e) rust.Rem (word (2 ^ bits))) }
 {

@@ -6,5 +6,6 @@ mod bytes;
 mod reads;
 mod writes;
 
+pub use bytes::{integer_as, low_bits, power, word};
 pub use reads::bit_read;
 pub use writes::bit_write;
