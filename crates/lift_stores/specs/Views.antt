@@ -3,8 +3,10 @@ use Rattle.std.specs.Prelude.{ℕ, List, map}
 use Rattle.lift_exprs.specs.Stores as stores
 use Rattle.lift_exprs.specs.Written as spec
 use Rattle.lift_forms.specs.Given.{Given}
-use Rattle.lift_forms_code.specs.Views.{given_view}
+use Rattle.lift_forms_code.specs.Views.{given_view, operand_view}
+use Rattle.lift_stores.specs.declared.assigning.Change.{Change}
 use Rattle.lift_stores.specs.declared.kinds.NodeKind.{NodeKind}
+use Rattle.lift_stores.specs.declared.assigning.Change.{Change}
 use Rattle.lift_stores.specs.declared.kinds.NodeKind.TheVariants as node
 use Rattle.lift_stores.specs.declared.targets.Target.{Target}
 use Rattle.lift_stores.specs.declared.targets.Target.TheVariants as to
@@ -34,3 +36,6 @@ abbrev pub target_view : Target → stores.Target
 target_view (to.Scalar p ty) = stores.a_scalar (place_view p) (ty_view ty)
 target_view (to.Structure p ty size) = stores.a_structure (place_view p) (ty_view ty) size
 target_view (to.Field base spot ty) = stores.a_field (expr_view base) spot (ty_view ty)
+
+abbrev pub change_view : Change → stores.Change
+change_view one = record { op = one.op; computes = ty_view one.computes; right = operand_view one.right_ty one.right }
