@@ -52,6 +52,16 @@ abbrev mutual
   part_in_form names (pointer to) whole p byte part = part_by_bytes byte p part
   part_in_form names (function result params variadic) whole p byte part = part_by_bytes byte p part
 
+-- a part that isn't the whole object
+abbrev pub part_inside : Names → CTy → Place → (byte : ℕ) → Ty → Place
+part_inside names (ty form is_const) p byte part = part_in_form names form (ty form is_const) p byte part
+
+-- a part of an element of an array
+abbrev pub part_of_element : Names → (element : CTy) → Place → (byte : ℕ) → Ty → Place
+part_of_element names element p byte part =
+    if names.size_of element == 0 then part_by_bytes byte p part
+    else part_place names element (element_place (byte / names.size_of element) p (type_in names element)) (byte % names.size_of element) part
+
 -- where a value of a type is stored that stands at a spot of an object
 abbrev pub part_target : Names → (object : CTy) → Place → Spot → CTy → Target
 part_target names object p spot type =

@@ -3,7 +3,7 @@
 ghost use Rattle.std.specs.Prelude.{◌≡◌, ◌==◌, pos, if◌then◌else◌, IfOk};
 ghost use Rattle.std.specs.Option.{option_and_then};
 ghost use Rattle.cx_core.specs.Views.{view_type};
-ghost use Rattle.lift_exprs.specs.Objects.{behind, part_by_bytes, element_place, member_or_bytes, part_place, part_target};
+ghost use Rattle.lift_exprs.specs.Objects.{behind, part_by_bytes, element_place, member_or_bytes, part_inside, part_of_element, part_place, part_target};
 ghost use Rattle.lift_exprs.specs.Names as names_spec;
 ghost use Rattle.lift_exprs.specs.Written as written;
 ghost use Rattle.rs_items_fields.specs.Fields.{name_at};
@@ -121,7 +121,51 @@ fn member_place(
     }
 }
 
+// A part of an element of an array.
+#[cycle(part_place)]
+fn part_of_element(
+    alloc: Global,
+    names: &NameMap,
+    element: &Ty,
+    place: Boxed<RPlace>,
+    byte: u64,
+    part: &RTy,
+) -> Result<Boxed<RPlace>, Memory>
+    ensures { IfOk result (λ made. place_view made ≡ part_of_element (lift_names (view_names names.now)) (view_type element.now) (place_view place) byte (ty_view part.now)) }
+{
+    let size = size_of(element, names)?;
+    if size == 0 {
+        part_by_bytes(alloc, byte, place, part)
+    } else {
+        let one = type_in(alloc, names, element)?;
+        let there = element_place(alloc, byte / size, place, one.get())?;
+        part_place(alloc, names, element, there, byte % size, part)
+    }
+}
+
+// A part that isn't the whole object.
+#[cycle(part_place)]
+fn part_inside(
+    alloc: Global,
+    names: &NameMap,
+    ty: &Ty,
+    place: Boxed<RPlace>,
+    byte: u64,
+    part: &RTy,
+) -> Result<Boxed<RPlace>, Memory>
+    ensures { IfOk result (λ made. place_view made ≡ part_inside (lift_names (view_names names.now)) (view_type ty.now) (place_view place) byte (ty_view part.now)) }
+{
+    match &ty.form {
+        TyForm::Array(element, _) => {
+            part_of_element(alloc, names, element.get(), place, byte, part)
+        }
+        TyForm::Record(number) => member_place(alloc, names, *number, byte, place, part),
+        _ => part_by_bytes(alloc, byte, place, part),
+    }
+}
+
 /// The part of an object of a type that begins at a byte: the object itself, a member, an element of an array or a part of one; what lies deeper is found by its byte.
+#[cycle(part_place)]
 pub fn part_place(
     alloc: Global,
     names: &NameMap,
@@ -134,20 +178,9 @@ pub fn part_place(
 {
     let whole = type_in(alloc, names, ty)?;
     if byte == 0 && same_type(whole.get(), part) {
-        return Ok(place);
-    }
-    match &ty.form {
-        TyForm::Array(element, _) => {
-            let size = size_of(element.get(), names)?;
-            if size == 0 {
-                return part_by_bytes(alloc, byte, place, part);
-            }
-            let one = type_in(alloc, names, element.get())?;
-            let there = element_place(alloc, byte / size, place, one.get())?;
-            part_place(alloc, names, element.get(), there, byte % size, part)
-        }
-        TyForm::Record(number) => member_place(alloc, names, *number, byte, place, part),
-        _ => part_by_bytes(alloc, byte, place, part),
+        Ok(place)
+    } else {
+        part_inside(alloc, names, ty, place, byte, part)
     }
 }
 
