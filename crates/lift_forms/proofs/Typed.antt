@@ -323,6 +323,10 @@ module _ (scope : Scope) where
       moved_typed op target gives (record { ty = Pointer target; given = first }) (record { ty = Integer which; given = second }) (given_typed _ first h) (as_integer Isize (Integer which) second k refl) r
   binary_by_types op (Integer which) (Pointer target) gives first second h k s t r =
       added_typed op target gives (record { ty = Pointer target; given = second }) (record { ty = Integer which; given = first }) (given_typed _ second k) (as_integer Isize (Integer which) first h refl) r
+  binary_by_types op (Pointer target) Boolean gives first second h k s t r =
+      moved_typed op target gives (record { ty = Pointer target; given = first }) (record { ty = Boolean; given = second }) (given_typed _ first h) (as_integer Isize Boolean second k refl) r
+  binary_by_types op Boolean (Pointer target) gives first second h k s t r =
+      added_typed op target gives (record { ty = Pointer target; given = second }) (record { ty = Boolean; given = first }) (given_typed _ second k) (as_integer Isize Boolean first h refl) r
   binary_by_types op (Pointer target) (Pointer other) gives first second h k s t r =
       pointers_typed op target gives (record { ty = Pointer target; given = first }) (record { ty = Pointer other; given = second }) (given_typed (Pointer target) first h)
       (as_type_typed (Pointer other) (Pointer target) (value_of (record { ty = Pointer other; given = second })) (given_typed _ second k) refl t s) r

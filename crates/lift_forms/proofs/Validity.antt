@@ -205,6 +205,8 @@ by_types : (op : Op2) (one other : Ty) (left right : Operand) → valid_ty left.
 by_types op (Integer which) (Integer ty) left right s t h k = integers_valid op which left right h k
 by_types op (Pointer target) (Integer ty) left right s t h k = moved_valid op (value_of left) (elements_of right) (value_valid left h) (integer_valid Isize right.ty right.given k)
 by_types op (Integer which) (Pointer target) left right s t h k = moved_valid op (value_of right) (elements_of left) (value_valid right k) (integer_valid Isize left.ty left.given h)
+by_types op Boolean (Pointer target) left right s t h k = moved_valid op (value_of right) (elements_of left) (value_valid right k) (integer_valid Isize left.ty left.given h)
+by_types op (Pointer target) Boolean left right s t h k = moved_valid op (value_of left) (elements_of right) (value_valid left h) (integer_valid Isize right.ty right.given k)
 by_types op (Pointer target) (Pointer other) left right s t h k = two_pointers_valid op left right s t h k
 by_types op (Code params result) (Code given gives) left right s t h k = two_pointers_valid op left right s t h k
 by_types op one other left right s t h k = tt

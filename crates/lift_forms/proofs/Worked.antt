@@ -308,6 +308,19 @@ moved_by_truth : text (Pointer int) (binary_form op2.Add p (as_operand int (unar
 unfolding digits begins_address begins_null transmute_of keywords path_words
 moved_by_truth = refl
 
+-- `_Bool` is an integer type, too
+moved_by_flag : text (Pointer int) (binary_form op2.Add p flag) ≡ codes "p.offset(t as isize)"
+unfolding digits begins_address begins_null transmute_of keywords path_words
+moved_by_flag = refl
+
+moved_back_by_flag : text (Pointer int) (binary_form op2.Subtract p flag) ≡ codes "p.offset(-(t as isize))"
+unfolding digits begins_address begins_null transmute_of keywords path_words
+moved_back_by_flag = refl
+
+flag_moves : text (Pointer int) (binary_form op2.Add flag p) ≡ codes "p.offset(t as isize)"
+unfolding digits begins_address begins_null transmute_of keywords path_words
+flag_moves = refl
+
 difference : text (Integer I64) (binary_form op2.Subtract p q) ≡ codes "p.offset_from(q) as i64"
 unfolding digits begins_address begins_null transmute_of keywords path_words
 difference = refl

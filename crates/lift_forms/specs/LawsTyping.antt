@@ -65,6 +65,8 @@ abbrev pub binary_result : Op2 → (left right : Ty) → Option Ty
 binary_result op (Integer one) (Integer other) = numbers_result op one other
 binary_result op (Pointer target) (Integer which) = moved_result op target
 binary_result op (Integer which) (Pointer target) = added_result op target
+binary_result op (Pointer target) Boolean = moved_result op target
+binary_result op Boolean (Pointer target) = added_result op target
 binary_result op (Pointer target) (Pointer other) = pointers_result op target
 binary_result op (Code params result) (Code others gives) = functions_result op
 binary_result op left right = None
