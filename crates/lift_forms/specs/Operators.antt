@@ -13,7 +13,7 @@ use Rattle.rs_text.specs.declared.operator.Operator.{Operator}
 use Rattle.rs_text.specs.declared.operator.Operator.TheVariants as rust
 use Rattle.rs_text.specs.declared.operator.Wrapping.{Wrapping}
 use Rattle.rs_text.specs.declared.operator.Wrapping.TheVariants.{WrappingAdd, WrappingSub, WrappingMul}
-use Rattle.rs_text.specs.Tree.{Ty, Integer, Boolean, Void, Pointer, Array, Code, Record, Expr, Literal, Truth, NoFunction, Read, Call, CallBy, Wrapped, WrappingNeg, Offset, OffsetFrom, IsNull, IsNone, AddressOf, NullPointer, SomeFunction, Transmute, Neg, Not, Cast, Binary, And, Or, Choose}
+use Rattle.rs_text.specs.Tree.{Ty, Integer, Boolean, Void, Pointer, Array, Code, Record, Expr, Literal, Truth, NoFunction, Read, Wrapped, WrappingNeg, Offset, OffsetFrom, IsNull, IsNone, NullPointer, SomeFunction, Transmute, Neg, Not, Cast, Binary, And, Or, Choose}
 use Rattle.lift_forms.specs.Given.{Given, nothing, truth, value, place, number_of}
 
 -- ---- another type
