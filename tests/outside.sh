@@ -47,6 +47,8 @@ group crates
 crate_rows=$rows
 group checks
 check_rows=$rows
+group forms
+form_rows=$rows
 built c2rs || exit 1
 
 # The exit status of a unit, as gcc builds it.
@@ -358,6 +360,17 @@ random_crates() {
   compared 'runs of random crates' random_crates.py --c2rs "$program" rustc stdbuf
 }
 
+# Forms of expressions and of bit-fields, generated: they give what C gives, by `run-c`, by gcc and by a model.
+form_tables() {
+  local said
+  tools_for 'forms of expressions' python3 gcc || return
+  if ! said=$(python3 "$top/tests/form_tables.py" --forms "$form_rows" --crates "$crate_rows" --c2rs "$program" 2>&1); then
+    bad "forms of expressions: $said"
+  else
+    ok "forms of expressions: $said"
+  fi
+}
+
 one answer
 one letter
 refused_in_turn
@@ -376,6 +389,7 @@ relooper_graphs
 random_records
 crate_runs
 random_crates
+form_tables
 region_turns
 every_form
 nested_blocks

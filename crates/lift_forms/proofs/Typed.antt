@@ -1,23 +1,23 @@
 -- Each form has the type of its result.
-use Rattle.std.proofs.Common.{◌≡◌, ℕ, ℤ, pos, neg_ℤ, Bool, true, false, not, ◌&&◌, if◌then◌else◌, List, Option, Some, None, is_some, refl, sym, ap, ◌∙◌, subst}
+use Rattle.std.proofs.Common.{◌≡◌, ℕ, ℤ, pos, neg_ℤ, Bool, true, false, if◌then◌else◌, List, Option, Some, None, refl, sym, ap, ◌∙◌, subst}
 use Rattle.cx_core.specs.declared.expr.Op1.{Op1}
 use Rattle.cx_core.specs.declared.expr.Op1.TheVariants.{Plus, Minus, Complement, Not as Negates}
 use Rattle.cx_core.specs.declared.expr.Op2.{Op2}
 use Rattle.cx_core.specs.declared.expr.Op2.TheVariants as op2
-use Rattle.rs_mean.specs.Scalars.{fits_integer, is_scalar, is_integer, is_signed_integer, same_integer, same_type}
-use Rattle.rs_mean.specs.Typing.{Scope, Kind, of, of_none, only_if, as_truth, both_are, common, cast_kind, casts, kind_of, place_type, type_stands, where_is, target_type, is_function_of, own_function_at, binary_kind, offset_kind, apart_kind, is_target, is_code, is_bits, is_pointer, own_type, is_of_type}
+use Rattle.rs_mean.specs.Scalars.{fits_integer, is_scalar, is_signed_integer, same_integer, same_type}
+use Rattle.rs_mean.specs.Typing.{Scope, Kind, of, only_if, casts, kind_of, place_type, type_stands, target_type, is_function_of, own_function_at, binary_kind, is_target, is_code, is_bits, is_pointer, own_type}
 use Rattle.rs_text.specs.declared.integer.IntegerTy.{IntegerTy}
 use Rattle.rs_text.specs.declared.integer.IntegerTy.TheVariants.{I8, I16, I32, I64, U8, U16, U32, U64, Isize, Usize}
 use Rattle.rs_text.specs.declared.operator.Operator.{Operator}
 use Rattle.rs_text.specs.declared.operator.Operator.TheVariants as rust
 use Rattle.rs_text.specs.declared.operator.Wrapping.{Wrapping}
 use Rattle.rs_text.specs.declared.operator.Wrapping.TheVariants.{WrappingAdd, WrappingSub, WrappingMul}
-use Rattle.rs_text.specs.Tree.{Ty, Integer, Boolean, Void, Pointer, Array, Code, Record, Tys, OptionTy, Place, Local, Static, Deref, Field, Expr, Literal, Truth, NoFunction, SomeFunction, Read, Wrapped, WrappingNeg, Offset, OffsetFrom, IsNull, IsNone, Transmute, Neg, Not, Cast, Binary, And, Or, Choose}
+use Rattle.rs_text.specs.Tree.{Ty, Integer, Boolean, Void, Pointer, Array, Code, Record, Tys, OptionTy, Place, Local, Static, Deref, Field, Expr, Literal, SomeFunction, Read, Wrapped, WrappingNeg, Offset, OffsetFrom, Transmute, Neg, Cast, Binary, And, Or, Choose}
 use Rattle.lift_forms.specs.Given.{Given, nothing, truth, value, place, address_of, pointed}
 use Rattle.lift_forms.specs.LawsTyping.{IsOfType, IsGivenAs, IsOperand, unary_result, is_comparison, numbers_result, moved_result, pointers_result, functions_result, added_result, binary_result, converts}
 use Rattle.lift_forms.specs.Operators.{Operand, cast_to, transmute_to, as_type, value_of, integer_as, is_not_zero, is_zero, test_of, opposite_of, minus, literal_or_minus, minus_literal, negated, unary_form, summed, count_of, elements_of, integers_form, beside, moved_form, pointers_form, binary_form, constant, null_of, zero_of, and_form, or_form, choice_form, function_form, converted}
 use Rattle.lift_forms.specs.Places.{Kept, object_place, address_form}
-use Rattle.lift_forms.proofs.SameTypes.{both_are_true, same_integer_itself, integer_is, same_itself, type_is}
+use Rattle.lift_forms.proofs.SameTypes.{same_integer_itself, integer_is, same_itself, type_is}
 
 zero_fits : (which : IntegerTy) → fits_integer which (pos 0) ≡ true
 zero_fits I8 = refl
@@ -323,6 +323,10 @@ module _ (scope : Scope) where
       moved_typed op target gives (record { ty = Pointer target; given = first }) (record { ty = Integer which; given = second }) (given_typed _ first h) (as_integer Isize (Integer which) second k refl) r
   binary_by_types op (Integer which) (Pointer target) gives first second h k s t r =
       added_typed op target gives (record { ty = Pointer target; given = second }) (record { ty = Integer which; given = first }) (given_typed _ second k) (as_integer Isize (Integer which) first h refl) r
+  binary_by_types op (Pointer target) Boolean gives first second h k s t r =
+      moved_typed op target gives (record { ty = Pointer target; given = first }) (record { ty = Boolean; given = second }) (given_typed _ first h) (as_integer Isize Boolean second k refl) r
+  binary_by_types op Boolean (Pointer target) gives first second h k s t r =
+      added_typed op target gives (record { ty = Pointer target; given = second }) (record { ty = Boolean; given = first }) (given_typed _ second k) (as_integer Isize Boolean first h refl) r
   binary_by_types op (Pointer target) (Pointer other) gives first second h k s t r =
       pointers_typed op target gives (record { ty = Pointer target; given = first }) (record { ty = Pointer other; given = second }) (given_typed (Pointer target) first h)
       (as_type_typed (Pointer other) (Pointer target) (value_of (record { ty = Pointer other; given = second })) (given_typed _ second k) refl t s) r

@@ -1,16 +1,16 @@
 -- Reads and stores of bit-fields are well typed.
-use Rattle.std.proofs.Common.{◌≡◌, ℕ, zero, suc, ◌+◌, ◌-◌, ◌*◌, ◌/◌, ◌^◌, ◌≤◌, ◌<◌, min, ℤ, pos, Bool, true, false, ◌&&◌, Option, Some, refl, sym, ap, ◌∙◌, subst, arith}
+use Rattle.std.proofs.Common.{◌≡◌, ℕ, zero, suc, ◌+◌, ◌-◌, ◌^◌, ◌≤◌, ◌<◌, min, pos, Bool, true, false, Some, refl, ap, arith}
 use Rattle.std.proofs.lemmas.Bool.Decides.{nat_tests}
 use Rattle.std.proofs.Math.Pow.{pow_mono}
 use Rattle.cr_base.specs.declared.layout.Spot.{Spot}
-use Rattle.rs_mean.specs.Scalars.{fits_integer, is_scalar, same_type}
-use Rattle.rs_mean.specs.Typing.{Scope, BodyScope, of, only_if, casts, kind_of, place_type, stmt_typed, stmts_typed, type_stands, binary_kind}
+use Rattle.rs_mean.specs.Scalars.{fits_integer, is_scalar}
+use Rattle.rs_mean.specs.Typing.{Scope, BodyScope, of, only_if, casts, place_type, stmt_typed, stmts_typed, binary_kind}
 use Rattle.rs_text.specs.declared.integer.IntegerTy.{IntegerTy}
 use Rattle.rs_text.specs.declared.integer.IntegerTy.TheVariants.{I64, U8, U32, U64, Isize}
 use Rattle.rs_text.specs.declared.operator.Operator.{Operator}
 use Rattle.rs_text.specs.declared.operator.Operator.TheVariants as rust
-use Rattle.rs_text.specs.Tree.{Ty, Integer, Pointer, Place, Deref, Expr, Literal, Read, Offset, Cast, Binary, Assign, stmts}
-use Rattle.lift_forms.specs.BitFields.{word, byte_place, byte_word, bytes_word, more_bytes, shifted_word, unsigned_read, half, signed_read, bit_read, read_type, bits_above, bits_placed, bits_below, byte_with, byte_write, more_writes, bit_write}
+use Rattle.rs_text.specs.Tree.{Ty, Integer, Pointer, Place, Expr, Literal, Cast, Binary, Assign, stmts}
+use Rattle.lift_forms.specs.BitFields.{word, byte_place, byte_word, bytes_word, more_bytes, shifted_word, half, signed_read, bit_read, read_type, bits_above, bits_placed, bits_below, byte_with, byte_write, more_writes, bit_write}
 use Rattle.lift_forms.specs.LawsTyping.{IsOfType, IsBitField}
 use Rattle.lift_forms.proofs.SameTypes.{both_are_true, same_itself}
 use Rattle.lift_forms.proofs.Typed.{cast_typed}

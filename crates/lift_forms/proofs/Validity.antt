@@ -1,5 +1,5 @@
 -- Each form is valid.
-use Rattle.std.proofs.Common.{◌≡◌, ℕ, ℤ, pos, negsuc, neg_ℤ, Bool, true, false, not, ◌&&◌, if◌then◌else◌, List, Option, Some, None, int_le, int_lt, tests, refl, sym, ap, subst, ◌∙◌, arith}
+use Rattle.std.proofs.Common.{◌≡◌, ℕ, ℤ, pos, negsuc, neg_ℤ, Bool, true, false, ◌&&◌, if◌then◌else◌, List, Option, Some, None, int_le, int_lt, tests, refl, arith}
 use Rattle.std.proofs.lemmas.Bool.Decides.{nat_tests}
 use Rattle.std.proofs.lemmas.Int.{ints}
 use Rattle.cx_core.specs.declared.expr.Op1.{Op1}
@@ -10,14 +10,13 @@ use Rattle.rs_mean.specs.Scalars.{integer_scalar, fits_integer, is_signed_intege
 use Rattle.rs_text.specs.declared.integer.IntegerTy.{IntegerTy}
 use Rattle.rs_text.specs.declared.integer.IntegerTy.TheVariants.{I8, I16, I32, I64, U8, U16, U32, U64, Isize, Usize}
 use Rattle.rs_text.specs.declared.operator.Operator.{Operator}
-use Rattle.rs_text.specs.declared.operator.Operator.TheVariants as rust
 use Rattle.rs_text.specs.declared.operator.Wrapping.{Wrapping}
 use Rattle.rs_text.specs.Forms.{is_literal}
-use Rattle.rs_text.specs.Tree.{Ty, Integer, Boolean, Void, Pointer, Array, Code, Record, Tys, OptionTy, Place, Local, Static, Deref, Field, Expr, Literal, Truth, NoFunction, SomeFunction, Read, Wrapped, WrappingNeg, Offset, OffsetFrom, IsNull, IsNone, Transmute, Neg, Not, Cast, Binary, And, Or, Choose}
+use Rattle.rs_text.specs.Tree.{Ty, Integer, Boolean, Void, Pointer, Array, Code, Record, Place, Local, Static, Deref, Field, Expr, Literal, NoFunction, Read, Wrapped, WrappingNeg, Offset, OffsetFrom, Transmute, Neg, Cast, Binary}
 use Rattle.rs_text.specs.Valid.{is_value, valid_expr, valid_path, valid_place, valid_target, valid_ty, valid_tys, valid_result}
 use Rattle.lift_forms.specs.Given.{Given, nothing, truth, value, place, address_of, pointed}
 use Rattle.lift_forms.specs.LawsValid.{IsValidGiven}
-use Rattle.lift_forms.specs.Operators.{Operand, cast_to, transmute_to, as_type, constant, null_of, zero_of, given_value, value_of, integer_as, is_not_zero, is_zero, test_of, opposite_of, opposite, literal_or_minus, minus_literal, literal_number, minus_by, minus, negated, unary_form, summed, wrapping_of, operator_of, is_comparison, is_shift, count_of, computed, joined, integers_form, elements_of, moves, is_back, moved, moved_form, beside, pointers_joined, pointers_form, binary_by, binary_form, and_form, or_form, choice_form, function_of_type, function_form, converted}
+use Rattle.lift_forms.specs.Operators.{Operand, cast_to, transmute_to, as_type, constant, zero_of, given_value, value_of, integer_as, is_not_zero, is_zero, test_of, opposite_of, literal_or_minus, minus_literal, minus, negated, unary_form, summed, wrapping_of, operator_of, is_comparison, is_shift, count_of, computed, joined, integers_form, elements_of, moves, is_back, moved, beside, pointers_joined, pointers_form, binary_by, binary_form, and_form, or_form, choice_form, function_of_type, function_form, converted}
 use Rattle.lift_forms.specs.Places.{Kept, object_place, address_form}
 use Rattle.lift_forms.proofs.SameTypes.{both, both_are_true}
 use Rattle.lift_forms.proofs.Typed.{by_test}
@@ -205,6 +204,8 @@ by_types : (op : Op2) (one other : Ty) (left right : Operand) → valid_ty left.
 by_types op (Integer which) (Integer ty) left right s t h k = integers_valid op which left right h k
 by_types op (Pointer target) (Integer ty) left right s t h k = moved_valid op (value_of left) (elements_of right) (value_valid left h) (integer_valid Isize right.ty right.given k)
 by_types op (Integer which) (Pointer target) left right s t h k = moved_valid op (value_of right) (elements_of left) (value_valid right k) (integer_valid Isize left.ty left.given h)
+by_types op Boolean (Pointer target) left right s t h k = moved_valid op (value_of right) (elements_of left) (value_valid right k) (integer_valid Isize left.ty left.given h)
+by_types op (Pointer target) Boolean left right s t h k = moved_valid op (value_of left) (elements_of right) (value_valid left h) (integer_valid Isize right.ty right.given k)
 by_types op (Pointer target) (Pointer other) left right s t h k = two_pointers_valid op left right s t h k
 by_types op (Code params result) (Code given gives) left right s t h k = two_pointers_valid op left right s t h k
 by_types op one other left right s t h k = tt

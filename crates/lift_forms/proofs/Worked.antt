@@ -1,19 +1,18 @@
 -- Worked examples: expressions of C as Rust writes them. Each is valid, has its type where these names are declared, and prints so.
-use Rattle.std.specs.Prelude.{◌≡◌, ℕ, ℤ, pos, negsuc, Bool, true, false, ◌&&◌, if◌then◌else◌, List, [], ◌∷◌, ◌++◌, map, Option, Some, None, codes, refl}
+use Rattle.std.specs.Prelude.{◌≡◌, ℕ, ℤ, pos, negsuc, true, false, ◌&&◌, if◌then◌else◌, List, [], ◌∷◌, map, Some, None, codes, refl}
 use Rattle.std.specs.Fmt.{digits}
-use Rattle.cr_base.specs.declared.layout.Spot.{Spot}
 use Rattle.cx_core.specs.declared.expr.Op1.TheVariants as op1
 use Rattle.cx_core.specs.declared.expr.Op2.TheVariants as op2
-use Rattle.rs_mean.specs.Typing.{Scope, kind_of, is_of_type, place_type, type_stands, stmts_typed}
+use Rattle.rs_mean.specs.Typing.{Scope, kind_of, is_of_type, stmts_typed}
 use Rattle.rs_text.specs.declared.attribute.Attribute.TheVariants.{Mangled}
-use Rattle.rs_text.specs.declared.integer.IntegerTy.TheVariants.{I8, I32, I64, U8, U32, U64, Isize}
+use Rattle.rs_text.specs.declared.integer.IntegerTy.TheVariants.{I8, I32, I64, U8, U32, U64}
 use Rattle.rs_text.specs.Lines.{address_of as begins_address, null_of as begins_null, transmute_of, expr_text, stmts_lines, place_text}
 use Rattle.rs_text.specs.Names.{keywords, path_words}
-use Rattle.rs_text.specs.Tree.{Ty, Integer, Boolean, Void, Pointer, Array, Code, Record, tys, no_ty, some_ty, no_stmts, Place, Local, Static, Deref, Field, Expr, Literal, Read, Cast, AddressOf, Stmt, stmts, FieldTree, LocalTree, ItemTree, RecordItem, StaticItem, FunctionItem, ModuleTree}
+use Rattle.rs_text.specs.Tree.{Ty, Integer, Boolean, Void, Pointer, Array, Code, Record, tys, no_ty, some_ty, no_stmts, Local, Static, Deref, Field, Expr, Literal, Read, Stmt, stmts, FieldTree, LocalTree, RecordItem, StaticItem, FunctionItem, ModuleTree}
 use Rattle.rs_text.specs.Valid.{valid_expr, valid_place}
 use Rattle.lift_forms.specs.BitFields.{bit_read, bit_write}
-use Rattle.lift_forms.specs.Given.{Given, nothing, truth, value, place, address_of}
-use Rattle.lift_forms.specs.Operators.{Operand, constant, null_of, zero_of, test_of, unary_form, binary_form, and_form, or_form, choice_form, function_form, converted}
+use Rattle.lift_forms.specs.Given.{Given, nothing, truth, value, place}
+use Rattle.lift_forms.specs.Operators.{Operand, null_of, zero_of, unary_form, binary_form, and_form, or_form, choice_form, function_form, converted}
 use Rattle.lift_forms.specs.Places.{object_place, address_form}
 
 -- ---- names
@@ -307,6 +306,19 @@ moved_back = refl
 moved_by_truth : text (Pointer int) (binary_form op2.Add p (as_operand int (unary_form op1.Not a))) ≡ codes "p.offset((a == 0i32) as isize)"
 unfolding digits begins_address begins_null transmute_of keywords path_words
 moved_by_truth = refl
+
+-- `_Bool` is an integer type, too
+moved_by_flag : text (Pointer int) (binary_form op2.Add p flag) ≡ codes "p.offset(t as isize)"
+unfolding digits begins_address begins_null transmute_of keywords path_words
+moved_by_flag = refl
+
+moved_back_by_flag : text (Pointer int) (binary_form op2.Subtract p flag) ≡ codes "p.offset(-(t as isize))"
+unfolding digits begins_address begins_null transmute_of keywords path_words
+moved_back_by_flag = refl
+
+flag_moves : text (Pointer int) (binary_form op2.Add flag p) ≡ codes "p.offset(t as isize)"
+unfolding digits begins_address begins_null transmute_of keywords path_words
+flag_moves = refl
 
 difference : text (Integer I64) (binary_form op2.Subtract p q) ≡ codes "p.offset_from(q) as i64"
 unfolding digits begins_address begins_null transmute_of keywords path_words

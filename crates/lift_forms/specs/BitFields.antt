@@ -1,10 +1,10 @@
 -- Bit-fields through bytes, as Rust writes them (ISO C99, 6.7.2.1p9): the bytes that a bit-field touches are read one by one as a number, and written one by one, each with the bits of its neighbours.
-use Rattle.std.specs.Prelude.{ℕ, zero, suc, ◌+◌, ◌-◌, ◌*◌, ◌/◌, ◌^◌, min, Bool, if◌then◌else◌, ℤ, pos, List, [], ◌∷◌}
+use Rattle.std.specs.Prelude.{ℕ, zero, suc, ◌+◌, ◌-◌, ◌/◌, ◌^◌, min, Bool, if◌then◌else◌, pos, List, [], ◌∷◌}
 use Rattle.cr_base.specs.declared.layout.Spot.{Spot}
 use Rattle.rs_text.specs.declared.integer.IntegerTy.{IntegerTy}
 use Rattle.rs_text.specs.declared.integer.IntegerTy.TheVariants.{I64, U8, U32, U64, Isize}
 use Rattle.rs_text.specs.declared.operator.Operator.TheVariants as rust
-use Rattle.rs_text.specs.Tree.{Ty, Integer, Pointer, Place, Deref, Expr, Literal, Read, Offset, Cast, Binary, Stmt, Assign}
+use Rattle.rs_text.specs.Tree.{Integer, Pointer, Place, Deref, Expr, Literal, Read, Offset, Cast, Binary, Stmt, Assign}
 
 -- a number of the type in which bytes are put together
 abbrev pub word : ℕ → Expr

@@ -1,5 +1,5 @@
 -- How the written crate gives what an expression of C gives (ISO C99, 6.5; the Rust Reference, "Place expressions and value expressions").
-use Rattle.rs_text.specs.Tree.{Ty, Integer, Place, Read, Local, Static, Deref, Field, Expr, Cast, AddressOf}
+use Rattle.rs_text.specs.Tree.{Integer, Place, Local, Static, Deref, Field, Expr, Cast, AddressOf}
 use Rattle.rs_text.specs.declared.integer.IntegerTy.TheVariants.{I32}
 
 pub data Given : Type 0 where

@@ -1,5 +1,5 @@
 -- Laws of types: each form is well typed under the types of its operands (the Rust Reference, "Type system").
-use Rattle.std.specs.Prelude.{◌≡◌, ℕ, ℤ, pos, ◌≤◌, ◌<◌, Bool, true, false, if◌then◌else◌, List, Option, Some, None}
+use Rattle.std.specs.Prelude.{◌≡◌, ℕ, ℤ, ◌≤◌, ◌<◌, Bool, true, false, if◌then◌else◌, List, Option, Some, None}
 use Rattle.cr_base.specs.Layout.{most_bytes}
 use Rattle.cr_base.specs.declared.layout.Spot.{Spot}
 use Rattle.cx_core.specs.declared.expr.Op1.{Op1}
@@ -10,7 +10,7 @@ use Rattle.rs_mean.specs.Scalars.{fits_integer, is_scalar, is_integer, same_inte
 use Rattle.rs_mean.specs.Typing.{Scope, BodyScope, of, is_bits, is_code, is_function_of, is_pointer, is_target, casts, kind_of, own_function_at, place_type, stmts_typed, type_stands}
 use Rattle.rs_text.specs.declared.integer.IntegerTy.{IntegerTy}
 use Rattle.rs_text.specs.declared.integer.IntegerTy.TheVariants.{I32, I64, U64}
-use Rattle.rs_text.specs.Tree.{Ty, Integer, Boolean, Void, Pointer, Code, Tys, OptionTy, Place, Expr, stmts}
+use Rattle.rs_text.specs.Tree.{Ty, Integer, Boolean, Pointer, Code, Tys, OptionTy, Place, Expr, stmts}
 use Rattle.lift_forms.specs.BitFields.{bit_read, bit_write, read_type}
 use Rattle.lift_forms.specs.Given.{Given, nothing, truth, value, place}
 pub use Rattle.lift_forms.specs.Operators.{is_comparison}
@@ -65,6 +65,8 @@ abbrev pub binary_result : Op2 → (left right : Ty) → Option Ty
 binary_result op (Integer one) (Integer other) = numbers_result op one other
 binary_result op (Pointer target) (Integer which) = moved_result op target
 binary_result op (Integer which) (Pointer target) = added_result op target
+binary_result op (Pointer target) Boolean = moved_result op target
+binary_result op Boolean (Pointer target) = added_result op target
 binary_result op (Pointer target) (Pointer other) = pointers_result op target
 binary_result op (Code params result) (Code others gives) = functions_result op
 binary_result op left right = None

@@ -1,12 +1,11 @@
 -- Laws of validity: each form is one of the subset where its operands and their types are (the Rust Reference, "Expressions", "Types").
-use Rattle.std.specs.Prelude.{◌≡◌, ℕ, ℤ, ◌≤◌, Bool, true, ◌&&◌, List}
-use Rattle.cr_base.specs.Layout.{most_bytes}
+use Rattle.std.specs.Prelude.{◌≡◌, ℕ, ℤ, true, List}
 use Rattle.cx_core.specs.declared.expr.Op1.{Op1}
 use Rattle.cx_core.specs.declared.expr.Op2.{Op2}
-use Rattle.rs_text.specs.Tree.{Ty, Pointer, Place, Expr}
+use Rattle.rs_text.specs.Tree.{Ty, Place}
 use Rattle.rs_text.specs.Valid.{is_value, valid_expr, valid_path, valid_place, valid_target, valid_ty}
 use Rattle.lift_forms.specs.Given.{Given, nothing, truth, value, place}
-use Rattle.lift_forms.specs.Operators.{Operand, constant, null_of, zero_of, value_of, test_of, opposite_of, unary_form, binary_form, and_form, or_form, choice_form, function_form, converted}
+use Rattle.lift_forms.specs.Operators.{Operand, constant, zero_of, value_of, test_of, unary_form, binary_form, and_form, or_form, choice_form, function_form, converted}
 use Rattle.lift_forms.specs.Places.{Kept, object_place, address_form}
 
 abbrev pub IsValidGiven : Given → Type 0

@@ -13,7 +13,7 @@ use Rattle.rs_text.specs.declared.operator.Operator.{Operator}
 use Rattle.rs_text.specs.declared.operator.Operator.TheVariants as rust
 use Rattle.rs_text.specs.declared.operator.Wrapping.{Wrapping}
 use Rattle.rs_text.specs.declared.operator.Wrapping.TheVariants.{WrappingAdd, WrappingSub, WrappingMul}
-use Rattle.rs_text.specs.Tree.{Ty, Integer, Boolean, Void, Pointer, Array, Code, Record, Expr, Literal, Truth, NoFunction, Read, Call, CallBy, Wrapped, WrappingNeg, Offset, OffsetFrom, IsNull, IsNone, AddressOf, NullPointer, SomeFunction, Transmute, Neg, Not, Cast, Binary, And, Or, Choose}
+use Rattle.rs_text.specs.Tree.{Ty, Integer, Boolean, Void, Pointer, Array, Code, Record, Expr, Literal, Truth, NoFunction, Read, Wrapped, WrappingNeg, Offset, OffsetFrom, IsNull, IsNone, NullPointer, SomeFunction, Transmute, Neg, Not, Cast, Binary, And, Or, Choose}
 use Rattle.lift_forms.specs.Given.{Given, nothing, truth, value, place, number_of}
 
 -- ---- another type
@@ -242,7 +242,7 @@ is_back _ = false
 abbrev pub moved : Op2 → (at elements : Expr) → Given
 moved op at elements = if moves op then value (Offset at (if is_back op then minus Isize elements else elements)) else nothing
 
--- a pointer and a number (6.5.6p8)
+-- a pointer and a number, which may be a `_Bool` (6.5.6p8)
 abbrev pub moved_form : Op2 → (at count : Operand) → Given
 moved_form op at count = moved op (value_of at) (elements_of count)
 
@@ -265,6 +265,8 @@ abbrev pub binary_by : Op2 → (one other : Ty) → (left right : Operand) → G
 binary_by op (Integer which) (Integer ty) left right = integers_form op which left right
 binary_by op (Pointer target) (Integer ty) left right = moved_form op left right
 binary_by op (Integer which) (Pointer target) left right = moved_form op right left
+binary_by op (Pointer target) Boolean left right = moved_form op left right
+binary_by op Boolean (Pointer target) left right = moved_form op right left
 binary_by op (Pointer target) (Pointer other) left right = pointers_form op left right
 binary_by op (Code params result) (Code given gives) left right = pointers_form op left right
 binary_by op one other left right = nothing

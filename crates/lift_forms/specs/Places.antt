@@ -1,7 +1,7 @@
 -- The places of C's lvalues as Rust writes them (ISO C99, 6.3.2.1, 6.5.2.3 and 6.5.3.2; the Rust Reference, "Place expressions and value expressions").
-use Rattle.std.specs.Prelude.{Bool, if◌then◌else◌, ℕ, List}
+use Rattle.std.specs.Prelude.{if◌then◌else◌, ℕ, List}
 use Rattle.rs_mean.specs.Scalars.{same_type}
-use Rattle.rs_text.specs.Tree.{Ty, Pointer, Place, Local, Static, Deref, Field, Expr, Cast}
+use Rattle.rs_text.specs.Tree.{Ty, Pointer, Place, Field, Cast}
 use Rattle.lift_forms.specs.Given.{Given, value, address_of, pointed}
 use Rattle.lift_forms.specs.Operators.{cast_to}
 

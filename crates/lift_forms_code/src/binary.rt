@@ -283,6 +283,23 @@ fn integer_left(
     }
 }
 
+// A truth value of `_Bool` on the left.
+fn boolean_left(
+    alloc: Global,
+    op: Op2,
+    left_ty: &RTy,
+    left: RGiven,
+    right_ty: &RTy,
+    right: RGiven,
+) -> Result<RGiven, Memory>
+    ensures { IfOk result (λ form. given_view form ≡ binary_by op tree.Boolean (ty_view right_ty.now) (operand_view left_ty.now left) (operand_view right_ty.now right)) }
+{
+    match right_ty {
+        RTy::Pointer(_) => moved_form(alloc, op, right, left_ty, left),
+        _ => Ok(RGiven::Nothing),
+    }
+}
+
 // A pointer to an object on the left.
 fn pointer_left(
     alloc: Global,
@@ -297,6 +314,7 @@ fn pointer_left(
 {
     match right_ty {
         RTy::Integer(_) => moved_form(alloc, op, left, right_ty, right),
+        RTy::Boolean => moved_form(alloc, op, left, right_ty, right),
         RTy::Pointer(_) => pointers_form(alloc, op, left_ty, left, right_ty, right),
         _ => Ok(RGiven::Nothing),
     }
@@ -334,6 +352,7 @@ pub fn binary_form(
 {
     match left_ty {
         RTy::Integer(which) => integer_left(alloc, op, *which, left_ty, left, right_ty, right),
+        RTy::Boolean => boolean_left(alloc, op, left_ty, left, right_ty, right),
         RTy::Pointer(target) => pointer_left(
             alloc,
             op,

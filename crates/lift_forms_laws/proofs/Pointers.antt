@@ -32,7 +32,7 @@ use Rattle.mem_bytes.specs.declared.value.Value.TheVariants.{Whole, Null, Object
 use Rattle.mem_bytes.proofs.Reached.{and_then_ok}
 use Rattle.rs_mean.specs.Run.{Frame}
 use Rattle.rs_mean.specs.Scalars.{integer_scalar, fits_integer, scalar_of}
-use Rattle.rs_mean.specs.Typing.{is_target}
+use Rattle.rs_mean.specs.Typing.{is_target, is_bits, casts}
 use Rattle.rs_mean.specs.Values.{typed, offset_by, apart_by}
 use Rattle.rs_text.specs.declared.integer.IntegerTy.{IntegerTy}
 use Rattle.rs_text.specs.declared.integer.IntegerTy.TheVariants.{I32, I64, U32, Isize}
@@ -181,6 +181,22 @@ object_kind target Null is = tt
 object_kind target (Object at) is = tt
 object_kind target (Whole number) is = absurd is
 object_kind target (Function number) is = absurd is
+
+-- what an integer or a `bool` has is a number
+bits_number : (ty : Ty) (first : Value) → is_bits ty ≡ true → IsOf ty first → IsAddress first → ⊥
+bits_number (Integer which) Null bits is address = is
+bits_number (Integer which) (Object at) bits is address = is
+bits_number (Integer which) (Function number) bits is address = is
+bits_number Boolean Null bits is address = is
+bits_number Boolean (Object at) bits is address = is
+bits_number Boolean (Function number) bits is address = is
+bits_number ty (Whole number) bits is address = address
+bits_number ty first bits is address = cc
+
+bits_cast : (from : Ty) (which : IntegerTy) → is_bits from ≡ true → casts from (Integer which) ≡ true
+bits_cast (Integer from) which is = refl
+bits_cast Boolean which is = refl
+bits_cast from which is = cc
 
 -- a comparison gives 0 or 1
 told : (setting : CSetting) (op : Op2) (memory : Blocks) (type : CTy) (first second : Value) (n : ℤ) → is_comparison op ≡ true →
@@ -367,31 +383,31 @@ module _ (images : Images) (frame : Frame) (world : World) (memory : Blocks) (st
   numbers_by op type one other which count gives left right (Object at) second new h k is behind result s e = absurd is
   numbers_by op type one other which count gives left right (Function number) second new h k is behind result s e = absurd is
 
-  moves_by : (op : Op2) (type one other : CTy) (target gives : Ty) (which : IntegerTy) (left right : Given) (first second new : Value) → ElementsAgree setting frame one target →
-      OperandStands images frame world (record { ty = Pointer target; given = left }) first → OperandStands images frame world (record { ty = Integer which; given = right }) second →
-      IsOf (Pointer target) first → IsOf (Integer which) second → IsNear first → moved_result op target ≡ Some gives → binary_of setting op type memory one other first second ≡ Ok new →
-      GivenStands images frame world gives (moved_form op (record { ty = Pointer target; given = left }) (record { ty = Integer which; given = right })) new
-  moves_by op type one other target gives which left right first (Whole count) new agree h k is behind near result e =
-      moved_stands one target agree op (record { ty = Pointer target; given = left }) (record { ty = Integer which; given = right }) first new count gives near
+  moves_by : (op : Op2) (type one other : CTy) (target gives count : Ty) (left right : Given) (first second new : Value) → is_bits count ≡ true → ElementsAgree setting frame one target →
+      OperandStands images frame world (record { ty = Pointer target; given = left }) first → OperandStands images frame world (record { ty = count; given = right }) second →
+      IsOf (Pointer target) first → IsOf count second → IsNear first → moved_result op target ≡ Some gives → binary_of setting op type memory one other first second ≡ Ok new →
+      GivenStands images frame world gives (moved_form op (record { ty = Pointer target; given = left }) (record { ty = count; given = right })) new
+  moves_by op type one other target gives count left right first (Whole n) new bits agree h k is behind near result e =
+      moved_stands one target agree op (record { ty = Pointer target; given = left }) (record { ty = count; given = right }) first new n gives near
       (value_gives images frame world (record { ty = Pointer target; given = left }) first h)
-      (integer_gives images frame world Isize (record { ty = Integer which; given = right }) count k refl behind) result
-      (sym (pointer_first setting op type one other memory first count (object_address target first is)) ∙ e)
-  moves_by op type one other target gives which left right first Null new agree h k is behind near result e = absurd behind
-  moves_by op type one other target gives which left right first (Object at) new agree h k is behind near result e = absurd behind
-  moves_by op type one other target gives which left right first (Function number) new agree h k is behind near result e = absurd behind
+      (integer_gives images frame world Isize (record { ty = count; given = right }) n k (bits_cast count Isize bits) behind) result
+      (sym (pointer_first setting op type one other memory first n (object_address target first is)) ∙ e)
+  moves_by op type one other target gives count left right first Null new bits agree h k is behind near result e = absurd (bits_number count Null bits behind tt)
+  moves_by op type one other target gives count left right first (Object at) new bits agree h k is behind near result e = absurd (bits_number count (Object at) bits behind tt)
+  moves_by op type one other target gives count left right first (Function n) new bits agree h k is behind near result e = absurd (bits_number count (Function n) bits behind tt)
 
-  adds_by : (op : Op2) (type one other : CTy) (target gives : Ty) (which : IntegerTy) (left right : Given) (first second new : Value) → ElementsAgree setting frame other target →
-      OperandStands images frame world (record { ty = Integer which; given = left }) first → OperandStands images frame world (record { ty = Pointer target; given = right }) second →
-      IsOf (Integer which) first → IsOf (Pointer target) second → IsNear second → added_result op target ≡ Some gives → binary_of setting op type memory one other first second ≡ Ok new →
-      GivenStands images frame world gives (moved_form op (record { ty = Pointer target; given = right }) (record { ty = Integer which; given = left })) new
-  adds_by op type one other target gives which left right (Whole count) second new agree h k is behind far result e =
-      added_by other target agree op (record { ty = Pointer target; given = right }) (record { ty = Integer which; given = left }) second new count gives far
+  adds_by : (op : Op2) (type one other : CTy) (target gives count : Ty) (left right : Given) (first second new : Value) → is_bits count ≡ true → ElementsAgree setting frame other target →
+      OperandStands images frame world (record { ty = count; given = left }) first → OperandStands images frame world (record { ty = Pointer target; given = right }) second →
+      IsOf count first → IsOf (Pointer target) second → IsNear second → added_result op target ≡ Some gives → binary_of setting op type memory one other first second ≡ Ok new →
+      GivenStands images frame world gives (moved_form op (record { ty = Pointer target; given = right }) (record { ty = count; given = left })) new
+  adds_by op type one other target gives count left right (Whole n) second new bits agree h k is behind far result e =
+      added_by other target agree op (record { ty = Pointer target; given = right }) (record { ty = count; given = left }) second new n gives far
       (value_gives images frame world (record { ty = Pointer target; given = right }) second k)
-      (integer_gives images frame world Isize (record { ty = Integer which; given = left }) count h refl is) result
-      (sym (pointer_second setting op type one other memory second count (object_address target second behind)) ∙ e)
-  adds_by op type one other target gives which left right Null second new agree h k is behind far result e = absurd is
-  adds_by op type one other target gives which left right (Object at) second new agree h k is behind far result e = absurd is
-  adds_by op type one other target gives which left right (Function number) second new agree h k is behind far result e = absurd is
+      (integer_gives images frame world Isize (record { ty = count; given = left }) n h (bits_cast count Isize bits) is) result
+      (sym (pointer_second setting op type one other memory second n (object_address target second behind)) ∙ e)
+  adds_by op type one other target gives count left right Null second new bits agree h k is behind far result e = absurd (bits_number count Null bits is tt)
+  adds_by op type one other target gives count left right (Object at) second new bits agree h k is behind far result e = absurd (bits_number count (Object at) bits is tt)
+  adds_by op type one other target gives count left right (Function n) second new bits agree h k is behind far result e = absurd (bits_number count (Function n) bits is tt)
 
   binary_by : (op : Op2) (type one other : CTy) (lt rt gives : Ty) (left right : Given) (first second new : Value) → OperandStands images frame world (record { ty = lt; given = left }) first →
       OperandStands images frame world (record { ty = rt; given = right }) second → IsOf lt first → IsOf rt second → IsNear first → IsNear second → binary_result op lt rt ≡ Some gives →
@@ -400,9 +416,13 @@ module _ (images : Images) (frame : Frame) (world : World) (memory : Blocks) (st
   binary_by op type one other (Integer which) (Integer count) gives left right first second new h k is behind near far result s agree e =
       numbers_by op type one other which count gives left right first second new h k is behind result s e
   binary_by op type one other (Pointer target) (Integer which) gives left right first second new h k is behind near far result s agree e =
-      moves_by op type one other target gives which left right first second new agree h k is behind near result e
+      moves_by op type one other target gives (Integer which) left right first second new refl agree h k is behind near result e
   binary_by op type one other (Integer which) (Pointer target) gives left right first second new h k is behind near far result s agree e =
-      adds_by op type one other target gives which left right first second new agree h k is behind far result e
+      adds_by op type one other target gives (Integer which) left right first second new refl agree h k is behind far result e
+  binary_by op type one other (Pointer target) Boolean gives left right first second new h k is behind near far result s agree e =
+      moves_by op type one other target gives Boolean left right first second new refl agree h k is behind near result e
+  binary_by op type one other Boolean (Pointer target) gives left right first second new h k is behind near far result s agree e =
+      adds_by op type one other target gives Boolean left right first second new refl agree h k is behind far result e
   binary_by op type one other (Pointer target) (Pointer last) gives left right first second new h k is behind near far result s agree e =
       pointers_stand op one target gives (record { ty = Pointer target; given = left }) (record { ty = Pointer last; given = right }) first second new agree is
       (of_other_target target last second behind) near far result (value_gives images frame world (record { ty = Pointer target; given = left }) first h)

@@ -53,6 +53,8 @@ Differing setting frame op type target = Unit {0}
 abbrev pub Elements : CSetting → Frame → Op2 → (left right : Ty) → (one other : CTy) → Type 0
 Elements setting frame op (Pointer target) (Integer which) one other = ElementsAgree setting frame one target
 Elements setting frame op (Integer which) (Pointer target) one other = ElementsAgree setting frame other target
+Elements setting frame op (Pointer target) Boolean one other = ElementsAgree setting frame one target
+Elements setting frame op Boolean (Pointer target) one other = ElementsAgree setting frame other target
 Elements setting frame op (Pointer target) (Pointer behind) one other = Differing setting frame op one target
 Elements setting frame op left right one other = Unit {0}
 
