@@ -23,9 +23,11 @@ pub(crate) enum Group {
     Hosts,
     /// Initialisers by themselves.
     Places,
+    /// Written records.
+    Records,
 }
 
-const GROUPS: [(&str, Group); 8] = [
+const GROUPS: [(&str, Group); 9] = [
     ("texts", Group::Texts),
     ("stores", Group::Stores),
     ("crates", Group::Crates),
@@ -34,6 +36,7 @@ const GROUPS: [(&str, Group); 8] = [
     ("runs", Group::Runs),
     ("hosts", Group::Hosts),
     ("places", Group::Places),
+    ("records", Group::Records),
 ];
 
 /// The group of the rows behind a row: the one that it names, or the one before.
@@ -66,6 +69,7 @@ pub(crate) fn answer<R: Files>(
         Group::Runs => c_run_rows::answer_to(alloc, row),
         Group::Hosts => host_rows::answer_to(alloc, row),
         Group::Places => place_rows::answer_to(alloc, row),
+        Group::Records => answer_to(&record_rows::Stages, alloc, row),
     }
 }
 

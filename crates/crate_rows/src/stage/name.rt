@@ -3,10 +3,12 @@
 //! whether a module is named by this stem alone. `name temporaries COUNT NAME ..`: the numbers and
 //! the names of so many temporaries beside these names. `name given WORD ..`: the Rust names of these names of C,
 //! one behind the other; the words `@module`, `@function` and `@fields` begin a set, in which those behind them stand.
+//! `name modules FILE ..`: the names of the modules of these files.
 
 use cr_base::{Items, Name};
 use row_words::{Answer, Asked};
 use rs_items::NameMap;
+use rs_items_modules::module_names;
 use std::alloc::Global;
 use straight_items::{NameScope, Temporaries, is_plain, keeps_name, stem_of};
 
@@ -23,6 +25,7 @@ pub(crate) fn answer(alloc: Global, asked: &mut Asked, out: &mut Answer) {
         "plain" => out.value(is_plain(asked.rest())),
         "temporaries" => temporaries(alloc, asked, out),
         "given" => given(alloc, asked, out),
+        "modules" => modules(alloc, asked, out),
         _ => asked.refuse(),
     }
 }
@@ -71,6 +74,13 @@ fn set_of(word: &str) -> Option<rs_items::NameScope> {
         "@function" => Some(rs_items::NameScope::Function),
         "@fields" => Some(rs_items::NameScope::Fields),
         _ => None,
+    }
+}
+
+fn modules(alloc: Global, asked: &mut Asked, out: &mut Answer) {
+    let files = names(alloc, asked);
+    if let Some(names) = asked.had(module_names(alloc, files.as_slice())) {
+        write_names(names.as_slice(), out);
     }
 }
 
