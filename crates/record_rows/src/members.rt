@@ -26,7 +26,7 @@ pub(crate) fn members_left(layouts: &Layouts, alloc: Global, asked: &mut Asked) 
 }
 
 // A member that can be laid out.
-fn fit_member(layouts: &Layouts, alloc: Global, asked: &mut Asked, word: &str) -> Option<Member>
+fn fit_member<'a>(layouts: &Layouts, alloc: Global, asked: &mut Asked<'a>, word: &'a str) -> Option<Member>
     ensures { IfSome result (λ member. IsMemberComplete layouts.now (view_member member) × HasFittingBits (view_member member)) }
 {
     let member = member(alloc, asked, word)?;
@@ -55,7 +55,7 @@ fn has_fitting_bits(member: &Member) -> bool
     }
 }
 
-fn member(alloc: Global, asked: &mut Asked, word: &str) -> Option<Member> {
+fn member<'a>(alloc: Global, asked: &mut Asked<'a>, word: &'a str) -> Option<Member> {
     let (name, behind) = asked.found(word.split_once('='), (word, "int"));
     let (of, width) = split_width(behind);
     let bits = bits(asked, width);
@@ -68,7 +68,7 @@ fn member(alloc: Global, asked: &mut Asked, word: &str) -> Option<Member> {
 }
 
 // The name in front of a `=`, where there is one.
-fn name_in(alloc: Global, asked: &mut Asked, name: &str) -> Option<Name> {
+fn name_in<'a>(alloc: Global, asked: &mut Asked<'a>, name: &'a str) -> Option<Name> {
     if name.is_empty() {
         return None;
     }
