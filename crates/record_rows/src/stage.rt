@@ -17,17 +17,13 @@ impl Answers for Stages {
 }
 
 fn answer(alloc: Global, asked: &mut Asked, out: &mut Answer) {
-    let steps = asked.rest();
     let home = first_step(asked);
-    let others = asked.rest();
+    let steps = asked.rest();
     asked.begin(home);
-    let home = Name::of(asked.bytes(alloc));
-    let mut records = Records::new(alloc, home);
-    if steps != others {
-        for step in others.split(" | ") {
-            asked.begin(step);
-            records.step(alloc, asked);
-        }
+    let mut records = Records::new(alloc, Name::of(asked.bytes(alloc)));
+    for step in steps.split(" | ") {
+        asked.begin(step);
+        records.step(alloc, asked);
     }
     records.write(alloc, asked, out);
 }
