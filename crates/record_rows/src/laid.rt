@@ -1,14 +1,14 @@
 //! How a structure or union is laid out.
 
-ghost use Rattle.std.specs.Prelude.{◌≡◌, Some, map, All, IfOk, IfSome, IsSome};
-ghost use Rattle.cx_core.specs.Layouts.{CRow, row_at};
-ghost use Rattle.cx_core.specs.Views.{view_member, view_record};
-ghost use Rattle.cx_layout.specs.Calls.{AddsRecord, IsMemberComplete, HasFittingBits};
+ghost use Rattle.std.specs.Prelude.{◌≡◌, false, Some, map, option_map, All, IfOk, IfSome};
+ghost use Rattle.cx_core.specs.Layouts.{CRow, extent, row_at};
+ghost use Rattle.cx_core.specs.Trees.{ty, record_type};
+ghost use Rattle.cx_core.specs.Views.{view_member, view_record, view_type};
+ghost use Rattle.cx_layout.specs.Calls.{IsMemberComplete, HasFittingBits};
 ghost use Rattle.rs_items.specs.Laid.{IsLaidOut};
 
-use crate::types::plain;
 use cr_base::{Items, Memory, Spot};
-use cx_core::{RecordTy, TyForm};
+use cx_core::{RecordTy, Ty, TyForm};
 use cx_layout::{LayoutFault, Layouts};
 use std::alloc::Global;
 
@@ -42,12 +42,36 @@ fn laid_out(alloc: Global, layouts: &Layouts, number: u32) -> Result<Option<Laid
     ensures { IfOk result (λ found. IfSome found (λ laid. (row : CRow) → row_at layouts.now number ≡ Some row
         → row ≡ record { laid = record { size = laid.size; align = laid.align }; spots = laid.spots })) }
 {
-    let whole = plain(TyForm::Record(number));
     let spots = spots_of(alloc, layouts, number)?;
-    let (Some(size), Some(align)) = (layouts.size(&whole), layouts.align(&whole)) else {
+    let Some(size) = size_of(layouts, number) else {
+        return Ok(None);
+    };
+    let Some(align) = align_of(layouts, number) else {
         return Ok(None);
     };
     Ok(Some(LaidOut { spots, size, align }))
+}
+
+fn size_of(layouts: &Layouts, number: u32) -> Option<u64>
+    ensures { result ≡ option_map (λ laid. laid.size) (extent layouts.now (ty (record_type number) false)) }
+{
+    layouts.size(&whole(number))
+}
+
+fn align_of(layouts: &Layouts, number: u32) -> Option<u64>
+    ensures { result ≡ option_map (λ laid. laid.align) (extent layouts.now (ty (record_type number) false)) }
+{
+    layouts.align(&whole(number))
+}
+
+// The type of a structure or union.
+fn whole(number: u32) -> Ty
+    ensures { view_type result ≡ ty (record_type number) false }
+{
+    Ty {
+        form: TyForm::Record(number),
+        is_const: false,
+    }
 }
 
 // Where its members stand.

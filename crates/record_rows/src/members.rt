@@ -26,7 +26,12 @@ pub(crate) fn members_left(layouts: &Layouts, alloc: Global, asked: &mut Asked) 
 }
 
 // A member that can be laid out.
-fn fit_member<'a>(layouts: &Layouts, alloc: Global, asked: &mut Asked<'a>, word: &'a str) -> Option<Member>
+fn fit_member<'a>(
+    layouts: &Layouts,
+    alloc: Global,
+    asked: &mut Asked<'a>,
+    word: &'a str,
+) -> Option<Member>
     ensures { IfSome result (λ member. IsMemberComplete layouts.now (view_member member) × HasFittingBits (view_member member)) }
 {
     let member = member(alloc, asked, word)?;

@@ -10,7 +10,7 @@ use crate::members::members_left;
 use cr_base::{Items, Memory, Name, Spot};
 use cx_core::RecordTy;
 use cx_layout::Layouts;
-use row_words::{Answer, Asked};
+use row_words::{Answer, Asked, RowFault};
 use rs_items::{Known, NameMap, NameScope, Named, record_item, rust_type};
 use rs_items_fields::field_name;
 use rs_print::bytes_of;
@@ -73,13 +73,13 @@ impl Records {
         requires complete { All (IsMemberComplete self.old.layouts) (map view_member one.members) }
         requires bits { All HasFittingBits (map view_member one.members) }
     {
-        match asked.had(lay_out(alloc, &mut self.layouts, &one)) {
-            Some(Some(laid)) => {
+        match lay_out(alloc, &mut self.layouts, &one) {
+            Ok(Some(laid)) => {
                 asked.had(self.put(alloc, &one, laid));
                 asked.had(self.list.push(one));
             }
-            Some(None) => asked.refuse(),
-            None => {}
+            Ok(None) => asked.refuse(),
+            Err(Memory) => asked.fail(RowFault::Memory),
         }
     }
 
