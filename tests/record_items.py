@@ -17,6 +17,8 @@ from dataclasses import dataclass
 from pathlib import Path
 from random import Random
 
+sys.dont_write_bytecode = True
+
 from layout_records import WORKED, answers_by_gcc, random_rows, record_of
 
 # names of members: keywords of Rust, words that it has or that the crates have a meaning for, and names like those that fields of bytes get
