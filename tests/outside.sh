@@ -49,6 +49,8 @@ group checks
 check_rows=$rows
 group forms
 form_rows=$rows
+group records
+record_rows=$rows
 built c2rs || exit 1
 
 # The exit status of a unit, as gcc builds it.
@@ -317,6 +319,16 @@ random_records() {
   fi
 }
 
+# Random records as they are written: rustc lays them out as gcc lays out those of C.
+record_items() {
+  compared 'random records as they are written' record_items.py --rows "$record_rows" gcc rustc
+}
+
+# Random crates of names alone: rustc takes each.
+crate_names() {
+  compared 'random crates of names' crate_names.py --rows "$crate_rows" rustc
+}
+
 # Runs of crates: those rows that end do so as the programs of rustc do, and write the same.
 crate_runs() {
   local said
@@ -387,6 +399,8 @@ random_initialisers
 unit_mutants
 relooper_graphs
 random_records
+record_items
+crate_names
 crate_runs
 random_crates
 form_tables

@@ -25,9 +25,11 @@ pub(crate) enum Group {
     Places,
     /// Forms of expressions.
     Forms,
+    /// Written records.
+    Records,
 }
 
-const GROUPS: [(&str, Group); 9] = [
+const GROUPS: [(&str, Group); 10] = [
     ("texts", Group::Texts),
     ("stores", Group::Stores),
     ("crates", Group::Crates),
@@ -37,6 +39,7 @@ const GROUPS: [(&str, Group); 9] = [
     ("hosts", Group::Hosts),
     ("places", Group::Places),
     ("forms", Group::Forms),
+    ("records", Group::Records),
 ];
 
 /// The group of the rows behind a row: the one that it names, or the one before.
@@ -70,6 +73,7 @@ pub(crate) fn answer<R: Files>(
         Group::Hosts => host_rows::answer_to(alloc, row),
         Group::Places => place_rows::answer_to(alloc, row),
         Group::Forms => answer_to(&form_rows::Stages, alloc, row),
+        Group::Records => answer_to(&record_rows::Stages, alloc, row),
     }
 }
 

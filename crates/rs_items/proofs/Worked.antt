@@ -1,16 +1,14 @@
 -- A structure with bit-fields, as gcc lays it out:
 --   struct s { char a; int b : 3; int c : 30; unsigned : 0; char d; };
-use Rattle.std.proofs.Common.{◌≡◌, ℕ, true, false, List, [], ◌∷◌, Some, None, codes, refl}
+use Rattle.std.proofs.Common.{◌≡◌, ℕ, false, List, [], ◌∷◌, Some, None, codes, refl}
 use Rattle.std.specs.Fmt.{digits}
 use Rattle.cr_base.specs.declared.layout.Spot.{Spot}
-use Rattle.cx_core.specs.Layouts.{row_of}
 use Rattle.cx_core.specs.Trees.{CMember, CRecord, ty, basic}
 use Rattle.cx_core.specs.declared.ty.Basic.{Basic}
 use Rattle.cx_core.specs.declared.ty.Basic.TheVariants.{Char, Int, Unsigned}
-use Rattle.rs_items.specs.Known.{KnownThing, Knows, MemberField}
+use Rattle.rs_items.specs.Known.{KnownThing, Knows}
 use Rattle.rs_items.specs.Laid.{IsLaidOut}
 use Rattle.rs_items.specs.Records.{fields_walk, record_tree, struct_end, struct_step}
-use Rattle.rs_items.specs.declared.known.Named.{Named}
 use Rattle.rs_items.specs.declared.known.Named.TheVariants.{Object, Function, BareFunction, Record as RecordNamed, Enum, Temporary, Result}
 use Rattle.rs_items_sets.specs.Names.{reserved}
 use Rattle.rs_text.specs.Names.{keywords, path_words}
