@@ -1,0 +1,4 @@
+pub mod Blocks
+pub mod Conditions
+pub mod Ifs
+pub mod Runs
