@@ -1,4 +1,5 @@
 pub mod Blocks
+pub mod Branches
 pub mod Conditions
 pub mod Ifs
 pub mod Runs
