@@ -2,4 +2,5 @@ pub mod Blocks
 pub mod Branches
 pub mod Conditions
 pub mod Ifs
+pub mod Names
 pub mod Runs
