@@ -4,3 +4,4 @@ pub mod Conditions
 pub mod Ifs
 pub mod Names
 pub mod Runs
+pub mod Serving
