@@ -2,7 +2,9 @@ pub mod Blocks
 pub mod Branches
 pub mod Conditions
 pub mod Ifs
+pub mod Measure
 pub mod Names
 pub mod Picks
 pub mod Runs
 pub mod Serving
+pub mod Turns
