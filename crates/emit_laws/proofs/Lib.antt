@@ -4,6 +4,7 @@ pub mod Conditions
 pub mod Ifs
 pub mod Measure
 pub mod Names
+pub mod Owing
 pub mod Picks
 pub mod Runs
 pub mod Serving
