@@ -5,6 +5,7 @@ pub mod Conditions
 pub mod Ifs
 pub mod Measure
 pub mod Names
+pub mod Numbering
 pub mod Owing
 pub mod Picks
 pub mod Runs
