@@ -2,7 +2,10 @@ pub mod Blocks
 pub mod Branches
 pub mod Closing
 pub mod Conditions
+pub mod Drafting
+pub mod Every
 pub mod Ifs
+pub mod Keeping
 pub mod Measure
 pub mod Names
 pub mod Numbering
