@@ -18,7 +18,7 @@ use Rattle.emit.specs.Bodies.{node_stmts, nest_stmts, chain_stmts, arms_stmts, d
 use Rattle.emit.specs.Jumps.{Jump, Jumps, no_jumps, label_of, goes_to, told, by_own_label, jumps_before, jumps_within}
 use Rattle.emit.specs.Nests.{Nest, single, choice, group, repeated, dispatched, Chain, no_nests, more_nests, Chains, no_chains, more_chains, nest_entries, chain_entries, nest_is_told, chain_is_told}
 use Rattle.emit.specs.Texts.{one_stmt, choice_stmts, loop_of}
-use Rattle.emit_laws.specs.Covers.{Nodes, nowhere, with_nodes, either_of, CoversNest, CoversChain, CoverArms}
+use Rattle.emit_laws.specs.Covers.{Nodes, nowhere, with_nodes, either_of, CoversNest, CoversChain, CoverArms, Covers}
 use Rattle.emit_laws.specs.Tells.{Reads, CanTell, nest_chooses, chain_chooses, chains_choose}
 use Rattle.emit_laws.proofs.Blocks.{block_runs, loop_runs}
 use Rattle.emit_laws.proofs.Branches.{StaysWithin, AllAt, after, node_runs}
@@ -170,20 +170,20 @@ module _ {F S A B P : Type 0} (source : Source F S A P) (frame : Frame) (behave 
 
   abbrev NestOwed : Nest → Type 0
   NestOwed nest =
-      (around : Around) → CoversNest flow around.ahead around.known nest → (nest_chooses nest ≡ true → CanTell frame At) → (node : ℕ) (world : World) → IsIn node (nest_entries nest) →
+      (around : Around) → CoversNest flow chain_entries around.ahead around.known nest → (nest_chooses nest ≡ true → CanTell frame At) → (node : ℕ) (world : World) → IsIn node (nest_entries nest) →
       IsReady around.position node (nest_is_told nest) world →
       OwedAt around.n around.m around.position (seq (run_stmts frame (nest_stmts flow nest around.label around.jumps)) around.next) world
 
   abbrev ChainOwed : Chain → Type 0
   ChainOwed nests =
-      (around : Around) → CoversChain flow around.ahead around.known nests → (chain_chooses nests ≡ true → CanTell frame At) → (node : ℕ) (world : World) → IsIn node (chain_entries nests) →
+      (around : Around) → CoversChain flow chain_entries around.ahead around.known nests → (chain_chooses nests ≡ true → CanTell frame At) → (node : ℕ) (world : World) → IsIn node (chain_entries nests) →
       IsReady around.position node (chain_is_told nests) world →
       OwedAt around.n around.m around.position (seq (run_stmts frame (chain_stmts flow nests around.label around.jumps)) around.next) world
 
   abbrev ArmsOwed : Chains → Type 0
   ArmsOwed arms =
       (around : Around) (ways : Nodes) → ServesAll ways (From around.m around.position) around.label around.jumps around.n around.next → (targets : List ℕ) →
-      CoverArms flow ways around.ahead around.known arms targets → (chains_choose arms ≡ true → CanTell frame At) → (to : ℕ) (world : World) → IsIn to targets → At around.position to world →
+      CoverArms flow chain_entries ways around.ahead around.known arms targets → (chains_choose arms ≡ true → CanTell frame At) → (to : ℕ) (world : World) → IsIn to targets → At around.position to world →
       OwedAt around.n around.m around.position (seq (run_stmts frame (pick flow around.label around.jumps arms targets to)) around.next) world
 
   -- ---- nodes
@@ -268,7 +268,7 @@ module _ {F S A B P : Type 0} (source : Source F S A P) (frame : Frame) (behave 
 
   -- ---- nests in order
 
-  module _ (around : Around) (second : Nest) (rest : Chain) (owed : ChainOwed (more_nests second rest)) (covers : CoversChain flow around.ahead around.known (more_nests second rest))
+  module _ (around : Around) (second : Nest) (rest : Chain) (owed : ChainOwed (more_nests second rest)) (covers : CoversChain flow chain_entries around.ahead around.known (more_nests second rest))
       (can : chain_chooses (more_nests second rest) ≡ true → CanTell frame At) where
     abbrev others_run : Run Flow
     others_run = run_stmts frame (chain_stmts flow (more_nests second rest) around.label around.jumps)
@@ -441,7 +441,7 @@ module _ {F S A B P : Type 0} (source : Source F S A P) (frame : Frame) (behave 
 
     -- so many turns
     turns_owed : (k : ℕ) (around : Around) → around.n + rank source.limit around.m (source.weight around.position) < k →
-        CoversChain flow nowhere (with_nodes heads (either_of around.ahead around.known)) body → (node : ℕ) (world : World) → IsIn node heads →
+        CoversChain flow chain_entries nowhere (with_nodes heads (either_of around.ahead around.known)) body → (node : ℕ) (world : World) → IsIn node heads →
         IsReady around.position node (chain_is_told body) world → OwedAt around.n around.m around.position (whole around) world
     unfolding takes_unit
     turns_owed zero around few covers node world there ready = absurd (omega (arith, few))
@@ -463,7 +463,7 @@ module _ {F S A B P : Type 0} (source : Source F S A P) (frame : Frame) (behave 
             let no = no_more source.weight less later around.m around.position behind in
             nothing_owed (pred around.n) less later (whole around) start (omega (arith, none)) (omega (arith, no, nor))
 
-    loop_owed : (around : Around) → CoversChain flow nowhere (with_nodes heads (either_of around.ahead around.known)) body → (node : ℕ) (world : World) → IsIn node heads →
+    loop_owed : (around : Around) → CoversChain flow chain_entries nowhere (with_nodes heads (either_of around.ahead around.known)) body → (node : ℕ) (world : World) → IsIn node heads →
         IsReady around.position node (chain_is_told body) world →
         OwedAt around.n around.m around.position (seq (run_stmts frame (one_stmt (loop_of around.label (inner around)))) around.next) world
     loop_owed around covers node world there ready =
@@ -491,7 +491,7 @@ module _ {F S A B P : Type 0} (source : Source F S A P) (frame : Frame) (behave 
     arms_owed (more_chains first others) = more_arms_owed first others (chain_owed first) (arms_owed others)
 
   -- the text of nests that are entered at the flow's entry
-  pub draft_owed : (nests : Chain) → CoversChain flow nowhere nowhere nests → (chain_chooses nests ≡ true → CanTell frame At) → IsIn flow.entry (chain_entries nests) → (next : Flow → Run B) →
+  pub draft_owed : (nests : Chain) → Covers flow nests → (chain_chooses nests ≡ true → CanTell frame At) → IsIn flow.entry (chain_entries nests) → (next : Flow → Run B) →
       IsSilent source frame At Back Good most_units most_steps next → Returns source frame At Back Good most_units most_steps next → (position : P) (world : World) → At position flow.entry world →
       Owes source.events events_of Good most_units most_steps (source.runs position) (seq (run_stmts frame (draft_of flow nests)) next world)
   draft_owed nests covers can there next silent returns position world at =
