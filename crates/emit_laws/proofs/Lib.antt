@@ -2,6 +2,7 @@ pub mod Blocks
 pub mod Branches
 pub mod Closing
 pub mod Conditions
+pub mod Covering
 pub mod Drafting
 pub mod Every
 pub mod Ifs
