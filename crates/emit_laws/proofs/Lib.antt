@@ -1,5 +1,6 @@
 pub mod Blocks
 pub mod Branches
+pub mod Chaining
 pub mod Closing
 pub mod Conditions
 pub mod Covering
