@@ -123,3 +123,42 @@ module _ (flow : FlowTree) (ahead known : Nodes) where
 
   pub chained_covers : (nests : List Ranked) → RankedCover 0 nests → CoversChain flow chain_entries ahead known (chained nests)
   chained_covers nests covers = chained_from_covers 0 nests [] tt covers
+
+-- ---- where a chain is entered
+
+-- where the first of pieces is entered, or what stands behind them, if there are none
+abbrev front_entries : List Piece → List ℕ → List ℕ
+front_entries [] entries = entries
+front_entries (piece ∷ pieces) entries = front_entries pieces (nest_entries piece.nest)
+
+in_front_entries : (pieces : List Piece) (others : Chain) → chain_entries (in_front pieces others) ≡ front_entries pieces (chain_entries others)
+in_front_entries [] others = refl
+in_front_entries (piece ∷ pieces) others = in_front_entries pieces (more_nests piece.nest others)
+
+gathered_entries : (from : ℕ) (first : Nest) (nests : List Nest) (pieces : List Piece) (entries : List ℕ) → front_entries (gathered from (first ∷ nests) pieces) entries ≡ front_entries pieces (nest_entries first)
+gathered_entries from first nests [] entries = refl
+gathered_entries from first nests (piece ∷ pieces) entries = by_start (nat_lt from piece.start) (gathered_entries from piece.nest (first ∷ nests) pieces entries)
+  where
+    by_start : (behind : Bool) → front_entries (gathered from (piece.nest ∷ first ∷ nests) pieces) entries ≡ front_entries pieces (nest_entries piece.nest) →
+        front_entries (if behind then gathered from (piece.nest ∷ first ∷ nests) pieces else record { start = piece.start; nest = group (chain (piece.nest ∷ first ∷ nests)) } ∷ pieces) entries
+        ≡ front_entries pieces (nest_entries piece.nest)
+    by_start true rest = rest
+    by_start false rest = refl
+
+joined_entries : (from : ℕ) (pieces : List Piece) (entries : List ℕ) → front_entries (joined from pieces) entries ≡ front_entries pieces entries
+joined_entries from [] entries = refl
+joined_entries from (piece ∷ pieces) entries = by_start (nat_lt from piece.start)
+  where
+    by_start : (behind : Bool) → front_entries (if behind then gathered from (piece.nest ∷ []) pieces else piece ∷ pieces) entries ≡ front_entries pieces (nest_entries piece.nest)
+    by_start true = gathered_entries from piece.nest [] pieces entries
+    by_start false = refl
+
+-- with a first piece it doesn't matter what stands behind
+chained_from_entries : (number : ℕ) (nests : List Ranked) (piece : Piece) (pieces : List Piece) → chain_entries (chained_from number nests (piece ∷ pieces)) ≡ front_entries pieces (nest_entries piece.nest)
+chained_from_entries number [] piece pieces = in_front_entries (piece ∷ pieces) no_nests
+chained_from_entries number (ranked ∷ others) piece pieces =
+    chained_from_entries (suc number) others (record { start = number; nest = ranked.nest }) (joined ranked.from (piece ∷ pieces)) ∙ joined_entries ranked.from (piece ∷ pieces) (nest_entries ranked.nest)
+
+-- a chain is entered where its first nest is
+pub chained_entries : (ranked : Ranked) (others : List Ranked) → chain_entries (chained (ranked ∷ others)) ≡ nest_entries ranked.nest
+chained_entries ranked others = chained_from_entries 1 others (record { start = 0; nest = ranked.nest }) []

@@ -14,5 +14,6 @@ pub mod Numbering
 pub mod Owing
 pub mod Picks
 pub mod Runs
+pub mod Seeing
 pub mod Serving
 pub mod Turns
