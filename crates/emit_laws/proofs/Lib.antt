@@ -17,3 +17,4 @@ pub mod Runs
 pub mod Seeing
 pub mod Serving
 pub mod Turns
+pub mod Ways
