@@ -13,6 +13,7 @@ pub mod Names
 pub mod Numbering
 pub mod Owing
 pub mod Picks
+pub mod Placing
 pub mod Runs
 pub mod Seeing
 pub mod Serving

@@ -10,7 +10,7 @@ abbrev pub IsAmong : {A : Type 0} → A → List A → Type 0
 IsAmong one [] = ⊥
 IsAmong one (first ∷ others) = (one ≡ first) ⊎ IsAmong one others
 
-least_left : (a b : ℕ) → least a b ≤ a
+pub least_left : (a b : ℕ) → least a b ≤ a
 least_left a b = by_test (nat_lt b a) refl
   where
     by_test : (test : Bool) → nat_lt b a ≡ test → (if test then b else a) ≤ a
