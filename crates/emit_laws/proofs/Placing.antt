@@ -450,3 +450,82 @@ module _ (flow : FlowTree) where
           (λ node there. seen_with_inner (suc number) left new_inner others node there) fine.0,
         inside_fine (suc number) left others (omega (arith, at)) (omega (arith, less)) fine.1,
       )
+
+    -- ---- a whole list
+
+    -- nests of a list cover, each with all later ones ahead
+    abbrev pub ListCovers : List Nest → Type 0
+    ListCovers [] = ⊤
+    ListCovers (nest ∷ others) = IsFlat nest × CoversNest flow behind (with_nodes (all_entries others) ahead) known nest × ListCovers others
+
+    pub record IsSorted (rest : List ℕ) (sorted : Sorted) : Type 0 where
+      pub fine : AllFine rest sorted.table 0 sorted.siblings
+      pub before : AreBefore sorted.table (length sorted.siblings)
+
+    only_is : (entries : List ℕ) (entry : ℕ) → only_entry entries ≡ Some entry → entries ≡ entry ∷ []
+    only_is [] entry is = absurd cc
+    only_is (node ∷ []) entry is = let same : node ≡ entry = cc in ap (λ (one : ℕ). one ∷ []) same
+    only_is (node ∷ other ∷ others) entry is = absurd cc
+
+    longer : (siblings : List Sibling) (new : Sibling) → length (siblings ++ new ∷ []) ≡ suc (length siblings)
+    longer [] new = refl
+    longer (sibling ∷ others) new = ap suc (longer others new)
+
+    as_long : (number : ℕ) (inner : Inner) (siblings : List Sibling) → length (with_inner number inner siblings) ≡ length siblings
+    as_long zero inner [] = refl
+    as_long (suc number) inner [] = refl
+    as_long zero inner (sibling ∷ others) = refl
+    as_long (suc number) inner (sibling ∷ others) = ap suc (as_long number inner others)
+
+    module _ (nest : Nest) (others : List Nest) (left : List ℕ) (sorted : Sorted) (flat : IsFlat nest) (covers : CoversNest flow behind (with_nodes (all_entries others) ahead) known nest)
+        (good : IsSorted (nest_entries nest ++ all_entries others) sorted) where
+      behind_sorted : IsSorted (all_entries others) (put_behind flow left sorted nest)
+      behind_sorted = record {
+        fine = behind_fine nest (all_entries others) sorted.table (length sorted.siblings) 0 sorted.siblings (omega arith) flat covers good.before good.fine;
+        before = subst (AreBefore (new_table nest (all_entries others) sorted.table (length sorted.siblings))) (sym (longer sorted.siblings (new_sibling nest (all_entries others) sorted.table (length sorted.siblings))))
+            (all_before (length sorted.siblings) true (leavings flow nest) sorted.table (suc (length sorted.siblings)) (λ to seen is. let less = good.before to seen is in omega (arith, less)) (omega arith));
+      }
+
+      inside_sorted : (entry : ℕ) (seen : Seen) → sorted.table entry ≡ Some seen → seen.is_one ≡ true → nest_entries nest ≡ entry ∷ [] → may_go_inside ≡ true → IsSorted (all_entries others) (put_inside flow left sorted nest seen)
+      inside_sorted entry seen is one enters may =
+          let less = good.before entry seen is in
+          record {
+            fine = inside_fine nest entry (all_entries others) sorted.table seen is one enters flat covers may 0 seen.sibling sorted.siblings (omega arith) less good.fine;
+            before = subst (AreBefore (see_all seen.sibling false (out_of_arm seen (leavings flow nest)) sorted.table)) (sym (as_long seen.sibling (record { node = seen.node; arm = seen.arm; nest = nest }) sorted.siblings))
+                (all_before seen.sibling false (out_of_arm seen (leavings flow nest)) sorted.table (length sorted.siblings) good.before less);
+          }
+
+      put_sorted : IsSorted (all_entries others) (put flow may_go_inside left sorted nest)
+      put_sorted = by_entry (only_entry (nest_entries nest)) refl
+        where
+          by_goes : (entry : ℕ) → only_entry (nest_entries nest) ≡ Some entry → (seen : Seen) → sorted.table entry ≡ Some seen → (goes : Bool) → (may_go_inside && goes_inside flow sorted nest seen) ≡ goes →
+              IsSorted (all_entries others) (if goes then put_inside flow left sorted nest seen else put_behind flow left sorted nest)
+          by_goes entry only seen is true goes =
+              let inside = and_right may_go_inside (goes_inside flow sorted nest seen) goes in
+              inside_sorted entry seen is
+              (and_left seen.is_one (not (stays sorted seen)) (and_left (seen.is_one && not (stays sorted seen)) (sibling_holds flow (slice_get sorted.siblings seen.sibling) nest seen.is_direct) inside))
+              (only_is (nest_entries nest) entry only) (and_left may_go_inside (goes_inside flow sorted nest seen) goes)
+          by_goes entry only seen is false goes = behind_sorted
+
+          by_seen : (entry : ℕ) → only_entry (nest_entries nest) ≡ Some entry → (found : Option Seen) → sorted.table entry ≡ found →
+              IsSorted (all_entries others) (put_seen flow may_go_inside left sorted nest found)
+          by_seen entry only None is = behind_sorted
+          by_seen entry only (Some seen) is = by_goes entry only seen is (may_go_inside && goes_inside flow sorted nest seen) refl
+
+          by_entry : (found : Option ℕ) → only_entry (nest_entries nest) ≡ found → IsSorted (all_entries others) (put_seen flow may_go_inside left sorted nest (seen_at sorted.table found))
+          by_entry None only = behind_sorted
+          by_entry (Some entry) only = by_seen entry only (sorted.table entry) refl
+
+    -- what comes of a list
+    pub record Comes (siblings : List Sibling) : Type 0 where
+      pub table : Table
+      pub fine : AllFine [] table 0 siblings
+
+    all_put : (after : List ℕ) (nests : List Nest) (sorted : Sorted) → ListCovers nests → IsSorted (all_entries nests) sorted → Comes (put_all flow may_go_inside after sorted nests)
+    all_put after [] sorted covers good = record { table = sorted.table; fine = good.fine }
+    all_put after (nest ∷ others) sorted covers good =
+        all_put after others (put flow may_go_inside (all_entries others ++ after) sorted nest) covers.2
+        (put_sorted nest others (all_entries others ++ after) sorted covers.0 covers.1 good)
+
+    pub list_comes : (after : List ℕ) (nests : List Nest) → ListCovers nests → Comes (put_all flow may_go_inside after nothing_sorted nests)
+    list_comes after nests covers = all_put after nests nothing_sorted covers (record { fine = tt; before = λ to seen is. absurd cc })
