@@ -8,6 +8,7 @@ pub mod Drafting
 pub mod Every
 pub mod Ifs
 pub mod Keeping
+pub mod Kept
 pub mod Measure
 pub mod Names
 pub mod Numbering
