@@ -98,18 +98,20 @@ module _ (flow : FlowTree) where
     pub among : IsAmong way (leavings flow nest)
     pub goes : way.to ≡ to
 
-  node_way : (test : ℕ → Bool) (nodes : List ℕ) (node to : ℕ) → IsIn node nodes → IsIn to (targets_of flow node) → (way : Leaving) × IsAmong way (node_leavings flow test nodes) × (way.to ≡ to)
+  -- a way out of a node of some to one of its targets
+  pub node_way : (test : ℕ → Bool) (nodes : List ℕ) (node to : ℕ) → IsIn node nodes → IsIn to (targets_of flow node) →
+      (way : Leaving) × IsAmong way (node_leavings flow test nodes) × (way.to ≡ to) × (way.node ≡ node)
   node_way test [] node to none goes = absurd cc
   node_way test (first ∷ nodes) node to there goes = by_side (either (node == first) (is_in node nodes) there) (λ later. node_way test nodes node to later goes)
     where
-      by_side : ((node == first) ≡ true) ⊎ IsIn node nodes → (IsIn node nodes → (way : Leaving) × IsAmong way (node_leavings flow test nodes) × (way.to ≡ to)) →
-          (way : Leaving) × IsAmong way (node_leavings flow test (first ∷ nodes)) × (way.to ≡ to)
+      by_side : ((node == first) ≡ true) ⊎ IsIn node nodes → (IsIn node nodes → (way : Leaving) × IsAmong way (node_leavings flow test nodes) × (way.to ≡ to) × (way.node ≡ node)) →
+          (way : Leaving) × IsAmong way (node_leavings flow test (first ∷ nodes)) × (way.to ≡ to) × (way.node ≡ node)
       by_side (inl same) later =
           let found = arm_to (test first) first 0 (targets_of flow first) to (subst (λ (one : ℕ). is_in to (targets_of flow one) ≡ true) (same_number node first same) goes) in
-          (found.way, among_left found.way (leavings_from (test first) first 0 (targets_of flow first)) (node_leavings flow test nodes) found.among, found.goes)
+          (found.way, among_left found.way (leavings_from (test first) first 0 (targets_of flow first)) (node_leavings flow test nodes) found.among, found.goes, found.node_is ∙ sym (same_number node first same))
       by_side (inr there) later =
           let found = later there in
-          (found.0, among_right found.0 (leavings_from (test first) first 0 (targets_of flow first)) (node_leavings flow test nodes) found.1, found.2)
+          (found.0, among_right found.0 (leavings_from (test first) first 0 (targets_of flow first)) (node_leavings flow test nodes) found.1, found.2, found.3)
 
   -- a way is out of one of the nodes
   pub way_from : (test : ℕ → Bool) (nodes : List ℕ) (way : Leaving) → IsAmong way (node_leavings flow test nodes) → IsIn way.node nodes × IsIn way.to (targets_of flow way.node)
