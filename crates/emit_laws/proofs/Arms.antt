@@ -31,7 +31,7 @@ abbrev mutual
   IsPlain (dispatched heads body) = ChainPlain body
 
   pub ChainPlain : Chain → Type 0
-  ChainPlain no_nests = ⊤
+  ChainPlain no_nests = ⊥
   ChainPlain (more_nests first others) = IsPlain first × OwnPlain others
 
   pub OwnPlain : Chain → Type 0
@@ -59,7 +59,7 @@ pub record SortsWell (flow : FlowTree) (sort : Sort) : Type 0 where
 
 -- ---- what goes into an arm
 
-in_inners : (inside : List Inner) (to : ℕ) → IsIn to (inner_entries inside) → (one : Inner) × IsAmong one inside × IsIn to (nest_entries one.nest)
+pub in_inners : (inside : List Inner) (to : ℕ) → IsIn to (inner_entries inside) → (one : Inner) × IsAmong one inside × IsIn to (nest_entries one.nest)
 in_inners [] to there = absurd cc
 in_inners (inner ∷ others) to there = by_side (either (is_in to (nest_entries inner.nest)) (is_in to (inner_entries others)) (sym (in_append to (nest_entries inner.nest) (inner_entries others)) ∙ there)) (in_inners others to)
   where

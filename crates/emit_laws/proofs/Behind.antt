@@ -179,7 +179,7 @@ module _ (flow : FlowTree) (may : Bool) (ahead known around : Nodes) (heads : Li
           (λ there. or_right (is_in to (all_entries (map nest_of others ++ rest)) || false) (known_within to) (or_right (is_in to heads) (around to || known to) (or_right (around to) (known to) there)))
 
   -- what goes inside and is entered where a node goes stands behind that node
-  abbrev AreHeld : (entries nodes : List ℕ) → List Inner → Type 0
+  abbrev pub AreHeld : (entries nodes : List ℕ) → List Inner → Type 0
   AreHeld entries nodes inside =
       (node to : ℕ) → IsIn node nodes → IsIn to (targets_of flow node) → IsIn to entries → (one : Inner) × IsAmong one inside × IsIn to (nest_entries one.nest) × (one.node ≡ node)
 

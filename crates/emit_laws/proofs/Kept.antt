@@ -132,3 +132,43 @@ module _ (weigh : Nest → ℕ) where
     all_weigh after sorted (nest ∷ others) =
         let one = put_weighs (all_entries others ++ after) sorted nest in
         let rest = all_weigh after (put flow may (all_entries others ++ after) sorted nest) others in omega (arith, one, rest)
+
+-- ---- the first nest
+
+abbrev pub head_nest : List Sibling → Option Nest
+head_nest [] = None
+head_nest (sibling ∷ others) = Some sibling.nest
+
+behind_head : (siblings : List Sibling) (new : Sibling) (nest : Nest) → head_nest siblings ≡ Some nest → head_nest (siblings ++ new ∷ []) ≡ Some nest
+behind_head [] new nest is = absurd cc
+behind_head (sibling ∷ others) new nest is = is
+
+with_head : (number : ℕ) (inner : Inner) (siblings : List Sibling) (nest : Nest) → head_nest siblings ≡ Some nest → head_nest (with_inner number inner siblings) ≡ Some nest
+with_head number inner [] nest is = absurd cc
+with_head zero inner (sibling ∷ others) nest is = is
+with_head (suc number) inner (sibling ∷ others) nest is = is
+
+module _ (flow : FlowTree) (may : Bool) where
+  put_head : (left : List ℕ) (sorted : Sorted) (nest first : Nest) → head_nest sorted.siblings ≡ Some first → head_nest (put flow may left sorted nest).siblings ≡ Some first
+  put_head left sorted nest first is = by_entry (seen_at sorted.table (only_entry (nest_entries nest)))
+    where
+      by_goes : (seen : Seen) (goes : Bool) → head_nest (if goes then put_inside flow left sorted nest seen else put_behind flow left sorted nest).siblings ≡ Some first
+      by_goes seen true = with_head seen.sibling (record { node = seen.node; arm = seen.arm; nest = nest }) sorted.siblings first is
+      by_goes seen false = behind_head sorted.siblings _ first is
+
+      by_entry : (found : Option Seen) → head_nest (put_seen flow may left sorted nest found).siblings ≡ Some first
+      by_entry None = behind_head sorted.siblings _ first is
+      by_entry (Some seen) = by_goes seen (may && goes_inside flow sorted nest seen)
+
+  all_head : (after : List ℕ) (sorted : Sorted) (nests : List Nest) (first : Nest) → head_nest sorted.siblings ≡ Some first → head_nest (put_all flow may after sorted nests) ≡ Some first
+  all_head after sorted [] first is = is
+  all_head after sorted (nest ∷ others) first is =
+      all_head after (put flow may (all_entries others ++ after) sorted nest) others first (put_head (all_entries others ++ after) sorted nest first is)
+
+  -- the first nest of a list is the first that stays in it
+  pub list_head : (after : List ℕ) (first : Nest) (others : List Nest) → head_nest (put_all flow may after nothing_sorted (first ∷ others)) ≡ Some first
+  list_head after first others = all_head after (put flow may (all_entries others ++ after) nothing_sorted first) others first (by_entry (only_entry (nest_entries first)))
+    where
+      by_entry : (found : Option ℕ) → head_nest (put_seen flow may (all_entries others ++ after) nothing_sorted first (seen_at nothing_sorted.table found)).siblings ≡ Some first
+      by_entry None = refl
+      by_entry (Some entry) = refl

@@ -8,6 +8,7 @@ pub mod Conditions
 pub mod Covering
 pub mod Drafting
 pub mod Every
+pub mod Filling
 pub mod Ifs
 pub mod Keeping
 pub mod Kept
