@@ -12,6 +12,7 @@ pub mod Filling
 pub mod Ifs
 pub mod Keeping
 pub mod Kept
+pub mod Leveling
 pub mod Measure
 pub mod Names
 pub mod Numbering
