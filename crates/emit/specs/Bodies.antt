@@ -45,7 +45,7 @@ abbrev mutual
   nest_stmts flow (repeated head body) label jumps =
       one_stmt (loop_of label (chain_stmts flow body (suc label) (jumps_within label (head ∷ []) (chain_is_told body) jumps)))
   nest_stmts flow (dispatched heads body) label jumps =
-      one_stmt (loop_of label (chain_stmts flow body (suc label) (jumps_within label heads true jumps)))
+      one_stmt (loop_of label (chain_stmts flow body (suc label) (jumps_within label heads (chain_is_told body) jumps)))
 
   pub chain_stmts : FlowTree → Chain → (label : ℕ) → Jumps → Stmts
   chain_stmts flow no_nests label jumps = no_stmts

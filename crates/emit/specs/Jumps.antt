@@ -1,14 +1,18 @@
 -- How control goes to a node in the text that is written: the text's end comes to it, or a label is left or begun anew.
-use Rattle.std.specs.Prelude.{ℕ, Bool, true, false, pos, List, ◌++◌, Option, Some, None, codes, if◌then◌else◌}
+use Rattle.std.specs.Prelude.{ℕ, ◌^◌, nat_lt, replicate, Bool, true, false, pos, List, ◌++◌, Option, Some, None, codes, if◌then◌else◌}
 use Rattle.std.specs.Fmt.{decimal}
 use Rattle.rs_text.specs.declared.integer.IntegerTy.TheVariants.{U32}
 use Rattle.rs_text.specs.Tree.{Place, Local, Literal, Stmt, Assign, Break, Continue, Stmts, no_stmts, more_stmts}
 use Rattle.reloop.specs.Graphs.{is_in}
 use Rattle.emit.specs.Nests.{Nest, nest_entries, nest_is_told}
 
+-- a number in decimal; one that no machine counts to has as many low lines, so that the names of different numbers differ
+abbrev pub numeral : ℕ → List ℕ
+numeral number = if nat_lt number (2 ^ 64) then decimal number else replicate number 95
+
 -- the label of a number
 abbrev pub label_of : ℕ → List ℕ
-label_of number = codes "l" ++ decimal number
+label_of number = codes "l" ++ numeral number
 
 -- the local that says at which head a dispatch is entered
 abbrev pub current_block : Place

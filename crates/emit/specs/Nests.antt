@@ -36,7 +36,7 @@ abbrev mutual
   -- the nodes at which a nest is entered
   pub nest_entries : Nest → List ℕ
   nest_entries (single node arms) = node ∷ []
-  nest_entries (choice heads arms) = []
+  nest_entries (choice heads arms) = heads
   nest_entries (group members) = chain_entries members
   nest_entries (repeated head body) = head ∷ []
   nest_entries (dispatched heads body) = heads
@@ -49,7 +49,7 @@ abbrev mutual
   -- a nest is entered by `current_block`, which says at which node
   pub nest_is_told : Nest → Bool
   nest_is_told (single node arms) = false
-  nest_is_told (choice heads arms) = false
+  nest_is_told (choice heads arms) = true
   nest_is_told (group members) = chain_is_told members
   nest_is_told (repeated head body) = chain_is_told body
   nest_is_told (dispatched heads body) = true

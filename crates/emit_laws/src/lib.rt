@@ -1,0 +1,3 @@
+//! What the statements that are written from a flow and its shape mean: they do what the flow's nodes do, whatever the flow stands
+//! for, and are well typed where the nodes are.
+#![tactic(auto)]
