@@ -148,7 +148,7 @@ module _ (flow : FlowTree) (may : Bool) (ahead known around : Nodes) where
       by_test true is rest = (
         cover.0,
         nest_more flow all_entries_in inner.nest (with_nodes (entries_at inner.node inner.arm others) around) (with_nodes (all_entries (at_arm arm others)) around) known
-          (λ node. either_by (is_in node (entries_at inner.node inner.arm others)) (around node)
+            (λ node. either_by (is_in node (entries_at inner.node inner.arm others)) (around node)
             (λ there. or_left (is_in node (all_entries (at_arm arm others))) (around node) (in_arm others node (same_number inner.arm arm is) there))
             (or_right (is_in node (all_entries (at_arm arm others))) (around node))) cover.1,
         rest,
@@ -215,9 +215,12 @@ module _ (flow : FlowTree) (sort : Sort) (sorts : SortsWell flow sort) (may : Bo
     where
       by_side : IsFirst node arm sibling.inside ⊎ (at_arm arm sibling.inside ≡ []) → (one : Inner) × IsAmong one sibling.inside × (one.arm ≡ arm) × IsIn to (nest_entries one.nest)
       by_side (inl first) =
-          let plain : ListPlain (first.one.nest ∷ first.others) = subst ListPlain first.list (later_plain (at_arm arm sibling.inside) (all_at_arm IsLater arm sibling.inside inners)) in
-          (first.one, first.among, first.at,
-          subst (λ (entries : List ℕ). IsIn to entries) (ap (λ (nests : List Nest). chain_entries (sort after nests)) first.list ∙ sorts.entries after first.one.nest first.others plain) held)
+          let plain : ListPlain (first.one.nest ∷ first.others) = subst ListPlain first.list (later_plain (at_arm arm sibling.inside) (all_at_arm IsLater arm sibling.inside inners)) in (
+            first.one,
+            first.among,
+            first.at,
+            subst (λ (entries : List ℕ). IsIn to entries) (ap (λ (nests : List Nest). chain_entries (sort after nests)) first.list ∙ sorts.entries after first.one.nest first.others plain) held,
+          )
       by_side (inr none) =
           absurd (in_nothing to (subst (λ (entries : List ℕ). IsIn to entries) (ap (λ (nests : List Nest). chain_entries (sort after nests)) none ∙ sorts.nothing after) held))
         where
@@ -238,7 +241,7 @@ module _ (flow : FlowTree) (sort : Sort) (sorts : SortsWell flow sort) (may : Bo
           let index : out.after ≡ arm = (let first_is = out.arm_is in let other = leads.out.arm_is in omega (arith, first_is, other)) in
           let target : leads.out.way.to ≡ to = some_number leads.out.way.to to (sym out.target ∙ ap (slice_get targets) index ∙ is) in
           let entries : chain_entries (held_chain arm) ≡ leads.out.way.to ∷ [] =
-            ap (λ (nests : List Nest). chain_entries (sort after nests)) first.list ∙ sorts.entries after first.one.nest first.others plain ∙ leads.enters in
+          ap (λ (nests : List Nest). chain_entries (sort after nests)) first.list ∙ sorts.entries after first.one.nest first.others plain ∙ leads.enters in
           not_both (is_in to (chain_entries (held_chain arm)))
           (subst (λ (list : List ℕ). IsIn to list) (sym entries) (subst (λ (one : ℕ). IsIn one (leads.out.way.to ∷ [])) target (in_first leads.out.way.to []))) none
       by_side one among at (inr nothing) = none_at arm sibling.inside one among at nothing
@@ -277,16 +280,19 @@ module _ (flow : FlowTree) (sort : Sort) (sorts : SortsWell flow sort) (may : Bo
       by_test : (held : Bool) → is_in target (chain_entries (held_chain arm)) ≡ held →
           IsIn to (if held then target ∷ held_targets (arms_from sort after sibling.inside (suc arm) (length rest)) rest else held_targets (arms_from sort after sibling.inside (suc arm) (length rest)) rest) →
           (IsIn to (held_targets (arms_from sort after sibling.inside (suc arm) (length rest)) rest) →
-            (later : ℕ) × (slice_get rest later ≡ Some to) × (is_in to (chain_entries (held_chain (suc arm + later))) ≡ true)) →
+          (later : ℕ) × (slice_get rest later ≡ Some to) × (is_in to (chain_entries (held_chain (suc arm + later))) ≡ true)) →
           (later : ℕ) × (slice_get (target ∷ rest) later ≡ Some to) × (is_in to (chain_entries (held_chain (arm + later))) ≡ true)
       by_test true is there found = by_side (either (to == target) (is_in to (held_targets (arms_from sort after sibling.inside (suc arm) (length rest)) rest)) there)
         where
           by_side : ((to == target) ≡ true) ⊎ IsIn to (held_targets (arms_from sort after sibling.inside (suc arm) (length rest)) rest) →
               (later : ℕ) × (slice_get (target ∷ rest) later ≡ Some to) × (is_in to (chain_entries (held_chain (arm + later))) ≡ true)
           by_side (inl same) =
-              let at = same_number to target same in
-              (0, ap Some (sym at), subst (λ (one : ℕ). is_in to (chain_entries (held_chain one)) ≡ true) (let e : arm ≡ arm + 0 = omega arith in e)
-              (subst (λ (one : ℕ). is_in one (chain_entries (held_chain arm)) ≡ true) (sym at) is))
+              let at = same_number to target same in (
+                0,
+                ap Some (sym at),
+                subst (λ (one : ℕ). is_in to (chain_entries (held_chain one)) ≡ true) (let e : arm ≡ arm + 0 = omega arith in e)
+                    (subst (λ (one : ℕ). is_in one (chain_entries (held_chain arm)) ≡ true) (sym at) is),
+              )
           by_side (inr later) = later_one (found later)
       by_test false is there found = later_one (found there)
 

@@ -112,5 +112,5 @@ module _ (frame : Frame) (pick : ℕ → Stmts) {B : Type 0} (next : Flow → Ru
       ap (λ (run : Run Flow). seq run next) (run_behind frame node.body (branch_stmts node.last texts))
       ∙ seq_seq (run_stmts frame node.body) _ _
       ∙ same_runs _ _ (λ world units. flows_on (stmts_end node.body) within (run_stmts frame (branch_stmts node.last texts)) (run_branch frame node.last) (branch_runs node.last texts all)
-        (run_stmts frame node.body world units) (stmts_come frame node.body world units))
+      (run_stmts frame node.body world units) (stmts_come frame node.body world units))
       ∙ sym (seq_seq (run_stmts frame node.body) _ _)

@@ -139,7 +139,7 @@ module _ (frame : Frame) {A : Type 0} (if_true if_false : Run A) where
       seq_seq (run_expr frame left) _ _
       ∙ seq_with (run_expr frame left) _ _ (λ one. seq_seq (run_expr frame right) _ _
       ∙ seq_with (run_expr frame right) _ _ (λ two. by_looks if_true if_false (λ held. binary_of held.blocks operator one two) (λ held. binary_of held.blocks other one two)
-        (λ held. comparison_opposite held.blocks operator other is one two))
+      (λ held. comparison_opposite held.blocks operator other is one two))
       ∙ sym (seq_seq (run_expr frame right) _ _))
       ∙ sym (seq_seq (run_expr frame left) _ _)
 

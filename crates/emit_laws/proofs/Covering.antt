@@ -103,8 +103,8 @@ module _ (flow : FlowTree) where
       nest_grows (single node arms) ahead known more further grows covers = (
         covers.0,
         arms_grow arms (targets_of flow node) (either_of ahead known) (either_of more further) ahead known more further
-          (λ to there. grows.0 to (record { node = node; there = in_first node (chains_nodes arms); goes = there }))
-          ((λ to going. grows.0 to (go_right (node ∷ []) (chains_nodes arms) to going)), grows.1) covers.1,
+            (λ to there. grows.0 to (record { node = node; there = in_first node (chains_nodes arms); goes = there }))
+            ((λ to going. grows.0 to (go_right (node ∷ []) (chains_nodes arms) to going)), grows.1) covers.1,
         covers.2,
       )
       nest_grows (choice heads arms) ahead known more further grows covers =
@@ -120,8 +120,8 @@ module _ (flow : FlowTree) where
       chain_grows no_nests ahead known more further grows covers = tt
       chain_grows (more_nests first others) ahead known more further grows covers = (
         nest_grows first (with_nodes (behind others) ahead) known (with_nodes (behind others) more) further
-          (grows_with (nest_nodes first) (nest_heads first) (behind others) ahead known more further
-          (grows_left (nest_nodes first) (chain_nodes others) (nest_heads first) (chain_heads others) ahead known more further grows)) covers.0,
+            (grows_with (nest_nodes first) (nest_heads first) (behind others) ahead known more further
+            (grows_left (nest_nodes first) (chain_nodes others) (nest_heads first) (chain_heads others) ahead known more further grows)) covers.0,
         chain_grows others ahead known more further (grows_right (nest_nodes first) (chain_nodes others) (nest_heads first) (chain_heads others) ahead known more further grows) covers.1,
       )
 
@@ -133,7 +133,7 @@ module _ (flow : FlowTree) where
         λ held. chain_grows inner ahead known more further (grows_left (chain_nodes inner) (chains_nodes rest) (chain_heads inner) (chains_heads rest) ahead known more further grows) (covers.0 held),
         λ none. within target (in_first target targets) (covers.1 none),
         arms_grow rest targets ways others ahead known more further (λ to there. within to (or_right (to == target) (is_in to targets) there))
-          (grows_right (chain_nodes inner) (chains_nodes rest) (chain_heads inner) (chains_heads rest) ahead known more further grows) covers.2,
+            (grows_right (chain_nodes inner) (chains_nodes rest) (chain_heads inner) (chains_heads rest) ahead known more further grows) covers.2,
       )
 
     -- with more nodes ahead

@@ -119,8 +119,8 @@ all_behind Holds [] inside one other = all_inners_listed Holds inside other
 all_behind Holds (nest ∷ others) inside one other = (
   one.0,
   all_append Holds (map nest_of (filter (λ inner. is_in inner.node (nest_nodes nest)) inside)) (behind_nodes others (filter (λ inner. not (is_in inner.node (nest_nodes nest))) inside))
-    (all_of_filter Holds (λ inner. is_in inner.node (nest_nodes nest)) inside other).0
-    (all_behind Holds others (filter (λ inner. not (is_in inner.node (nest_nodes nest))) inside) one.1 (all_of_filter Holds (λ inner. not (is_in inner.node (nest_nodes nest))) inside other).1),
+      (all_of_filter Holds (λ inner. is_in inner.node (nest_nodes nest)) inside other).0
+      (all_behind Holds others (filter (λ inner. not (is_in inner.node (nest_nodes nest))) inside) one.1 (all_of_filter Holds (λ inner. not (is_in inner.node (nest_nodes nest))) inside other).1),
 )
 
 -- a list with a plain first nest stays plain
@@ -128,8 +128,8 @@ behind_plain : (first : Nest) (others : List Nest) (inside : List Inner) → IsP
 behind_plain first others inside plain later inner = (
   plain,
   all_append IsLater (map nest_of (filter (λ one. is_in one.node (nest_nodes first)) inside)) (behind_nodes others (filter (λ one. not (is_in one.node (nest_nodes first))) inside))
-    (all_of_filter IsLater (λ one. is_in one.node (nest_nodes first)) inside inner).0
-    (all_behind IsLater others (filter (λ one. not (is_in one.node (nest_nodes first))) inside) later (all_of_filter IsLater (λ one. not (is_in one.node (nest_nodes first))) inside inner).1),
+      (all_of_filter IsLater (λ one. is_in one.node (nest_nodes first)) inside inner).0
+      (all_behind IsLater others (filter (λ one. not (is_in one.node (nest_nodes first))) inside) later (all_of_filter IsLater (λ one. not (is_in one.node (nest_nodes first))) inside inner).1),
 )
 
 only_own : (inside : List Inner) → AllInners IsLater inside → AllInners IsOwn inside
@@ -173,14 +173,14 @@ module _ (flow : FlowTree) (sort : Sort) (sorts : SortsWell flow sort) where
         sorts.covers true nowhere (with_nodes heads (either_of there known)) [] (behind_nodes (listed (more_nests first others)) sibling.inside)
         (behind_plain first (listed others) sibling.inside plain.0 (own_listed others plain.1) inners)
         (behind_covers flow true ahead known there heads (inner_entries sibling.inside) (listed (more_nests first others)) sibling.inside
-          (listed_covers flow true nowhere (with_nodes heads (either_of (with_nodes (inner_entries sibling.inside) there) known)) (more_nests first others) plain covers)
-          once_listed (only_own sibling.inside inners) fine.inner held)
+        (listed_covers flow true nowhere (with_nodes heads (either_of (with_nodes (inner_entries sibling.inside) there) known)) (more_nests first others) plain covers)
+        once_listed (only_own sibling.inside inners) fine.inner held)
         (λ node.
-          let weight = behind_weighs (times_in node) (listed (more_nests first others)) sibling.inside in
-          let body = weigh_listed node (more_nests first others) in
-          let both = once node in
-          let same : times_in node sibling.nest ≡ times node (chain_nodes (more_nests first others)) = ap (times node) nodes_are in
-          omega (arith, weight, body, both, same))
+        let weight = behind_weighs (times_in node) (listed (more_nests first others)) sibling.inside in
+        let body = weigh_listed node (more_nests first others) in
+        let both = once node in
+        let same : times_in node sibling.nest ≡ times node (chain_nodes (more_nests first others)) = ap (times node) nodes_are in
+        omega (arith, weight, body, both, same))
       where
         once_listed : AreOnce (listed (more_nests first others))
         once_listed node =
@@ -194,7 +194,7 @@ module _ (flow : FlowTree) (sort : Sort) (sorts : SortsWell flow sort) where
             let found = in_inners sibling.inside to entered in
             let way = node_way flow test (chain_nodes (more_nests first others)) node to (subst (λ (nodes : List ℕ). IsIn node nodes) (sym (nodes_listed (more_nests first others))) in_body) goes in
             let placed = fine.placed found.0 found.1 way.0 (subst (λ (ways : List Leaving). IsAmong way.0 ways) (sym ways_are) way.1)
-              (subst (λ (one : ℕ). IsIn one (nest_entries (found.0).nest)) (sym way.2) found.2) in
+            (subst (λ (one : ℕ). IsIn one (nest_entries (found.0).nest)) (sym way.2) found.2) in
             (found.0, found.1, found.2, sym placed.0 ∙ way.3)
 
     -- which is entered where the body is
@@ -209,7 +209,7 @@ module _ (flow : FlowTree) (sort : Sort) (sorts : SortsWell flow sort) where
     of_nest (single node no_chains) is plain covers = (
       covers.0,
       arms_cover flow sort sorts true ahead known sees after table number sibling fine inners once_inside node (targets_of flow node) (ap (leavings flow) is) (either_of there known)
-        (λ to there_too. grouped (is_in to (inner_entries sibling.inside)) (there to) (known to) (covers.1 to there_too)),
+          (λ to there_too. grouped (is_in to (inner_entries sibling.inside)) (there to) (known to) (covers.1 to there_too)),
       arms_are_apart flow sort sorts true ahead known sees after table number sibling fine inners once_inside node (targets_of flow node) (ap (leavings flow) is),
     )
       where
@@ -239,8 +239,8 @@ module _ (flow : FlowTree) (sort : Sort) (sorts : SortsWell flow sort) where
   siblings_filled ahead known after table number [] fine plain once = tt
   siblings_filled ahead known after table number (sibling ∷ others) fine plain once = (
     subst (λ (sees : Nodes). CoversNest flow chain_entries (either_of sees ahead) known (filled flow sort (entries_behind after others) sibling.nest sibling.inside))
-      (fun_ext (λ node. sym (entered_filled after (suc number) others node plain.2)))
-      (sibling_filled ahead known (seen_from (suc number) others) (entries_behind after others) table number sibling fine.0 plain.1 (λ node. let all = once node in omega (arith, all)) plain.0),
+        (fun_ext (λ node. sym (entered_filled after (suc number) others node plain.2)))
+        (sibling_filled ahead known (seen_from (suc number) others) (entries_behind after others) table number sibling fine.0 plain.1 (λ node. let all = once node in omega (arith, all)) plain.0),
     siblings_filled ahead known after table (suc number) others fine.1 plain.2 (λ node. let all = once node in omega (arith, all)),
   )
 

@@ -40,7 +40,7 @@ loop_within around inner label differ is = ap (λ (test : Bool). if test then in
 jump_within : (around : List LabelScope) (is_loop : Bool) (label : ℕ) (jump : Jump) → jump.label < label → (turns : Bool) →
     (if turns then is_loop_label around (label_of jump.label) else is_bound around (label_of jump.label)) ≡ true →
     (if turns then is_loop_label (record { name = label_of label; is_loop = is_loop } ∷ around) (label_of jump.label)
-      else is_bound (record { name = label_of label; is_loop = is_loop } ∷ around) (label_of jump.label)) ≡ true
+    else is_bound (record { name = label_of label; is_loop = is_loop } ∷ around) (label_of jump.label)) ≡ true
 jump_within around is_loop label jump less true is = loop_within around (record { name = label_of label; is_loop = is_loop }) (label_of jump.label) (told_apart label jump.label (λ same. absurd (omega (arith, less, same)))) is
 jump_within around is_loop label jump less false is = bound_within around (record { name = label_of label; is_loop = is_loop }) (label_of jump.label) is
 

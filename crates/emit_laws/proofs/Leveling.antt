@@ -96,7 +96,7 @@ module _ (flow : FlowTree) where
     body_covers (more_nests first others) plain ahead known covers = (
       level_flat first plain.0,
       subst (λ (entries : List ℕ). CoversNest flow chain_entries (with_nodes entries ahead) known (level flow first)) (sym (own_entries others plain.1))
-        (level_covers first plain.0 (with_nodes (all_entries_in others) ahead) known covers.0),
+          (level_covers first plain.0 (with_nodes (all_entries_in others) ahead) known covers.0),
       own_covers others plain.1 ahead known covers.1,
     )
 
@@ -105,7 +105,7 @@ module _ (flow : FlowTree) where
     own_covers (more_nests nest others) plain ahead known covers = (
       level_flat nest plain.1,
       subst (λ (entries : List ℕ). CoversNest flow chain_entries (with_nodes entries ahead) known (level flow nest)) (sym (own_entries others plain.2))
-        (level_covers nest plain.1 (with_nodes (all_entries_in others) ahead) known covers.0),
+          (level_covers nest plain.1 (with_nodes (all_entries_in others) ahead) known covers.0),
       own_covers others plain.2 ahead known covers.1,
     )
 
@@ -120,7 +120,7 @@ module _ (flow : FlowTree) where
   later_covers may ahead known (nest ∷ others) all covers = (
     level_flat nest (all.0).1,
     subst (λ (entries : List ℕ). CoversNest flow chain_entries (with_nodes entries ahead) known (level flow nest)) (sym (later_entries others all.1))
-      (level_covers nest (all.0).1 (with_nodes (all_entries others) ahead) known covers.1),
+        (level_covers nest (all.0).1 (with_nodes (all_entries others) ahead) known covers.1),
     later_covers may ahead known others all.1 covers.2,
   )
 
@@ -129,7 +129,7 @@ module _ (flow : FlowTree) where
   list_covers may ahead known (first ∷ others) plain covers = (
     level_flat first plain.0,
     subst (λ (entries : List ℕ). CoversNest flow chain_entries (with_nodes entries ahead) known (level flow first)) (sym (later_entries others plain.1))
-      (level_covers first plain.0 (with_nodes (all_entries others) ahead) known covers.1),
+        (level_covers first plain.0 (with_nodes (all_entries others) ahead) known covers.1),
     later_covers may ahead known others plain.1 covers.2,
   )
 

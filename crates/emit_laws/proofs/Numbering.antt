@@ -238,17 +238,17 @@ module _ (frame : Frame) where
     stmt_named around (Loop None body) closed =
         rounds_named around (λ state. seq (run_stmts frame body) (after_turn None)) (λ state. seq (run_stmts frame (numbered (names around) body)) (after_turn None))
         (λ state. behind_named around (run_stmts frame body) _ (after_turn None) (stmts_named around body closed) ∙ seq_with (run_stmts frame body) _ _ (bare_way around)
-          ∙ sym (seq_seq (run_stmts frame body) (after_turn None) _)) tt
+        ∙ sym (seq_seq (run_stmts frame body) (after_turn None) _)) tt
     stmt_named around (Loop (Some label) body) closed =
         rounds_named around (λ state. seq (run_stmts frame body) (after_turn (Some label))) (λ state. seq (run_stmts frame (numbered (names (of_loop label ∷ around)) body)) (after_turn (Some (new around label))))
         (λ state. behind_named (of_loop label ∷ around) (run_stmts frame body) _ (after_turn (Some (new around label))) (stmts_named (of_loop label ∷ around) body closed)
-          ∙ seq_ways (stmts_end body) (run_stmts frame body) _ _
-            (loop_way around label (stmts_end body) (λ one is. stmts_break one (of_loop label ∷ around) body closed is) (λ one is. stmts_continue one (of_loop label ∷ around) body closed is)) (stmts_come frame body)
-          ∙ sym (seq_seq (run_stmts frame body) (after_turn (Some label)) _)) tt
+        ∙ seq_ways (stmts_end body) (run_stmts frame body) _ _
+        (loop_way around label (stmts_end body) (λ one is. stmts_break one (of_loop label ∷ around) body closed is) (λ one is. stmts_continue one (of_loop label ∷ around) body closed is)) (stmts_come frame body)
+        ∙ sym (seq_seq (run_stmts frame body) (after_turn (Some label)) _)) tt
     stmt_named around (Block label body) closed =
         behind_named (of_block label ∷ around) (run_stmts frame body) _ (after_block (new around label)) (stmts_named (of_block label ∷ around) body closed)
         ∙ seq_ways (stmts_end body) (run_stmts frame body) _ _
-          (block_way around label (stmts_end body) (λ one is. stmts_break one (of_block label ∷ around) body closed is) (λ one is. stmts_continue one (of_block label ∷ around) body closed is)) (stmts_come frame body)
+        (block_way around label (stmts_end body) (λ one is. stmts_break one (of_block label ∷ around) body closed is) (λ one is. stmts_continue one (of_block label ∷ around) body closed is)) (stmts_come frame body)
         ∙ sym (seq_seq (run_stmts frame body) (after_block label) _)
     stmt_named around (Break label) closed = sym (pure_seq (breaks label) (by_name around))
     stmt_named around (Continue label) closed = sym (pure_seq (continues label) (by_name around))

@@ -29,11 +29,7 @@ fn byte_pointer(alloc: Global) -> Result<Boxed<RTy>, Memory>
 }
 
 /// An expression as an integer of a type.
-pub fn integer_as(
-    alloc: Global,
-    which: IntegerTy,
-    e: Boxed<RExpr>,
-) -> Result<Boxed<RExpr>, Memory>
+pub fn integer_as(alloc: Global, which: IntegerTy, e: Boxed<RExpr>) -> Result<Boxed<RExpr>, Memory>
     ensures { IfOk result (λ made. expr_view made ≡ tree.Cast (expr_view e) (tree.Integer which)) }
 {
     let to = integer(alloc, which)?;

@@ -240,7 +240,11 @@ pub fn put_in(
         given.nothing (text_view one)) }
 {
     let to = part_target(alloc, names, object, place, spot, ty)?;
-    let Written { mut body, given, next } = one;
+    let Written {
+        mut body,
+        given,
+        next,
+    } = one;
     let e = stored_value(alloc, &to, given)?;
     body.append(stores(alloc, to, e)?)?;
     Ok(Written {

@@ -38,12 +38,7 @@ fn is_field(to: &Target) -> bool
 }
 
 // What is stored where its value is used: in a bit-field that is what it then holds.
-fn settled(
-    alloc: Global,
-    used: bool,
-    to: &Target,
-    e: Boxed<RExpr>,
-) -> Result<Boxed<RExpr>, Memory>
+fn settled(alloc: Global, used: bool, to: &Target, e: Boxed<RExpr>) -> Result<Boxed<RExpr>, Memory>
     requires { TargetFits (target_view to.now) }
     ensures { IfOk result (λ made. expr_view made ≡ settled used (target_view to.now) (expr_view e)) }
 {
@@ -81,11 +76,7 @@ fn taken(
 }
 
 // What the temporary gives.
-fn taken_value(
-    alloc: Global,
-    temporary: Boxed<RPlace>,
-    to: &Target,
-) -> Result<Boxed<RExpr>, Memory>
+fn taken_value(alloc: Global, temporary: Boxed<RPlace>, to: &Target) -> Result<Boxed<RExpr>, Memory>
     ensures { IfOk result (λ made. expr_view made ≡ taken_value (place_view temporary) (target_view to.now)) }
 {
     match to {
@@ -123,11 +114,7 @@ fn given_where(
 }
 
 // One statement in front of others.
-fn before(
-    alloc: Global,
-    first: Boxed<RStmt>,
-    others: Items<RStmt>,
-) -> Result<Items<RStmt>, Memory>
+fn before(alloc: Global, first: Boxed<RStmt>, others: Items<RStmt>) -> Result<Items<RStmt>, Memory>
     ensures { IfOk result (λ made. map stmt_view made ≡ stmt_view first ∷ map stmt_view others) }
 {
     let mut list = one_stmt(alloc, first)?;
@@ -220,12 +207,7 @@ fn old_value(alloc: Global, to: &Target) -> Result<RGiven, Memory>
 }
 
 // What a value of a type becomes.
-fn changed(
-    alloc: Global,
-    change: Change,
-    ty: &RTy,
-    old: RGiven,
-) -> Result<Boxed<RExpr>, Memory>
+fn changed(alloc: Global, change: Change, ty: &RTy, old: RGiven) -> Result<Boxed<RExpr>, Memory>
     ensures { IfOk result (λ made. expr_view made ≡ changed (change_view change) (ty_view ty.now) (given_view old)) }
 {
     let Change {
@@ -345,8 +327,11 @@ fn step_of_pointer(alloc: Global, op: Op2, computes: Boxed<RTy>) -> Result<Chang
 }
 
 fn step_of_number(alloc: Global, op: Op2, computes: Boxed<RTy>) -> Result<Change, Memory>
-    ensures { IfOk result (λ made. change_view made ≡ record { op = op; computes = ty_view computes;
-        right = record { ty = ty_view computes; given = given.value (operators.constant (ty_view computes) (pos 1)) } }) }
+    ensures { IfOk result (λ made. change_view made ≡ record {
+      op = op;
+      computes = ty_view computes;
+      right = record { ty = ty_view computes; given = given.value (operators.constant (ty_view computes) (pos 1)) };
+    }) }
 {
     let right = one_number(alloc, computes.get())?;
     let right_ty = copy_ty(alloc, computes.get())?;

@@ -23,11 +23,7 @@ use rs_tree::{RExpr, RPlace, RStmt};
 use std::alloc::Global;
 
 /// `p = e;`
-pub fn assign(
-    alloc: Global,
-    place: Boxed<RPlace>,
-    e: Boxed<RExpr>,
-) -> Result<Boxed<RStmt>, Memory>
+pub fn assign(alloc: Global, place: Boxed<RPlace>, e: Boxed<RExpr>) -> Result<Boxed<RStmt>, Memory>
     ensures { IfOk result (λ made. stmt_view made ≡ tree.Assign (place_view place) (expr_view e)) }
 {
     Boxed::new(alloc, RStmt::Assign(place, e))
@@ -42,14 +38,22 @@ pub fn one_stmt(alloc: Global, s: Boxed<RStmt>) -> Result<Items<RStmt>, Memory>
     Ok(list)
 }
 
-fn held_value(alloc: Global, temporary: Boxed<RPlace>, given: RGiven) -> Result<Boxed<RStmt>, Memory>
+fn held_value(
+    alloc: Global,
+    temporary: Boxed<RPlace>,
+    given: RGiven,
+) -> Result<Boxed<RStmt>, Memory>
     ensures { IfOk result (λ made. stmt_view made ≡ tree.Assign (place_view temporary) (given_value (given_view given))) }
 {
     let e = value_of(alloc, given)?;
     assign(alloc, temporary, e)
 }
 
-fn held_address(alloc: Global, temporary: Boxed<RPlace>, given: RGiven) -> Result<Boxed<RStmt>, Memory>
+fn held_address(
+    alloc: Global,
+    temporary: Boxed<RPlace>,
+    given: RGiven,
+) -> Result<Boxed<RStmt>, Memory>
     ensures { IfOk result (λ made. stmt_view made ≡ tree.Assign (place_view temporary) (spec.address_of_given (given_view given))) }
 {
     let e = address_of_given(alloc, given)?;
@@ -93,7 +97,11 @@ fn read_target(alloc: Global, temporary: Boxed<RPlace>) -> Result<Boxed<RPlace>,
 }
 
 /// What the temporary gives.
-pub fn held_gives(alloc: Global, temporary: Boxed<RPlace>, kind: &NodeKind) -> Result<RGiven, Memory>
+pub fn held_gives(
+    alloc: Global,
+    temporary: Boxed<RPlace>,
+    kind: &NodeKind,
+) -> Result<RGiven, Memory>
     ensures { IfOk result (λ made. given_view made ≡ held_gives (place_view temporary) (kind_view kind.now)) }
 {
     match kind {
@@ -111,9 +119,9 @@ pub fn then_held(
     one: Written,
 ) -> Result<Written, Memory>
     ensures { IfOk result (λ made. text_view made ≡ record {
-        body = (text_view one).body ++ held_by (temporary_place (lift_names (view_names names.now)) one.next) (kind_view kind.now) (text_view one).given ∷ [];
-        given = held_gives (temporary_place (lift_names (view_names names.now)) one.next) (kind_view kind.now);
-        next = suc one.next;
+      body = (text_view one).body ++ held_by (temporary_place (lift_names (view_names names.now)) one.next) (kind_view kind.now) (text_view one).given ∷ [];
+      given = held_gives (temporary_place (lift_names (view_names names.now)) one.next) (kind_view kind.now);
+      next = suc one.next;
     }) }
 {
     let Written { body, given, next } = one;

@@ -14,5 +14,7 @@ pub use holding::{assign, held_by, held_gives, one_stmt, then_held};
 pub use kinds::{NodeKind, held_type, kind_of_node, value_kind};
 pub use names::{object_at, temporary_place, temporary_value, type_in};
 pub use places::{address_of_given, as_bytes, copied, place_at, place_of_given};
-pub use targets::{Target, field_form, narrowed, stored_value, stores, target_of, target_type, whole_target};
+pub use targets::{
+    Target, field_form, narrowed, stored_value, stores, target_of, target_type, whole_target,
+};
 pub use written::{Written, gives, in_turn, number_behind, then_does, then_gives, then_takes};

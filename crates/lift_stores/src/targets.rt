@@ -58,12 +58,7 @@ pub fn whole_target(
     }
 }
 
-fn whole_of_given(
-    alloc: Global,
-    names: &NameMap,
-    ty: &Ty,
-    given: RGiven,
-) -> Result<Target, Memory>
+fn whole_of_given(alloc: Global, names: &NameMap, ty: &Ty, given: RGiven) -> Result<Target, Memory>
     ensures made { IfOk result (λ made. target_view made ≡ whole_target (lift_names (view_names names.now)) (view_type ty.now) (written.place_of_given (given_view given))) }
     ensures fits { IfOk result (λ made. TargetFits (target_view made)) }
 {
@@ -148,7 +143,12 @@ pub fn field_form(alloc: Global, base: &RExpr, spot: Spot, ty: &RTy) -> Result<R
     let signed = is_signed_type(ty);
     let number = bit_read(alloc, base, spot, signed)?;
     let number = Boxed::new(alloc, number)?;
-    converted(alloc, ty, &RTy::Integer(read_type(signed)), RGiven::Value(number))
+    converted(
+        alloc,
+        ty,
+        &RTy::Integer(read_type(signed)),
+        RGiven::Value(number),
+    )
 }
 
 // As many low bits of a number as a bit-field has.

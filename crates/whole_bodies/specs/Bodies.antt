@@ -33,8 +33,8 @@ abbrev pub copy_of_passed : NamedProgram → CFun → ℕ → List Stmt
 copy_of_passed program fun number =
     let names = (body_names program fun).names in
     if is_record (object_type program number) then
-      copied (Read (Local (name_or [] (local_among (a_passed number) (own_names program fun)))))
-      (address_of (object_at names (object_type program number) number)) (names.size_of (object_type program number)) ∷ []
+    copied (Read (Local (name_or [] (local_among (a_passed number) (own_names program fun)))))
+    (address_of (object_at names (object_type program number) number)) (names.size_of (object_type program number)) ∷ []
     else []
 
 abbrev pub copies_of_passed : NamedProgram → CFun → List Stmt

@@ -15,6 +15,6 @@ part_of_element-returns-in_ok-there t c =
     let one : ty_view c.get.result.now ≡ type_in (lift_names (view_names c.args.names.now)) (view_type c.args.element.now) = search rules in
     let there : place_view c.in_ok-there.there ≡ element_place (c.args.byte / c.in_ok-size.size) (place_view c.args.place) (ty_view c.get.result.now) = search rules in
     let same : part_place (lift_names (view_names c.args.names.now)) (view_type c.args.element.now) (place_view c.in_ok-there.there) (c.args.byte % c.in_ok-size.size) (ty_view c.args.part.now)
-        ≡ part_of_element (lift_names (view_names c.args.names.now)) (view_type c.args.element.now) (place_view c.args.place) c.args.byte (ty_view c.args.part.now) =
+    ≡ part_of_element (lift_names (view_names c.args.names.now)) (view_type c.args.element.now) (place_view c.args.place) c.args.byte (ty_view c.args.part.now) =
     element_part (lift_names (view_names c.args.names.now)) (view_type c.args.element.now) (place_view c.args.place) c.args.byte (ty_view c.args.part.now) _ _ _ size some one there in
     search rules

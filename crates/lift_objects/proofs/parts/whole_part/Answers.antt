@@ -11,6 +11,6 @@ pub returns-clause-made : goal.returns-clause-made
 returns-clause-made c =
     let part : ty_view c.get.result.now ≡ type_in (lift_names (view_names c.args.names.now)) (view_type c.args.ty.now) = search rules in
     let there : part_place (lift_names (view_names c.args.names.now)) (view_type c.args.object.now) (place_view c.args.place) c.args.byte (ty_view c.get.result.now)
-        ≡ part_place (lift_names (view_names c.args.names.now)) (view_type c.args.object.now) (place_view c.args.place) c.args.byte (type_in (lift_names (view_names c.args.names.now)) (view_type c.args.ty.now)) =
+    ≡ part_place (lift_names (view_names c.args.names.now)) (view_type c.args.object.now) (place_view c.args.place) c.args.byte (type_in (lift_names (view_names c.args.names.now)) (view_type c.args.ty.now)) =
     ap (λ one. part_place (lift_names (view_names c.args.names.now)) (view_type c.args.object.now) (place_view c.args.place) c.args.byte one) part in
     search rules
