@@ -329,6 +329,22 @@ crate_names() {
   compared 'random crates of names' crate_names.py --rows "$crate_rows" rustc
 }
 
+# 70,000 locals of one name, as many of names that differ, and as many temporaries get their names in some seconds of a processor.
+many_names() {
+  local title='70,000 locals of one name, of names that differ, and temporaries'
+  {
+    printf 'name given @function%s\n' "$(yes ' x' | head -70000 | tr -d '\n')"
+    printf 'name given @function%s\n' "$(seq -f ' n%.0f' 70000 | tr -d '\n')"
+    printf 'name given @function%s\n' "$(yes ' t' | head -70000 | tr -d '\n')"
+    printf 'name kept 70000\n'
+  } >"$work/names"
+  if (ulimit -t 20; "$crate_rows" <"$work/names" >"$work/given") && [ "$(awk '{ print NF, $NF }' "$work/given" | tr '\n' ' ')" = '70001 x_69998 70001 n70000 70001 t_69998 1 70000 ' ]; then
+    ok "$title get their names"
+  else
+    bad "$title get their names"
+  fi
+}
+
 # Runs of crates: those rows that end do so as the programs of rustc do, and write the same.
 crate_runs() {
   local said
@@ -401,6 +417,7 @@ relooper_graphs
 random_records
 record_items
 crate_names
+many_names
 crate_runs
 random_crates
 form_tables
