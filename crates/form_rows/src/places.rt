@@ -70,8 +70,8 @@ pub(crate) fn used(alloc: Global, pile: &mut Pile, asked: &mut Asked) {
     let Some(ty) = type_asked(alloc, asked) else {
         return;
     };
-    if let Some(of) = place_taken(pile, asked) {
-        let made = object_place(alloc, of.place, of.ty.get(), ty.get());
+    if let Some(Placed { ty: kept, place }) = place_taken(pile, asked) {
+        let made = object_place(alloc, place, kept.get(), ty.get());
         let given = at_place(asked.had(made));
         push(pile, Some(ty), given, asked);
     }
@@ -101,8 +101,8 @@ pub(crate) fn address(alloc: Global, pile: &mut Pile, asked: &mut Asked) {
     let Some(target) = type_asked(alloc, asked) else {
         return;
     };
-    if let Some(of) = place_taken(pile, asked) {
-        let made = address_form(alloc, of.ty.get(), target.get(), of.place);
+    if let Some(Placed { ty: of, place }) = place_taken(pile, asked) {
+        let made = address_form(alloc, of.get(), target.get(), place);
         let given = asked.had(made);
         let ty = asked.had(Boxed::new(alloc, RTy::Pointer(target)));
         push(pile, ty, given, asked);

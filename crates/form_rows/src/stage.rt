@@ -62,8 +62,8 @@ fn value(alloc: Global, asked: &mut Asked, out: &mut Answer) {
 }
 
 fn test(alloc: Global, asked: &mut Asked, out: &mut Answer) {
-    if let Some(of) = left(alloc, asked) {
-        if let Some(e) = asked.had(test_of(alloc, of.ty.get(), of.given)) {
+    if let Some(Operand { ty, given }) = left(alloc, asked) {
+        if let Some(e) = asked.had(test_of(alloc, ty.get(), given)) {
             write_expr(alloc, e, asked, out);
         }
     }

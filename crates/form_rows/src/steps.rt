@@ -173,8 +173,8 @@ fn function(alloc: Global, pile: &mut Pile, asked: &mut Asked) {
 
 fn unary(alloc: Global, pile: &mut Pile, asked: &mut Asked, op: Op1) {
     let ty = type_asked(alloc, asked);
-    if let Some(of) = taken(pile, asked) {
-        let made = unary_form(alloc, op, of.ty.get(), of.given);
+    if let Some(Operand { ty: of, given }) = taken(pile, asked) {
+        let made = unary_form(alloc, op, of.get(), given);
         let given = asked.had(made);
         push(pile, ty, given, asked);
     }
@@ -184,37 +184,51 @@ fn conversion(alloc: Global, pile: &mut Pile, asked: &mut Asked) {
     let Some(ty) = type_asked(alloc, asked) else {
         return;
     };
-    if let Some(of) = taken(pile, asked) {
-        let made = converted(alloc, ty.get(), of.ty.get(), of.given);
+    if let Some(Operand { ty: of, given }) = taken(pile, asked) {
+        let made = converted(alloc, ty.get(), of.get(), given);
         let given = asked.had(made);
         push(pile, Some(ty), given, asked);
     }
 }
 
-/// Two operands, of which the right one was on top.
+/// Two operands, of which the right one was on top, with their types.
 #[derive(Drop)]
 struct Two {
-    left: Operand,
-    right: Operand,
+    left_ty: Boxed<RTy>,
+    left: RGiven,
+    right_ty: Boxed<RTy>,
+    right: RGiven,
 }
 
 fn two_taken(pile: &mut Pile, asked: &mut Asked) -> Option<Two> {
     let right = taken(pile, asked)?;
     let left = taken(pile, asked)?;
-    Some(Two { left, right })
+    let Operand {
+        ty: right_ty,
+        given: right,
+    } = right;
+    let Operand {
+        ty: left_ty,
+        given: left,
+    } = left;
+    Some(Two {
+        left_ty,
+        left,
+        right_ty,
+        right,
+    })
 }
 
 fn binary(alloc: Global, pile: &mut Pile, asked: &mut Asked, op: Op2) {
     let ty = type_asked(alloc, asked);
     if let Some(two) = two_taken(pile, asked) {
-        let made = binary_form(
-            alloc,
-            op,
-            two.left.ty.get(),
-            two.left.given,
-            two.right.ty.get(),
-            two.right.given,
-        );
+        let Two {
+            left_ty,
+            left,
+            right_ty,
+            right,
+        } = two;
+        let made = binary_form(alloc, op, left_ty.get(), left, right_ty.get(), right);
         let given = asked.had(made);
         push(pile, ty, given, asked);
     }
@@ -223,13 +237,13 @@ fn binary(alloc: Global, pile: &mut Pile, asked: &mut Asked, op: Op2) {
 fn both(alloc: Global, pile: &mut Pile, asked: &mut Asked) {
     let ty = type_asked(alloc, asked);
     if let Some(two) = two_taken(pile, asked) {
-        let made = and_form(
-            alloc,
-            two.left.ty.get(),
-            two.left.given,
-            two.right.ty.get(),
-            two.right.given,
-        );
+        let Two {
+            left_ty,
+            left,
+            right_ty,
+            right,
+        } = two;
+        let made = and_form(alloc, left_ty.get(), left, right_ty.get(), right);
         let given = asked.had(made);
         push(pile, ty, given, asked);
     }
@@ -238,13 +252,13 @@ fn both(alloc: Global, pile: &mut Pile, asked: &mut Asked) {
 fn either(alloc: Global, pile: &mut Pile, asked: &mut Asked) {
     let ty = type_asked(alloc, asked);
     if let Some(two) = two_taken(pile, asked) {
-        let made = or_form(
-            alloc,
-            two.left.ty.get(),
-            two.left.given,
-            two.right.ty.get(),
-            two.right.given,
-        );
+        let Two {
+            left_ty,
+            left,
+            right_ty,
+            right,
+        } = two;
+        let made = or_form(alloc, left_ty.get(), left, right_ty.get(), right);
         let given = asked.had(made);
         push(pile, ty, given, asked);
     }
@@ -252,17 +266,18 @@ fn either(alloc: Global, pile: &mut Pile, asked: &mut Asked) {
 
 fn choice(alloc: Global, pile: &mut Pile, asked: &mut Asked) {
     let ty = type_asked(alloc, asked);
-    if let Some(two) = two_taken(pile, asked) {
-        if let Some(condition) = taken(pile, asked) {
-            let made = choice_form(
-                alloc,
-                condition.ty.get(),
-                condition.given,
-                two.left.given,
-                two.right.given,
-            );
-            let given = asked.had(made);
-            push(pile, ty, given, asked);
-        }
+    let Some(two) = two_taken(pile, asked) else {
+        return;
+    };
+    let Two {
+        left_ty: _,
+        left,
+        right_ty: _,
+        right,
+    } = two;
+    if let Some(Operand { ty: of, given }) = taken(pile, asked) {
+        let made = choice_form(alloc, of.get(), given, left, right);
+        let given = asked.had(made);
+        push(pile, ty, given, asked);
     }
 }
