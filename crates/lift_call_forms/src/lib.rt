@@ -8,4 +8,4 @@ mod calls;
 
 pub use arguments::{Argument, Arguments, argument_of};
 pub use called::{Called, called_with};
-pub use callees::Callee;
+pub use callees::{Callee, function_at};
