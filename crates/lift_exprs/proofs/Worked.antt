@@ -1,9 +1,9 @@
 -- Worked examples: statements of C as Rust writes them. Each is well typed where these names and its temporaries are declared, and prints so.
-use Rattle.std.specs.Prelude.{◌≡◌, ℕ, pos, true, false, if◌then◌else◌, List, [], ◌∷◌, ◌++◌, map, None, codes, refl}
+use Rattle.std.specs.Prelude.{◌≡◌, ℕ, pos, Bool, true, false, ◌&&◌, if◌then◌else◌, List, [], ◌∷◌, ◌++◌, map, None, codes, refl}
 use Rattle.std.specs.Fmt.{digits}
 use Rattle.cx_core.specs.declared.expr.Op1.TheVariants as op1
 use Rattle.cx_core.specs.declared.expr.Op2.TheVariants as op2
-use Rattle.cx_core.specs.Trees.{CTy, ty, function, listed, CExpr, expr, whole, code, literal, CPuts, no_puts, more_puts, put}
+use Rattle.cx_core.specs.Trees.{CTy, ty, array, function, listed, CExpr, expr, whole, code, address, literal, CPuts, no_puts, more_puts, put}
 use Rattle.lift_exprs.specs.ExampleNames.{names, bit_names, scope_with, truth_type, size_type, p, s, q, r, h, k, o, e, l, u, z, j, is_on, far, element, p_v, next_of, f, g}
 use Rattle.lift_exprs.specs.Lifted.{lifted_full, lifted_test, Condition}
 use Rattle.lift_exprs.specs.Written.{Written}
@@ -390,3 +390,80 @@ object_of_other_module : lines (set x (value_of (member_at int far 0)))
     ≡ codes "x = (*(core::ptr::addr_of_mut!(crate::other::far) as *mut crate::m::node)).v;" ∷ []
 unfolding digits begins_address begins_null transmute_of keywords path_words
 object_of_other_module = refl
+
+-- ---- more statements, which are well typed
+
+-- the first bit-field of a structure that isn't an lvalue
+abbrev field_of_value : CExpr → CExpr
+field_of_value of = bits_at unsigned of 4 0 3
+
+-- an element, where the length of the array isn't known
+abbrev distant_element : CExpr → CExpr
+distant_element index = target int (two op2.Add (to int) (expr (to int) at (address (named (ty (array int None) false) 10))) index)
+
+abbrev is_typed : Written → Bool
+is_typed one = stmts_typed (record { names = scope_with one.temporaries; result = None; labels = [] }) (stmts one.body)
+
+-- in a program without bit-fields, and in one with them
+abbrev are_typed : List CExpr → Bool
+are_typed [] = true
+are_typed (e ∷ others) = (is_typed (lifted_full names (statement e) 0) && is_typed (lifted_full bit_names (statement e) 0)) && are_typed others
+
+abbrev more_statements : List CExpr
+more_statements =
+    -- `x = (c ? k : l[i]).b;`
+    (set x (converted int (field_of_value (chosen (struct 1) (value_of c) (value_of k) (value_of (target (struct 1) (two op2.Add (to (struct 1)) (address_at (struct 1) l) (value_of i))))))))
+    -- `is_on = k.b;`
+    ∷ set is_on (converted truth_type (value_of (field k)))
+    -- `x = k.c = a; over a signed c`
+    ∷ set x (set (bits_at int k 4 3 6) (value_of a))
+    -- `is_on = k.d = a; over a `_Bool` of one bit`
+    ∷ set is_on (set (bits_at truth_type k 4 2 1) (converted truth_type (value_of a)))
+    -- `is_on = k.d++;`
+    ∷ set is_on (step_behind true (bits_at truth_type k 4 2 1))
+    -- `x = k.b++;`
+    ∷ set x (converted int (step_behind true (field k)))
+    -- `h->d += f(); over 32 bits`
+    ∷ set_by op2.Add unsigned (bits_at unsigned (target (struct 1) (value_of h)) 4 0 32) (converted unsigned f)
+    -- `x = o == g;`
+    ∷ set x (two op2.Equal int (value_of o) (expr (to (ty (function int (listed (types (int ∷ []))) false) false)) at (code 1)))
+    -- `x = !o;`
+    ∷ set x (one op1.Not int (value_of o))
+    -- `x = p == &far; over an object of another module`
+    ∷ set x (two op2.Equal int (value_of p) (address_at (struct 0) far))
+    -- `(c ? p : &s)->v = f();`
+    ∷ set (member_at int (target (struct 0) (chosen (to (struct 0)) (value_of c) (value_of p) (address_at (struct 0) s))) 0) f
+    -- `*&x = 1;`
+    ∷ set (target int (address_at int x)) (number (pos 1))
+    -- `s = (c, *p);`
+    ∷ set s (in_turn (value_of c) (value_of (target (struct 0) (value_of p))))
+    -- `x = (a, make()).v;`
+    ∷ set x (member_at int (in_turn (value_of a) (call_of (struct 0) 3 [])) 0)
+    -- `x = w[i]; of an array without length`
+    ∷ set x (value_of (distant_element (value_of i)))
+    -- `x = *++q;`
+    ∷ set x (converted int (value_of (target char (step_before true q))))
+    -- `x = a ? (b = 1) : 2;`
+    ∷ set x (chosen int (value_of a) (set b (number (pos 1))) (number (pos 2)))
+    -- `sum(a < b, f());`
+    ∷ call_of int 2 (two op2.Less int (value_of a) (value_of b) ∷ f ∷ [])
+    -- `sum(take(c ? s : *p), f());`
+    ∷ call_of int 2 (call_of int 4 (chosen (struct 0) (value_of c) (value_of s) (value_of (target (struct 0) (value_of p))) ∷ []) ∷ f ∷ [])
+    -- `j <<= 1;`
+    ∷ set_by op2.ShiftLeft int j (number (pos 1))
+    -- `is_on |= a;`
+    ∷ set_by op2.BitOr int is_on (value_of a)
+    -- `x = (struct flags){ a, f(), a < b }.b;`
+    ∷ set x (converted int (value_of (field (expr (struct 1) at (literal 14 (put_at 0 int (value_of a) (more_puts (put (record { byte = 4; bit = 0; width = 3 }) unsigned (converted unsigned f)) (more_puts (put (record { byte = 4; bit = 3; width = 6 }) int (two op2.Less int (value_of a) (value_of b))) no_puts))))))))
+    -- `far = s;`
+    ∷ set far (value_of s)
+    -- `x = (s = far).v;`
+    ∷ set x (member_at int (set s (value_of far)) 0)
+    -- `p = (p += is_on, p - is_on);`
+    ∷ set p (in_turn (set_by op2.Add (to (struct 0)) p (value_of is_on)) (two op2.Subtract (to (struct 0)) (value_of p) (value_of is_on)))
+    -- `u = (union bytes){ f() };`
+    ∷ set u (value_of (expr (struct 3) at (literal 20 (put_at 0 int f no_puts)))) ∷ []
+
+more_are_typed : are_typed more_statements ≡ true
+unfolding digits begins_address begins_null transmute_of keywords path_words
+more_are_typed = refl
