@@ -73,8 +73,9 @@ pub fn holds_call(e: &CoreExpr) -> bool
         Form::Binary(_, left, right) | Form::And(left, right) | Form::Or(left, right) => {
             holds_call(left.get()) || holds_call(right.get())
         }
-        Form::Assign(left, right) | Form::AssignBy(_, _, left, right) | Form::Comma(left, right) =>
-            { holds_call(left.get()) || holds_call(right.get()) }
+        Form::Assign(left, right) | Form::AssignBy(_, _, left, right) | Form::Comma(left, right) => {
+            holds_call(left.get()) || holds_call(right.get())
+        }
         Form::Cond(test, first, second) => {
             holds_call(test.get()) || holds_call(first.get()) || holds_call(second.get())
         }

@@ -4,8 +4,8 @@ ghost use Rattle.std.specs.Prelude.{◌≡◌};
 ghost use Rattle.cx_core.specs.Views.{view_expr};
 ghost use Rattle.lift_held.specs.Held.{is_taken_node, is_always_held_node, is_held};
 
-use crate::asked::Asked;
 use crate::effects::{acts, is_steady};
+use crate::asked::Asked;
 use crate::forms::{is_bit_field, is_lvalue, is_named, is_record};
 use cx_core::{CoreExpr, Form};
 

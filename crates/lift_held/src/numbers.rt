@@ -89,11 +89,7 @@ fn held_in_node(asked: Asked, e: &CoreExpr, numbered: &mut Numbered) -> Result<(
         Form::Binary(_, left, right)
         | Form::Assign(left, right)
         | Form::AssignBy(_, _, left, right) => {
-            held_from(
-                operand_before(holds_call(right.get())),
-                left.get(),
-                numbered,
-            )?;
+            held_from(operand_before(holds_call(right.get())), left.get(), numbered)?;
             held_from(operand_before(false), right.get(), numbered)
         }
         Form::Cond(test, first, second) => {
