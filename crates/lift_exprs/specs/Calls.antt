@@ -1,12 +1,12 @@
 -- Calls (ISO C99, 6.5.2.2; the Rust Reference, "Call expressions"): a structure or union is passed by a pointer to it, and is given back in a place to which a first argument points.
-use Rattle.std.specs.Prelude.{ℕ, suc, ◌==◌, ◌&&◌, Bool, true, false, not, if◌then◌else◌, pos, List, [], ◌∷◌, ◌++◌, map, length, Option, Some, None, is_some, bytes_eq, codes}
+use Rattle.std.specs.Prelude.{ℕ, suc, ◌==◌, ◌&&◌, Bool, false, not, if◌then◌else◌, pos, List, [], ◌∷◌, map, length, Option, Some, None, bytes_eq, codes}
 use Rattle.cx_core.specs.Trees.{CTy, CExpr, type_of}
 use Rattle.lift_exprs.specs.Names.{Names, KeptFunction, function_or, type_in, params_of, result_of}
-use Rattle.lift_exprs.specs.Written.{Written, gives, then_gives, then_does, then_takes, Both, joined, temporary_place, address_of_given}
+use Rattle.lift_exprs.specs.Written.{Written, then_gives, then_does, then_takes, temporary_place, address_of_given}
 use Rattle.lift_forms.specs.Given.{Given, nothing, value}
 use Rattle.lift_forms.specs.Operators.{Operand, as_type, value_of, given_value}
 use Rattle.lift_held.specs.Held.{is_void, is_record}
-use Rattle.rs_text.specs.Tree.{Ty, Integer, Void, Pointer, Code, Tys, no_tys, more_tys, tys, OptionTy, no_ty, some_ty, Expr, Literal, Call, CallBy, AddressOf, SomeFunction, Transmute, exprs, Stmt, Eval}
+use Rattle.rs_text.specs.Tree.{Ty, Integer, Void, Pointer, Code, Tys, no_tys, more_tys, tys, OptionTy, no_ty, some_ty, Expr, Literal, Call, CallBy, AddressOf, SomeFunction, Transmute, exprs, Eval}
 use Rattle.rs_text.specs.declared.integer.IntegerTy.TheVariants.{U64}
 
 -- ---- arguments

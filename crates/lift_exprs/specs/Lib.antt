@@ -1,4 +1,5 @@
 pub mod Calls
+pub mod ExampleNames
 pub mod Lifted
 pub mod Names
 pub mod Objects

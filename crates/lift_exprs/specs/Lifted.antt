@@ -1,19 +1,19 @@
 -- An expression of C in Rust, in the order in which operands go from the left (ISO C99, 6.5).
-use Rattle.std.specs.Prelude.{ℕ, suc, ◌==◌, ◌&&◌, ◌||◌, nat_lt, Bool, true, false, not, if◌then◌else◌, pos, List, [], ◌∷◌, ◌++◌, Option, Some, None}
+use Rattle.std.specs.Prelude.{ℕ, ◌&&◌, ◌||◌, nat_lt, Bool, true, false, not, if◌then◌else◌, pos, List, [], ◌∷◌, ◌++◌, Option, Some, None}
 use Rattle.cr_base.specs.declared.layout.Spot.{Spot}
 use Rattle.cx_core.specs.Trees.{CTy, CExpr, expr, CForm, whole, null, object, code, load, deref, member, address, convert, unary, binary, and, or, cond, assign, assign_by, step, call, call_by, comma, literal, CExprs, no_exprs, more_exprs, CPut, put, CPuts, no_puts, more_puts, type_of}
 use Rattle.cx_core.specs.declared.expr.Op2.{Op2}
-use Rattle.lift_exprs.specs.Calls.{Argument, argument_of, Arguments, Called, called_by_name, called_by_pointer, called_with}
-use Rattle.lift_exprs.specs.Names.{Names, KeptFunction, kept_or, function_or, type_in, field_in, pointed_type}
+use Rattle.lift_exprs.specs.Calls.{Argument, argument_of, Arguments, called_by_name, called_by_pointer, called_with}
+use Rattle.lift_exprs.specs.Names.{Names, KeptFunction, function_or, type_in, field_in, pointed_type}
 use Rattle.lift_exprs.specs.Objects.{object_at, put_in, is_zeroed, zeroed_where}
 use Rattle.lift_exprs.specs.Stores.{field_form, assigned, assigned_by, stepped_by_one}
-use Rattle.lift_exprs.specs.Written.{Written, Writes, gives, then_gives, then_does, then_takes, Both, both, both_behind, joined, in_turn, temporary_place, temporary_value, place_at, place_of_given, address_of_given, kind_in, held_where, then_held, copied}
-use Rattle.lift_forms.specs.Given.{Given, nothing, truth, value, place, number_of, address_of, pointed}
+use Rattle.lift_exprs.specs.Written.{Written, Writes, gives, then_gives, then_takes, Both, both, both_behind, joined, in_turn, temporary_place, place_at, place_of_given, address_of_given, kind_in, held_where, copied}
+use Rattle.lift_forms.specs.Given.{Given, nothing, value, place, number_of, address_of}
 use Rattle.lift_forms.specs.Operators.{Operand, constant, null_of, value_of, given_value, test_of, opposite_of, unary_form, binary_form, and_form, or_form, choice_form, function_form, converted}
 use Rattle.lift_forms.specs.Places.{address_form, member_place}
 use Rattle.lift_held.specs.declared.asked.Asked.{Asked}
 use Rattle.lift_held.specs.Held.{is_void, is_record, is_lvalue, is_taken, acts, holds_call, some_holds_call, operand, operand_before, part_of, whole_of, full, is_held_form}
-use Rattle.rs_text.specs.Tree.{Ty, Integer, Boolean, Void, Pointer, Place, Local, Field, Expr, Literal, Read, AddressOf, Stmt, Assign, If, Stmts, stmts}
+use Rattle.rs_text.specs.Tree.{Place, Expr, Literal, Read, AddressOf, Stmt, Assign, If, stmts}
 use Rattle.rs_text.specs.declared.integer.IntegerTy.TheVariants.{I32}
 
 -- what a node gives as an operand

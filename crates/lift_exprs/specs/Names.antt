@@ -1,12 +1,12 @@
 -- What the things that an expression of C names have become in the crate (ISO C99, 6.2.1; the Rust Reference, "Paths").
 use Rattle.std.specs.Prelude.{ℕ, Bool, List, [], Option, Some, None}
 use Rattle.std.specs.Option.{option_and_then}
-use Rattle.cx_core.specs.Trees.{CTy, CTyForm, void, basic, enum_type, pointer, array, record_type, function, form_of_type}
+use Rattle.cx_core.specs.Trees.{CTy, CTyForm, record_type, form_of_type}
 use Rattle.lift_forms.specs.Places.{Kept}
 use Rattle.rs_items.specs.Known.{MemberField}
 use Rattle.rs_items.specs.Types.{TypeNames, rust_type}
 use Rattle.rs_items_fields.specs.Fields.{name_at}
-use Rattle.rs_text.specs.Tree.{Ty, Integer, Boolean, Void, Pointer, Array, Code, Record, Tys, no_tys, more_tys, OptionTy, no_ty, some_ty, Place, Local}
+use Rattle.rs_text.specs.Tree.{Ty, Void, Pointer, Code, Tys, no_tys, OptionTy, no_ty, Local}
 
 -- a function, as an item of the crate
 pub record KeptFunction : Type 0 where

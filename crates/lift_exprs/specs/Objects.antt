@@ -1,7 +1,7 @@
 -- The objects that initialisers and compound literals fill (ISO C99, 6.5.2.5, 6.7.8): where their values are stored, and how an object becomes zero.
-use Rattle.std.specs.Prelude.{ℕ, zero, suc, ◌+◌, ◌-◌, ◌*◌, ◌/◌, ◌%◌, ◌==◌, ◌&&◌, ◌||◌, nat_lt, nat_le, min, max, Bool, true, false, not, if◌then◌else◌, pos, List, [], ◌∷◌, Option, Some, None}
+use Rattle.std.specs.Prelude.{ℕ, zero, suc, ◌+◌, ◌-◌, ◌*◌, ◌/◌, ◌%◌, ◌==◌, ◌&&◌, ◌||◌, nat_lt, nat_le, min, max, Bool, if◌then◌else◌, pos, List, [], ◌∷◌, Option, Some, None}
 use Rattle.cr_base.specs.declared.layout.Spot.{Spot}
-use Rattle.cx_core.specs.Trees.{CTy, ty, CTyForm, void, basic, enum_type, pointer, array, record_type, function, CPut, put, CPuts, no_puts, more_puts}
+use Rattle.cx_core.specs.Trees.{CTy, ty, CTyForm, void, basic, enum_type, pointer, array, record_type, function, put, CPuts, no_puts, more_puts}
 use Rattle.lift_exprs.specs.Names.{Names, kept_or, type_in, field_in}
 use Rattle.lift_exprs.specs.Stores.{Target, a_field, whole_target, stored_value, stores}
 use Rattle.lift_exprs.specs.Written.{Written, then_does, as_bytes}
@@ -9,7 +9,7 @@ use Rattle.lift_forms.specs.Given.{nothing, address_of}
 use Rattle.lift_forms.specs.Operators.{zero_of}
 use Rattle.lift_forms.specs.Places.{object_place}
 use Rattle.rs_mean.specs.Scalars.{is_scalar, same_type}
-use Rattle.rs_text.specs.Tree.{Ty, Integer, Pointer, Place, Deref, Field, Expr, Literal, Offset, Cast, AddressOf, Stmt, Assign, CopyBytes}
+use Rattle.rs_text.specs.Tree.{Ty, Pointer, Place, Deref, Field, Expr, Literal, Offset, Cast, Stmt, Assign, CopyBytes}
 use Rattle.rs_text.specs.declared.integer.IntegerTy.TheVariants.{U8, Isize, Usize}
 
 -- an object by its number, as what has a type here

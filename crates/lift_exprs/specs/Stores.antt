@@ -1,7 +1,7 @@
 -- How values are stored: scalars by an assignment, structures and unions as bytes, bit-fields byte by byte (ISO C99, 6.5.2.4, 6.5.3.1, 6.5.16 and 6.7.2.1p9).
-use Rattle.std.specs.Prelude.{ℕ, ◌^◌, nat_lt, Bool, true, false, ◌||◌, if◌then◌else◌, pos, List, [], ◌∷◌, Option, Some, None}
+use Rattle.std.specs.Prelude.{ℕ, ◌^◌, nat_lt, Bool, true, false, ◌||◌, if◌then◌else◌, pos, List, [], ◌∷◌, Option, Some}
 use Rattle.cr_base.specs.declared.layout.Spot.{Spot}
-use Rattle.cx_core.specs.Trees.{CTy, CExpr, expr, CForm, member, type_of}
+use Rattle.cx_core.specs.Trees.{CTy, CExpr, expr, member, type_of}
 use Rattle.cx_core.specs.Typing.{width_of}
 use Rattle.cx_core.specs.declared.expr.Op2.{Op2}
 use Rattle.cx_core.specs.declared.expr.Op2.TheVariants.{Add, Subtract}
@@ -12,7 +12,7 @@ use Rattle.lift_forms.specs.Given.{Given, nothing, value, address_of}
 use Rattle.lift_forms.specs.Operators.{Operand, given_value, constant, binary_form, converted}
 use Rattle.lift_held.specs.Held.{is_record}
 use Rattle.rs_mean.specs.Scalars.{is_signed_integer}
-use Rattle.rs_text.specs.Tree.{Ty, Integer, Boolean, Void, Pointer, Array, Code, Record, Place, Expr, Literal, Read, Cast, Binary, AddressOf, Stmt, Assign}
+use Rattle.rs_text.specs.Tree.{Ty, Integer, Boolean, Pointer, Place, Expr, Literal, Read, Cast, Binary, AddressOf, Stmt, Assign}
 use Rattle.rs_text.specs.declared.integer.IntegerTy.{IntegerTy}
 use Rattle.rs_text.specs.declared.integer.IntegerTy.TheVariants.{I8, I16, I32, I64, U8, U16, U32, U64, Isize}
 use Rattle.rs_text.specs.declared.operator.Operator.TheVariants as rust

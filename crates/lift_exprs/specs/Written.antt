@@ -1,12 +1,12 @@
 -- What is written for an expression of C: statements, and then what gives its value (ISO C99, 6.5; the Rust Reference, "Expressions" and "Statements"). A temporary is taken for each
 -- held operand alone.
-use Rattle.std.specs.Prelude.{ℕ, suc, ◌==◌, Bool, true, false, if◌then◌else◌, pos, List, [], ◌∷◌, ◌++◌}
-use Rattle.cx_core.specs.Trees.{CTy, CExpr, expr, CForm, member, form_of_type, type_of}
+use Rattle.std.specs.Prelude.{ℕ, suc, ◌==◌, Bool, if◌then◌else◌, pos, List, [], ◌∷◌, ◌++◌}
+use Rattle.cx_core.specs.Trees.{CTy, CExpr, expr, CForm, member, type_of}
 use Rattle.lift_exprs.specs.Names.{Names, type_in}
 use Rattle.lift_forms.specs.Given.{Given, nothing, truth, value, place, address_of, pointed}
-use Rattle.lift_forms.specs.Operators.{Operand, given_value, value_of}
+use Rattle.lift_forms.specs.Operators.{given_value}
 use Rattle.lift_held.specs.Held.{is_record, is_lvalue_form}
-use Rattle.rs_text.specs.Tree.{Ty, Integer, Boolean, Void, Pointer, Place, Local, Deref, Expr, Literal, Read, Cast, AddressOf, Stmt, Assign, CopyBytes, If, Stmts, stmts}
+use Rattle.rs_text.specs.Tree.{Ty, Integer, Pointer, Place, Local, Deref, Expr, Literal, Read, Cast, AddressOf, Stmt, Assign, CopyBytes}
 use Rattle.rs_text.specs.declared.integer.IntegerTy.TheVariants.{U8, Usize}
 
 pub record Written : Type 0 where

@@ -1,7 +1,7 @@
 -- Worked examples: the operands that are held in some expressions, by their numbers in post-order. Names are `int` objects, `f`, `g` and `h` functions.
-use Rattle.std.specs.Prelude.{◌≡◌, ℕ, pos, true, List, [], ◌∷◌, length, refl}
+use Rattle.std.specs.Prelude.{◌≡◌, pos, true, [], ◌∷◌, refl}
 use Rattle.cx_core.specs.declared.expr.Op2.TheVariants as op2
-use Rattle.lift_held.specs.Example.{int, struct, to, array_of, unsigned, a, b, c, d, i, x, y, local, named, target, member_at, bits_at, value_of, number, converted, address_at, two, both, either, chosen, set, set_by, step_behind, step_before, in_turn, call_of, statement}
+use Rattle.lift_held.specs.Example.{int, struct, to, array_of, a, b, c, d, i, x, y, named, target, member_at, bits_at, value_of, number, converted, address_at, two, both, chosen, set, set_by, step_behind, in_turn, call_of, statement}
 use Rattle.lift_held.specs.Held.{held}
 use Rattle.cx_core.specs.Trees.{CExpr}
 
@@ -90,3 +90,61 @@ element = target (struct 0) (two op2.Add (to (struct 0)) (address_at (struct 0) 
 
 guarded_field : held (both (two op2.Less int (value_of i) (number (pos 4))) (value_of (bits_at int element 4 3 5))) ≡ 9 ∷ 12 ∷ []
 guarded_field = refl
+
+-- a structure `e` whose member `s` has the bit-field, and a pointer to `int`
+abbrev e : CExpr
+e = named (struct 1) 11
+
+abbrev q : CExpr
+q = named (to int) 12
+
+abbrev field_of : CExpr → CExpr
+field_of of = bits_at int of 4 3 5
+
+-- `e.s.b = f();`, where `e.s` is the same whatever is stored, but no name of an object
+field_of_a_member : held (statement (set (field_of (member_at (struct 0) e 4)) f)) ≡ 1 ∷ 3 ∷ 4 ∷ []
+field_of_a_member = refl
+
+-- `p->b;`
+unused_field : held (statement (value_of (field_of (target (struct 0) (value_of p))))) ≡ 2 ∷ []
+unused_field = refl
+
+-- `x = p->b++;`
+used_step_of_field : held (statement (set x (step_behind true (field_of (target (struct 0) (value_of p)))))) ≡ 3 ∷ 5 ∷ []
+used_step_of_field = refl
+
+-- `y = (a, b) + f();`
+comma_before_call : held (statement (set y (two op2.Add int (in_turn (value_of a) (value_of b)) f))) ≡ 5 ∷ 6 ∷ []
+comma_before_call = refl
+
+-- `y = f() + (a, b);`
+comma_behind_call : held (statement (set y (two op2.Add int f (in_turn (value_of a) (value_of b))))) ≡ 1 ∷ []
+comma_behind_call = refl
+
+-- `c ? a++ : b++;`
+unused_choice : held (statement (chosen int (value_of c) (step_behind true a) (step_behind true b))) ≡ []
+unused_choice = refl
+
+-- `x = c ? a++ : b;`
+acting_choice : held (statement (set x (chosen int (value_of c) (step_behind true a) (value_of b)))) ≡ 4 ∷ 7 ∷ []
+acting_choice = refl
+
+-- `s = c ? s : *p;`
+record_choice : held (statement (set s (chosen (struct 0) (value_of c) (value_of s) (value_of (target (struct 0) (value_of p)))))) ≡ 9 ∷ []
+record_choice = refl
+
+-- `c ? s : *p;`
+unused_record_choice : held (statement (chosen (struct 0) (value_of c) (value_of s) (value_of (target (struct 0) (value_of p))))) ≡ []
+unused_record_choice = refl
+
+-- `x += f();`
+sum_of_call : held (statement (set_by op2.Add int x f)) ≡ 1 ∷ []
+sum_of_call = refl
+
+-- `*q += f();`
+sum_behind_pointer : held (statement (set_by op2.Add int (target int (value_of q)) f)) ≡ 2 ∷ 3 ∷ []
+sum_behind_pointer = refl
+
+-- `h(a && b, g());`
+conjunction_before_call : held (statement (call_of int 2 (both (value_of a) (value_of b) ∷ g ∷ []))) ≡ 4 ∷ 5 ∷ []
+conjunction_before_call = refl

@@ -1,11 +1,10 @@
 -- Trees of expressions, for worked examples: `int` objects `a` to `d`, `i`, `n`, `x` and `y` have the numbers 0 to 7.
-use Rattle.std.specs.Prelude.{ℕ, ℤ, pos, Bool, true, false, List, [], ◌∷◌, Option, Some, None}
-use Rattle.cr_base.specs.declared.layout.Spot.{Spot}
+use Rattle.std.specs.Prelude.{ℕ, ℤ, Bool, true, false, List, [], ◌∷◌, Some}
 use Rattle.cr_base.specs.declared.refusal.Place.{Place}
 use Rattle.cx_core.specs.declared.expr.Op1.{Op1}
 use Rattle.cx_core.specs.declared.expr.Op2.{Op2}
 use Rattle.cx_core.specs.declared.ty.Basic.TheVariants.{Int, Unsigned, Long, Char}
-use Rattle.cx_core.specs.Trees.{CTy, ty, void, basic, pointer, array, record_type, function, listed, CTys, no_types, more_types, CExpr, expr, whole, null, object, code, load, deref, member, address, convert, unary, binary, and, or, cond, assign, assign_by, step, call, call_by, comma, literal, CExprs, no_exprs, more_exprs, CPut, put, CPuts, no_puts, more_puts, type_of}
+use Rattle.cx_core.specs.Trees.{CTy, ty, void, basic, pointer, array, record_type, function, listed, CTys, no_types, more_types, CExpr, expr, whole, object, load, deref, member, address, convert, unary, binary, and, or, cond, assign, assign_by, step, call, call_by, comma, CExprs, no_exprs, more_exprs, type_of}
 
 abbrev pub at : Place
 at = record { unit = 0; line = 1 }

@@ -2,7 +2,7 @@
 -- of Rust, perhaps behind later stores of the full expression: such a store would be a conflict of accesses, which has no meaning in C.
 use Rattle.std.specs.Prelude.{ℕ, suc, ◌+◌, ◌==◌, Bool, true, false, not, ◌&&◌, ◌||◌, if◌then◌else◌, List, [], ◌∷◌, ◌++◌}
 use Rattle.cr_base.specs.declared.layout.Spot.{Spot}
-use Rattle.cx_core.specs.Trees.{CTy, CTyForm, void, basic, enum_type, pointer, array, record_type, function, form_of_type, CExpr, expr, CForm, whole, null, object, code, load, deref, member, address, convert, unary, binary, and, or, cond, assign, assign_by, step, call, call_by, comma, literal, CExprs, no_exprs, more_exprs, CPut, put, CPuts, no_puts, more_puts, type_of}
+use Rattle.cx_core.specs.Trees.{CTy, CTyForm, void, record_type, form_of_type, CExpr, expr, CForm, whole, null, object, code, load, deref, member, address, convert, unary, binary, and, or, cond, assign, assign_by, step, call, call_by, comma, literal, CExprs, no_exprs, more_exprs, CPut, put, CPuts, no_puts, more_puts, type_of}
 use Rattle.cx_core.specs.Typing.{is_bit_field}
 use Rattle.cx_mean.specs.Quiet.{calls_nothing}
 use Rattle.lift_held.specs.declared.asked.Asked.{Asked}
