@@ -1,13 +1,13 @@
 -- The flow of a body (ISO C99, 6.8). A branch goes straight to the place of what follows: no node joins ways, none is written twice, and none is skipped. What follows a statement that comes to
 -- its end stands behind it, unless control comes there from elsewhere too.
-use Rattle.std.specs.Prelude.{ℕ, zero, suc, ◌+◌, ◌==◌, ◌&&◌, ◌||◌, not, ℤ, Bool, true, false, if◌then◌else◌, List, [], ◌∷◌, ◌++◌, map, flat_map, Option, Some, None, bytes_eq}
-use Rattle.build_flow_nodes.specs.Parts.{BodyNames, count_in_test, count_in_option, count_in_condition, count_in_stmt, count_in_stmts, begun, declared, effect, effect_of_option, condition, operand_of, Operand, Return, given, at_end_of}
-use Rattle.build_flow_nodes.specs.Points.{FlowPlace, at_part, on_edge, PlacedCase, PlacedSwitch, PlacedBranch, goes, tests, chooses, returns as gives_back, Point, jump, behind, Placed, placed}
-use Rattle.cx_core.specs.Trees.{CTy, CExpr, CPuts, CStmt, stmt, CStmtForm, label, case, default, block, expression, if_then, switch, while, do_while, for_loop, goto, continue, break, returns, begin, COtherwise, no_else, else_do, CStmts, no_stmts, more_stmts}
-use Rattle.cx_mean.specs.BodyGraph.{CNode, CPath, at_statement, at_test, at_third, at_end, body_path, count_of}
+use Rattle.std.specs.Prelude.{ℕ, suc, ◌+◌, Bool, true, false, if◌then◌else◌, List, [], ◌∷◌, ◌++◌, flat_map, Option, Some, None}
+use Rattle.build_flow_nodes.specs.Parts.{BodyNames, count_in_test, count_in_option, count_in_condition, count_in_stmt, count_in_stmts, begun, declared, effect_of_option, condition, operand_of, Operand, Return, given, at_end_of}
+use Rattle.build_flow_nodes.specs.Points.{FlowPlace, at_part, on_edge, PlacedCase, goes, tests, chooses, returns as gives_back, Point, jump, behind, Placed, placed}
+use Rattle.cx_core.specs.Trees.{CExpr, CStmt, stmt, CStmtForm, label, case, default, block, expression, if_then, switch, while, do_while, for_loop, goto, continue, break, returns, begin, COtherwise, no_else, else_do, CStmts, no_stmts, more_stmts}
+use Rattle.cx_mean.specs.BodyGraph.{CPath, at_statement, at_test, at_third, at_end, body_path}
 use Rattle.cx_mean.specs.Paths.{CTarget, named, case_of, default_case}
 use Rattle.lift_exprs.specs.Lifted.{Condition}
-use Rattle.rs_text.specs.Tree.{Expr, Stmt}
+use Rattle.rs_text.specs.Tree.{Stmt}
 use Rattle.build_flow_nodes.specs.Labels.{Label, labels_in, labels_of_switch, label_where, is_labelled, has_continue}
 use Rattle.cx_mean.specs.BodyGraph.{is_named, is_default}
 

@@ -1,8 +1,8 @@
 -- The flow of a body: the places that control reaches, numbered in the order of the text (ISO C99, 6.8).
-use Rattle.std.specs.Prelude.{ℕ, zero, suc, ◌||◌, Bool, true, false, if◌then◌else◌, List, [], ◌∷◌, ◌++◌, length, map, filter, flat_map, Option, Some, None}
+use Rattle.std.specs.Prelude.{ℕ, zero, suc, ◌||◌, Bool, false, if◌then◌else◌, List, [], ◌∷◌, ◌++◌, length, map, filter, flat_map, Option, Some, None}
 use Rattle.build_flow_nodes.specs.Builder.{points_in_body, statement_at}
 use Rattle.build_flow_nodes.specs.Parts.{BodyNames}
-use Rattle.build_flow_nodes.specs.Points.{FlowPlace, same_place, PlacedCase, PlacedSwitch, PlacedBranch, goes, tests, chooses, returns, Point, Placed, point_at}
+use Rattle.build_flow_nodes.specs.Points.{FlowPlace, same_place, PlacedCase, PlacedBranch, goes, tests, chooses, returns, Point, Placed, point_at}
 use Rattle.cx_core.specs.Trees.{CStmt}
 use Rattle.flow.specs.Flows.{FlowTree, NodeTree, BranchTree, go, if_test, switch, gives, CaseTree}
 use Rattle.rs_text.specs.Tree.{stmts}

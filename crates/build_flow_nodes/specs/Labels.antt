@@ -1,7 +1,7 @@
 -- Labels, and the objects whose lives begin on the way to them (ISO C99, 6.2.4p5, 6.8.1 and 6.8.6.1).
-use Rattle.std.specs.Prelude.{ℕ, zero, suc, ◌||◌, Bool, true, false, if◌then◌else◌, List, [], ◌∷◌, ◌++◌, Option, Some, None, bytes_eq}
+use Rattle.std.specs.Prelude.{ℕ, suc, ◌||◌, Bool, true, false, if◌then◌else◌, List, [], ◌∷◌, ◌++◌, Option, Some, None}
 use Rattle.cx_core.specs.Trees.{CStmt, stmt, CStmtForm, label, case, default, block, expression, if_then, switch, while, do_while, for_loop, goto, continue, break, returns, begin, COtherwise, no_else, else_do, CStmts, no_stmts, more_stmts}
-use Rattle.cx_mean.specs.BodyGraph.{CPath, body_path, is_named, is_case, is_default}
+use Rattle.cx_mean.specs.BodyGraph.{CPath, body_path}
 use Rattle.cx_mean.specs.Paths.{CTarget, named, case_of, default_case}
 
 -- a labelled statement, and the objects of the statements that are entered on the way to it

@@ -1,17 +1,17 @@
 -- What the parts of a body are written as: full expressions, conditions, declarations and returns (ISO C99, 6.2.4, 6.7.8, 6.8). Temporaries are numbered in the order of the text, over all
 -- parts, whether control reaches them or not.
-use Rattle.std.specs.Prelude.{ℕ, ◌+◌, ◌*◌, ◌==◌, ◌&&◌, ◌||◌, not, Bool, true, false, if◌then◌else◌, List, [], ◌∷◌, ◌++◌, length, filter, Option, Some, None, is_some}
-use Rattle.cx_core.specs.Trees.{CTy, CExpr, type_of, CPut, CPuts, no_puts, more_puts, CStmt, stmt, CStmtForm, label, case, default, block, expression, if_then, switch, while, do_while, for_loop, goto, continue, break, returns, begin, COtherwise, no_else, else_do, CStmts, no_stmts, more_stmts}
+use Rattle.std.specs.Prelude.{ℕ, ◌*◌, ◌&&◌, ◌||◌, not, Bool, false, if◌then◌else◌, List, [], ◌∷◌, ◌++◌, length, filter, Option, Some, None}
+use Rattle.cx_core.specs.Trees.{CTy, CExpr, type_of, CPuts, CStmt, stmt, CStmtForm, label, case, default, block, expression, if_then, switch, while, do_while, for_loop, goto, continue, break, returns, begin, COtherwise, no_else, else_do, CStmts, no_stmts, more_stmts}
 use Rattle.lift_exprs.specs.Lifted.{lifted, lifted_full, lifted_test, lifted_puts, Condition}
 use Rattle.lift_exprs.specs.Names.{Names, type_in}
-use Rattle.lift_exprs.specs.Objects.{object_at, leave_bits, zeroed}
+use Rattle.lift_exprs.specs.Objects.{object_at, leave_bits}
 use Rattle.lift_exprs.specs.Temporaries.{held_types, held_types_in_puts}
 use Rattle.lift_exprs.specs.Written.{Written, address_of_given, copied}
 use Rattle.lift_forms.specs.Given.{address_of}
 use Rattle.lift_forms.specs.Operators.{given_value, zero_of}
 use Rattle.lift_held.specs.Held.{is_record, is_void, operand, full}
 use Rattle.rs_mean.specs.Scalars.{is_scalar}
-use Rattle.rs_text.specs.Tree.{Ty, Integer, Boolean, Void, Pointer, Array, Code, Record, Place, Local, Expr, Read, AddressOf, Stmt, Assign}
+use Rattle.rs_text.specs.Tree.{Ty, Integer, Local, Expr, Read, AddressOf, Stmt, Assign}
 use Rattle.rs_text.specs.declared.integer.IntegerTy.{IntegerTy}
 use Rattle.rs_text.specs.declared.integer.IntegerTy.TheVariants.{I32}
 

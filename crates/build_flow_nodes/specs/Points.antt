@@ -1,5 +1,5 @@
 -- Where control may stand in a body, and what is done from there on (ISO C99, 6.8): statements of Rust, and a branch to other places.
-use Rattle.std.specs.Prelude.{ℕ, ℤ, ◌==◌, ◌&&◌, Bool, true, false, if◌then◌else◌, List, [], ◌∷◌, ◌++◌, Option, Some, None}
+use Rattle.std.specs.Prelude.{ℤ, ◌==◌, ◌&&◌, Bool, true, false, if◌then◌else◌, List, [], ◌∷◌, ◌++◌, Option, Some, None}
 use Rattle.cx_mean.specs.BodyGraph.{CNode, CPath, at_statement, at_test, at_third, at_end}
 use Rattle.rs_text.specs.Tree.{Expr, Stmt}
 use Rattle.rs_text.specs.declared.integer.IntegerTy.{IntegerTy}

@@ -1,0 +1,407 @@
+-- Worked examples: bodies of C as flows, and as Rust prints them with a shape that fits (ISO C99, 6.8).
+use Rattle.std.specs.Prelude.{◌≡◌, ℕ, pos, true, false, List, [], ◌∷◌, Some, None, codes, refl}
+use Rattle.std.specs.Fmt.{digits}
+use Rattle.build_flow_nodes.specs.Example.{all, all_with, empty, does, when, when_else, choose, at_value, at_others, labelled, go_to, as_long, do_as_long, turns, leave, go_on, return_of, declare, declare_as, x_be, f, x_be_f, s, make, giving_int, giving_nothing, beside_bits, node, flow, goes_at, by_n, whole, read, holds, stores, x_is, t_is_f}
+use Rattle.build_flow_nodes.specs.Flows.{flow_of}
+use Rattle.cx_core.specs.declared.expr.Op2.TheVariants as op2
+use Rattle.cx_core.specs.Trees.{CExpr, CStmt}
+use Rattle.flow.specs.Flows.{go, if_test, switch, gives}
+use Rattle.lift_held.specs.Example.{int, number, value_of, two, set, step_behind, statement, c, d, i, n, x, y}
+use Rattle.rs_text.specs.declared.integer.IntegerTy.TheVariants.{I32}
+use Rattle.rs_text.specs.declared.operator.Operator.TheVariants.{Add, Sub, Equal, Less, Greater}
+use Rattle.rs_text.specs.Tree.{Expr, Binary, Stmt}
+
+-- ---- parts of bodies
+
+abbrev c_holds : CExpr
+c_holds = value_of c
+
+abbrev d_holds : CExpr
+d_holds = value_of d
+
+abbrev n_value : CExpr
+n_value = value_of n
+
+abbrev x_value : CExpr
+x_value = value_of x
+
+abbrev is : CExpr → ℕ → CExpr
+is of value = two op2.Equal int (value_of of) (number (pos value))
+
+-- `i < n`, `n > 0` and `x > 3`
+abbrev i_below_n : CExpr
+i_below_n = two op2.Less int (value_of i) (value_of n)
+
+abbrev above : CExpr → ℕ → CExpr
+above of value = two op2.Greater int (value_of of) (number (pos value))
+
+-- `x = x + e;`
+abbrev x_more : CExpr → CStmt
+x_more by = does (set x (two op2.Add int (value_of x) by))
+
+-- `i = 0;`, `i++` as the third expression of a `for`, whose value isn't used (6.8.5.3p1), and `n--;`
+abbrev i_be_0 : CStmt
+i_be_0 = does (set i (number (pos 0)))
+
+abbrev i_up : CExpr
+i_up = statement (step_behind true i)
+
+abbrev n_down : CStmt
+n_down = does (step_behind false n)
+
+abbrev return_x : CStmt
+return_x = return_of x_value
+
+-- ---- parts of nodes
+
+abbrev r_x : Expr
+r_x = read (codes "x")
+
+abbrev r_n : Expr
+r_n = read (codes "n")
+
+abbrev i_less_n : Expr
+i_less_n = Binary (read (codes "i")) Less r_n
+
+abbrev equals : List ℕ → ℕ → Expr
+equals name value = Binary (read name) Equal (whole value)
+
+abbrev greater : List ℕ → ℕ → Expr
+greater name value = Binary (read name) Greater (whole value)
+
+abbrev i_is_0 : Stmt
+i_is_0 = stores (codes "i") (whole 0)
+
+abbrev i_more : Stmt
+i_more = stores (codes "i") (Binary (read (codes "i")) Add (whole 1))
+
+abbrev n_less : Stmt
+n_less = stores (codes "n") (Binary r_n Sub (whole 1))
+
+abbrev x_adds : Expr → Stmt
+x_adds e = stores (codes "x") (Binary r_x Add e)
+
+-- ---- `return 0;`
+
+zero_alone : flow_of giving_int (all (return_of (number (pos 0)) ∷ [])) ≡ flow (node [] (gives (Some (whole 0))) ∷ [])
+zero_alone = refl
+
+-- ---- `x = 1; return x;`
+
+abbrev straight : CStmt
+straight = all (x_be 1 ∷ return_x ∷ [])
+
+straight_flows : flow_of giving_int straight ≡ flow (node (x_is 1 ∷ []) (gives (Some r_x)) ∷ [])
+straight_flows = refl
+
+-- ---- `if (c) x = 1; else x = 2; return x;`
+
+abbrev sides : CStmt
+sides = all (when_else c_holds (x_be 1) (x_be 2) ∷ return_x ∷ [])
+
+sides_flows : flow_of giving_int sides
+    ≡ flow (node [] (if_test (holds (codes "c")) 1 2) ∷ node (x_is 1 ∷ []) (go 3) ∷ node (x_is 2 ∷ []) (go 3) ∷ node [] (gives (Some r_x)) ∷ [])
+sides_flows = refl
+
+-- ---- `while (n) n--; return n;`
+
+abbrev counted : CStmt
+counted = all (as_long n_value n_down ∷ return_of n_value ∷ [])
+
+counted_flows : flow_of giving_int counted
+    ≡ flow (node [] (go 1) ∷ node [] (if_test (holds (codes "n")) 2 3) ∷ node (n_less ∷ []) (go 1) ∷ node [] (gives (Some r_n)) ∷ [])
+counted_flows = refl
+
+-- ---- `for (i = 0; i < n; i++) { if (i == 3) continue; if (i == 7) break; x = x + i; } return x;`
+
+abbrev jumping : CStmt
+jumping = all (turns (i_be_0 ∷ []) (Some i_below_n) (Some i_up) (all (when (is i 3) go_on ∷ when (is i 7) leave ∷ x_more (value_of i) ∷ [])) ∷ return_x ∷ [])
+
+jumping_flows : flow_of giving_int jumping
+    ≡ flow (
+    node (i_is_0 ∷ []) (go 1)
+    ∷ node [] (if_test i_less_n 2 8)
+    ∷ node [] (if_test (equals (codes "i") 3) 3 4)
+    ∷ node [] (go 7)
+    ∷ node [] (if_test (equals (codes "i") 7) 5 6)
+    ∷ node [] (go 8)
+    ∷ node (x_adds (read (codes "i")) ∷ []) (go 7)
+    ∷ node (i_more ∷ []) (go 1)
+    ∷ node [] (gives (Some r_x)) ∷ [])
+jumping_flows = refl
+
+-- ---- `for (i = 0; i < n; i++) x = x + i; return x;`: the third expression stands behind the body
+
+added_flows : flow_of giving_int (all (turns (i_be_0 ∷ []) (Some i_below_n) (Some i_up) (x_more (value_of i)) ∷ return_x ∷ []))
+    ≡ flow (node (i_is_0 ∷ []) (go 1) ∷ node [] (if_test i_less_n 2 3) ∷ node (x_adds (read (codes "i")) ∷ i_more ∷ []) (go 1) ∷ node [] (gives (Some r_x)) ∷ [])
+added_flows = refl
+
+-- ---- `for (;;) { x = x + 1; if (x > 3) break; } return x;`, and `for (;;) ;`, which isn't left
+
+for_ever_flows : flow_of giving_int (all (turns [] None None (all (x_more (number (pos 1)) ∷ when (above x 3) leave ∷ [])) ∷ return_x ∷ []))
+    ≡ flow (node [] (go 1) ∷ node (x_adds (whole 1) ∷ []) (if_test (greater (codes "x") 3) 2 1) ∷ node [] (go 3) ∷ node [] (gives (Some r_x)) ∷ [])
+for_ever_flows = refl
+
+spinning_flows : flow_of giving_int (all (turns [] None None empty ∷ return_x ∷ [])) ≡ flow (node [] (go 1) ∷ node [] (go 1) ∷ [])
+spinning_flows = refl
+
+-- ---- `do { n--; if (n == 2) continue; x = x + n; } while (n > 0); return x;`
+
+abbrev done_once : CStmt
+done_once = all (do_as_long (all (n_down ∷ when (is n 2) go_on ∷ x_more n_value ∷ [])) (above n 0) ∷ return_x ∷ [])
+
+done_once_flows : flow_of giving_int done_once
+    ≡ flow (
+    node [] (go 1)
+    ∷ node (n_less ∷ []) (if_test (equals (codes "n") 2) 2 3)
+    ∷ node [] (go 4)
+    ∷ node (x_adds r_n ∷ []) (go 4)
+    ∷ node [] (if_test (greater (codes "n") 0) 1 5)
+    ∷ node [] (gives (Some r_x)) ∷ [])
+done_once_flows = refl
+
+-- ---- `do { while (c) continue; x = 1; } while (d); return x;`: a `continue` is of the innermost loop (6.8.6.2)
+
+inner_continue_flows : flow_of giving_int (all (do_as_long (all (as_long c_holds go_on ∷ x_be 1 ∷ [])) d_holds ∷ return_x ∷ []))
+    ≡ flow (
+    node [] (go 1)
+    ∷ node [] (go 2)
+    ∷ node [] (if_test (holds (codes "c")) 3 4)
+    ∷ node [] (go 2)
+    ∷ node (x_is 1 ∷ []) (if_test (holds (codes "d")) 1 5)
+    ∷ node [] (gives (Some r_x)) ∷ [])
+inner_continue_flows = refl
+
+-- ---- `do { x = 1; break; } while (c); return x;`: the condition isn't reached
+
+never_again_flows : flow_of giving_int (all (do_as_long (all (x_be 1 ∷ leave ∷ [])) c_holds ∷ return_x ∷ []))
+    ≡ flow (node [] (go 1) ∷ node (x_is 1 ∷ []) (go 2) ∷ node [] (gives (Some r_x)) ∷ [])
+never_again_flows = refl
+
+-- ---- `switch (n) { case 1: x = 1; break; case 2: x = 2; default: x = 3; } return x;`
+
+abbrev fall_through : CStmt
+fall_through =
+    all (choose n_value (all (at_value 1 (x_be 1) ∷ leave ∷ at_value 2 (x_be 2) ∷ at_others (x_be 3) ∷ [])) ∷ return_x ∷ [])
+
+fall_through_flows : flow_of giving_int fall_through
+    ≡ flow (
+    node [] (switch (by_n (goes_at 1 1 ∷ goes_at 2 2 ∷ []) 3))
+    ∷ node (x_is 1 ∷ []) (go 4)
+    ∷ node (x_is 2 ∷ []) (go 3)
+    ∷ node (x_is 3 ∷ []) (go 4)
+    ∷ node [] (gives (Some r_x)) ∷ [])
+fall_through_flows = refl
+
+-- ---- `switch (n) { case 1: case 2: x = 1; break; default: ; } return x;`: a statement with two labels, and nothing at the third
+
+two_labels_flows : flow_of giving_int (all (choose n_value (all (at_value 1 (at_value 2 (x_be 1)) ∷ leave ∷ at_others empty ∷ [])) ∷ return_x ∷ []))
+    ≡ flow (
+    node [] (switch (by_n (goes_at 1 1 ∷ goes_at 2 2 ∷ []) 3))
+    ∷ node [] (go 2)
+    ∷ node (x_is 1 ∷ []) (go 4)
+    ∷ node [] (go 4)
+    ∷ node [] (gives (Some r_x)) ∷ [])
+two_labels_flows = refl
+
+-- ---- `while (c) { if (d) goto out; x = 1; } x = 2; out: return x;`
+
+abbrev left_far : CStmt
+left_far = all (as_long c_holds (all (when d_holds (go_to (codes "out")) ∷ x_be 1 ∷ [])) ∷ x_be 2 ∷ labelled (codes "out") return_x ∷ [])
+
+left_far_flows : flow_of giving_int left_far
+    ≡ flow (
+    node [] (go 1)
+    ∷ node [] (if_test (holds (codes "c")) 2 5)
+    ∷ node [] (if_test (holds (codes "d")) 3 4)
+    ∷ node [] (go 6)
+    ∷ node (x_is 1 ∷ []) (go 1)
+    ∷ node (x_is 2 ∷ []) (go 6)
+    ∷ node [] (gives (Some r_x)) ∷ [])
+left_far_flows = refl
+
+-- ---- `if (c) goto l; { int y = 5; l: x = y; } return x;`: a jump into a block past a declaration (6.2.4p5, 6.8.6.1)
+
+abbrev entered : CStmt
+entered = all (when c_holds (go_to (codes "l")) ∷ all_with (7 ∷ []) (declare_as 7 (number (pos 5)) ∷ labelled (codes "l") (does (set x (value_of y))) ∷ []) ∷ return_x ∷ [])
+
+entered_flows : flow_of giving_int entered
+    ≡ flow (
+    node [] (if_test (holds (codes "c")) 1 2)
+    ∷ node [] (go 3)
+    ∷ node (stores (codes "y") (whole 5) ∷ []) (go 3)
+    ∷ node (stores (codes "x") (read (codes "y")) ∷ []) (gives (Some r_x)) ∷ [])
+entered_flows = refl
+
+-- in a program with a bit-field member y is zero where its life begins, by the jump too, and where the declaration is reached
+entered_beside_bits : flow_of beside_bits entered
+    ≡ flow (
+    node [] (if_test (holds (codes "c")) 1 2)
+    ∷ node (stores (codes "y") (whole 0) ∷ []) (go 3)
+    ∷ node (stores (codes "y") (whole 0) ∷ stores (codes "y") (whole 0) ∷ stores (codes "y") (whole 5) ∷ []) (go 3)
+    ∷ node (stores (codes "x") (read (codes "y")) ∷ []) (gives (Some r_x)) ∷ [])
+entered_beside_bits = refl
+
+-- ---- `{ int y; l: y = 1; if (c) goto l; x = y; } return x;`: the block isn't entered again, so y lives on
+
+abbrev backwards : CStmt
+backwards =
+    all (all_with (7 ∷ []) (declare 7 ∷ labelled (codes "l") (does (set y (number (pos 1)))) ∷ when c_holds (go_to (codes "l")) ∷ does (set x (value_of y)) ∷ []) ∷ return_x ∷ [])
+
+backwards_beside_bits : flow_of beside_bits backwards
+    ≡ flow (
+    node (stores (codes "y") (whole 0) ∷ stores (codes "y") (whole 0) ∷ []) (go 1)
+    ∷ node (stores (codes "y") (whole 1) ∷ []) (if_test (holds (codes "c")) 2 3)
+    ∷ node [] (go 1)
+    ∷ node (stores (codes "x") (read (codes "y")) ∷ []) (gives (Some r_x)) ∷ [])
+backwards_beside_bits = refl
+
+-- ---- `switch (n) { int y; case 1: y = 1; x = y; } return x;`: y lives in the body of the `switch`
+
+abbrev chosen_into : CStmt
+chosen_into = all (choose n_value (all_with (7 ∷ []) (declare 7 ∷ at_value 1 (does (set y (number (pos 1)))) ∷ does (set x (value_of y)) ∷ [])) ∷ return_x ∷ [])
+
+chosen_into_flows : flow_of giving_int chosen_into
+    ≡ flow (
+    node [] (switch (by_n (goes_at 1 1 ∷ []) 2))
+    ∷ node (stores (codes "y") (whole 1) ∷ stores (codes "x") (read (codes "y")) ∷ []) (go 2)
+    ∷ node [] (gives (Some r_x)) ∷ [])
+chosen_into_flows = refl
+
+chosen_into_beside_bits : flow_of beside_bits chosen_into
+    ≡ flow (
+    node [] (switch (by_n (goes_at 1 1 ∷ []) 3))
+    ∷ node (stores (codes "y") (whole 0) ∷ []) (go 2)
+    ∷ node (stores (codes "y") (whole 1) ∷ stores (codes "x") (read (codes "y")) ∷ []) (go 3)
+    ∷ node [] (gives (Some r_x)) ∷ [])
+chosen_into_beside_bits = refl
+
+-- ---- `return 1; while (c) x = 2;`: what stands behind isn't reached
+
+behind_return : flow_of giving_int (all (return_of (number (pos 1)) ∷ as_long c_holds (x_be 2) ∷ [])) ≡ flow (node [] (gives (Some (whole 1))) ∷ [])
+behind_return = refl
+
+-- ---- `if (c) goto l; return 1; x = 2; l: x = 3; return x;`
+
+labelled_behind_return : flow_of giving_int
+    (all (when c_holds (go_to (codes "l")) ∷ return_of (number (pos 1)) ∷ x_be 2 ∷ labelled (codes "l") (x_be 3) ∷ return_x ∷ []))
+    ≡ flow (
+    node [] (if_test (holds (codes "c")) 1 2)
+    ∷ node [] (go 3)
+    ∷ node [] (gives (Some (whole 1)))
+    ∷ node (x_is 3 ∷ []) (gives (Some r_x)) ∷ [])
+labelled_behind_return = refl
+
+-- ---- `switch (n) { case 1: x = 1; break; case 2: x = 2; } return x;`, without `default` (6.8.4.2p5)
+
+no_default : flow_of giving_int (all (choose n_value (all (at_value 1 (x_be 1) ∷ leave ∷ at_value 2 (x_be 2) ∷ [])) ∷ return_x ∷ []))
+    ≡ flow (
+    node [] (switch (by_n (goes_at 1 1 ∷ goes_at 2 2 ∷ []) 3))
+    ∷ node (x_is 1 ∷ []) (go 3)
+    ∷ node (x_is 2 ∷ []) (go 3)
+    ∷ node [] (gives (Some r_x)) ∷ [])
+no_default = refl
+
+-- ---- `switch (n) { x = 1; } return x;`: without labels its body isn't reached
+
+no_labels : flow_of giving_int (all (choose n_value (all (x_be 1 ∷ [])) ∷ return_x ∷ []))
+    ≡ flow (node [] (switch (by_n [] 1)) ∷ node [] (gives (Some r_x)) ∷ [])
+no_labels = refl
+
+-- ---- `switch (n) { default: switch (i) { case 1: x = 1; } break; case 2: x = 2; } return x;`: a label is of the innermost `switch` (6.8.4.2p2)
+
+inner_switch : flow_of giving_int
+    (all (choose n_value (all (at_others (choose (value_of i) (all (at_value 1 (x_be 1) ∷ []))) ∷ leave ∷ at_value 2 (x_be 2) ∷ [])) ∷ return_x ∷ []))
+    ≡ flow (
+    node [] (switch (by_n (goes_at 2 4 ∷ []) 1))
+    ∷ node [] (switch (record { on = read (codes "i"); by = I32; cases = goes_at 1 2 ∷ []; other = 3 }))
+    ∷ node (x_is 1 ∷ []) (go 3)
+    ∷ node [] (go 5)
+    ∷ node (x_is 2 ∷ []) (go 5)
+    ∷ node [] (gives (Some r_x)) ∷ [])
+inner_switch = refl
+
+-- ---- `for (i = 0; i < n; i++) { switch (n) { case 1: continue; case 2: break; default: x = 1; } x = 2; } return x;`: `continue` leaves the `switch` for the loop, `break` doesn't
+
+in_loop : flow_of giving_int
+    (all (
+    turns (i_be_0 ∷ []) (Some i_below_n) (Some i_up)
+    (all (choose n_value (all (at_value 1 go_on ∷ at_value 2 leave ∷ at_others (x_be 1) ∷ [])) ∷ x_be 2 ∷ []))
+    ∷ return_x ∷ []))
+    ≡ flow (
+    node (i_is_0 ∷ []) (go 1)
+    ∷ node [] (if_test i_less_n 2 8)
+    ∷ node [] (switch (by_n (goes_at 1 3 ∷ goes_at 2 4 ∷ []) 5))
+    ∷ node [] (go 7)
+    ∷ node [] (go 6)
+    ∷ node (x_is 1 ∷ []) (go 6)
+    ∷ node (x_is 2 ∷ []) (go 7)
+    ∷ node (i_more ∷ []) (go 1)
+    ∷ node [] (gives (Some r_x)) ∷ [])
+in_loop = refl
+
+-- ---- Duff's device: `switch (n) { case 0: do { x = 1; case 3: x = 2; } while (i < n); } return x;`
+
+abbrev duff : CStmt
+duff = all (choose n_value (all (at_value 0 (do_as_long (all (x_be 1 ∷ at_value 3 (x_be 2) ∷ [])) i_below_n) ∷ [])) ∷ return_x ∷ [])
+
+duff_flows : flow_of giving_int duff
+    ≡ flow (
+    node [] (switch (by_n (goes_at 0 1 ∷ goes_at 3 3 ∷ []) 4))
+    ∷ node [] (go 2)
+    ∷ node (x_is 1 ∷ []) (go 3)
+    ∷ node (x_is 2 ∷ []) (if_test i_less_n 2 4)
+    ∷ node [] (gives (Some r_x)) ∷ [])
+duff_flows = refl
+
+-- ---- bodies that come to their end: `x = 1;`, `{}` and `if (c) x = 1;` (6.9.1p12)
+
+void_ends : flow_of giving_nothing (all (x_be 1 ∷ [])) ≡ flow (node (x_is 1 ∷ []) (gives None) ∷ [])
+void_ends = refl
+
+int_ends : flow_of giving_int (all (x_be 1 ∷ [])) ≡ flow (node (x_is 1 ∷ []) (gives (Some (whole 0))) ∷ [])
+int_ends = refl
+
+nothing_done : flow_of giving_nothing (all []) ≡ flow (node [] (gives None) ∷ [])
+nothing_done = refl
+
+abbrev maybe : CStmt
+maybe = all (when c_holds (x_be 1) ∷ [])
+
+maybe_ends : flow_of giving_nothing maybe ≡ flow (node [] (if_test (holds (codes "c")) 1 2) ∷ node (x_is 1 ∷ []) (go 2) ∷ node [] (gives None) ∷ [])
+maybe_ends = refl
+
+-- ---- `if (c) return s; return make();`, a structure: its bytes are written to where the caller says
+
+abbrev given_record : CStmt
+given_record = all (when c_holds (return_of (value_of s)) ∷ return_of make ∷ [])
+
+-- ---- temporaries have numbers in the order of the text
+
+-- `for (x = f(); f(); x = f()) x = f(); return f();`
+turns_of_calls : flow_of giving_int (all (turns (x_be_f ∷ []) (Some f) (Some (statement (set x f))) x_be_f ∷ return_of f ∷ []))
+    ≡ flow (
+    node (t_is_f (codes "t") ∷ stores (codes "x") (read (codes "t")) ∷ []) (go 1)
+    ∷ node (t_is_f (codes "t_0") ∷ []) (if_test (holds (codes "t_0")) 2 3)
+    ∷ node (t_is_f (codes "t_2") ∷ stores (codes "x") (read (codes "t_2")) ∷ t_is_f (codes "t_1") ∷ stores (codes "x") (read (codes "t_1")) ∷ []) (go 1)
+    ∷ node (t_is_f (codes "t_3") ∷ []) (gives (Some (read (codes "t_3")))) ∷ [])
+unfolding digits
+turns_of_calls = refl
+
+-- `do x = f(); while (f()); if (f()) x = f(); else x = f(); return x;`
+others_of_calls : flow_of giving_int (all (do_as_long x_be_f f ∷ when_else f x_be_f x_be_f ∷ return_x ∷ []))
+    ≡ flow (
+    node [] (go 1)
+    ∷ node (t_is_f (codes "t") ∷ stores (codes "x") (read (codes "t")) ∷ t_is_f (codes "t_0") ∷ []) (if_test (holds (codes "t_0")) 1 2)
+    ∷ node (t_is_f (codes "t_1") ∷ []) (if_test (holds (codes "t_1")) 3 4)
+    ∷ node (t_is_f (codes "t_2") ∷ stores (codes "x") (read (codes "t_2")) ∷ []) (go 5)
+    ∷ node (t_is_f (codes "t_3") ∷ stores (codes "x") (read (codes "t_3")) ∷ []) (go 5)
+    ∷ node [] (gives (Some r_x)) ∷ [])
+unfolding digits
+others_of_calls = refl
+
+-- `goto l; x = f(); l: return f();`: what isn't reached keeps its numbers
+skipped_call : flow_of giving_int (all (go_to (codes "l") ∷ x_be_f ∷ labelled (codes "l") (return_of f) ∷ []))
+    ≡ flow (node [] (go 1) ∷ node (t_is_f (codes "t_0") ∷ []) (gives (Some (read (codes "t_0")))) ∷ [])
+unfolding digits
+skipped_call = refl
