@@ -548,6 +548,61 @@ wide_operand : flow_of giving_int (all (choose (converted long f) (stands (case 
 unfolding digits
 wide_operand = refl
 
+-- ---- `do { if (d) x = 1; } while (c); return x;`: the condition is reached from both sides of the `if`
+
+tested_by_both : flow_of giving_int (all (do_as_long (all (when d_holds (x_be 1) ∷ [])) c_holds ∷ return_x ∷ []))
+    ≡ flow (
+    node [] (go 1)
+    ∷ node [] (if_test (holds (codes "d")) 2 3)
+    ∷ node (x_is 1 ∷ []) (go 3)
+    ∷ node [] (if_test (holds (codes "c")) 1 4)
+    ∷ node [] (gives (Some r_x)) ∷ [])
+tested_by_both = refl
+
+-- ---- `for (; i < n; ) { if (c) continue; x = 1; } return x;`: without a third expression `continue` goes to the condition
+
+no_third : flow_of giving_int (all (turns [] (Some i_below_n) None (all (when c_holds go_on ∷ x_be 1 ∷ [])) ∷ return_x ∷ []))
+    ≡ flow (
+    node [] (go 1)
+    ∷ node [] (if_test i_less_n 2 5)
+    ∷ node [] (if_test (holds (codes "c")) 3 4)
+    ∷ node [] (go 1)
+    ∷ node (x_is 1 ∷ []) (go 1)
+    ∷ node [] (gives (Some r_x)) ∷ [])
+no_third = refl
+
+-- ---- `switch (n) { case 0: while (c) { x = 1; break; case 1: continue; } x = 2; } return x;`: in the loop both jumps are the loop's
+
+case_in_loop : flow_of giving_int
+    (all (
+    choose n_value (all (at_value 0 (as_long c_holds (all (x_be 1 ∷ leave ∷ at_value 1 go_on ∷ []))) ∷ x_be 2 ∷ []))
+    ∷ return_x ∷ []))
+    ≡ flow (
+    node [] (switch (by_n (goes_at 0 1 ∷ goes_at 1 4 ∷ []) 6))
+    ∷ node [] (go 2)
+    ∷ node [] (if_test (holds (codes "c")) 3 5)
+    ∷ node (x_is 1 ∷ []) (go 5)
+    ∷ node [] (go 2)
+    ∷ node (x_is 2 ∷ []) (go 6)
+    ∷ node [] (gives (Some r_x)) ∷ [])
+case_in_loop = refl
+
+-- ---- `goto l; switch (n) { case 1: x = 1; l: x = 2; break; } return x;`: the operand and its label aren't reached
+
+past_operand : flow_of giving_int
+    (all (go_to (codes "l") ∷ choose n_value (all (at_value 1 (x_be 1) ∷ labelled (codes "l") (x_be 2) ∷ leave ∷ [])) ∷ return_x ∷ []))
+    ≡ flow (node [] (go 1) ∷ node (x_is 2 ∷ []) (go 2) ∷ node [] (gives (Some r_x)) ∷ [])
+past_operand = refl
+
+-- ---- `if (c) return; x = 1;`, in a function without a result
+
+abbrev pub early : CStmt
+early = all (when c_holds return ∷ x_be 1 ∷ [])
+
+early_flows : flow_of giving_nothing early
+    ≡ flow (node [] (if_test (holds (codes "c")) 1 2) ∷ node [] (gives None) ∷ node (x_is 1 ∷ []) (gives None) ∷ [])
+early_flows = refl
+
 -- ---- `while (c) { if (d) return; x = 1; }`, in a function without a result
 
 abbrev pub left_by_return : CStmt
@@ -671,3 +726,16 @@ skipped_call : flow_of giving_int (all (go_to (codes "l") ∷ x_be_f ∷ labelle
     ≡ flow (node [] (go 1) ∷ node (t_is_f (codes "t_0") ∷ []) (gives (Some (read (codes "t_0")))) ∷ [])
 unfolding digits
 skipped_call = refl
+
+-- `int y = f(); while (f()) x = f(); switch (f()) { case 1: x = f(); } return f();`
+calls_everywhere : flow_of giving_int
+    (all_with (7 ∷ []) (declare_as 7 f ∷ as_long f x_be_f ∷ choose f (all (at_value 1 x_be_f ∷ [])) ∷ return_of f ∷ []))
+    ≡ flow (
+    node (t_is_f (codes "t") ∷ stores (codes "y") (read (codes "t")) ∷ []) (go 1)
+    ∷ node (t_is_f (codes "t_0") ∷ []) (if_test (holds (codes "t_0")) 2 3)
+    ∷ node (t_is_f (codes "t_1") ∷ stores (codes "x") (read (codes "t_1")) ∷ []) (go 1)
+    ∷ node (t_is_f (codes "t_2") ∷ []) (switch (record { on = read (codes "t_2"); by = I32; cases = goes_at 1 4 ∷ []; other = 5 }))
+    ∷ node (t_is_f (codes "t_3") ∷ stores (codes "x") (read (codes "t_3")) ∷ []) (go 5)
+    ∷ node (t_is_f (codes "t_4") ∷ []) (gives (Some (read (codes "t_4")))) ∷ [])
+unfolding digits
+calls_everywhere = refl
