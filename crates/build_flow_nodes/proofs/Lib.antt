@@ -1,1 +1,3 @@
+mod Texts
 mod Worked
+mod WorkedBodies

@@ -1,4 +1,5 @@
 pub mod Builder
+pub mod Example
 pub mod Flows
 pub mod Labels
 pub mod Parts
