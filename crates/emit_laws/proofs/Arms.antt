@@ -50,10 +50,15 @@ pub later_plain : (nests : List Nest) → AllNests IsLater nests → ListPlain n
 later_plain [] all = tt
 later_plain (nest ∷ others) all = ((all.0).1, all.1)
 
+-- a list that is covered
+pub record IsListed (flow : FlowTree) (may : Bool) (ahead known : Nodes) (nests : List Nest) : Type 0 where
+  pub plain : ListPlain nests
+  pub covers : ListCovers flow all_entries_in may ahead known nests
+  pub once : AreOnce nests
+
 -- lists are sorted well
 pub record SortsWell (flow : FlowTree) (sort : Sort) : Type 0 where
-  pub covers : (may : Bool) (ahead known : Nodes) (after : List ℕ) (nests : List Nest) → ListPlain nests → ListCovers flow all_entries_in may ahead known nests → AreOnce nests →
-      CoversChain flow chain_entries ahead known (sort after nests)
+  pub covers : (may : Bool) (ahead known : Nodes) (after : List ℕ) (nests : List Nest) → IsListed flow may ahead known nests → CoversChain flow chain_entries ahead known (sort after nests)
   pub entries : (after : List ℕ) (first : Nest) (others : List Nest) → ListPlain (first ∷ others) → chain_entries (sort after (first ∷ others)) ≡ nest_entries first
   pub nothing : (after : List ℕ) → chain_entries (sort after []) ≡ []
 
@@ -250,14 +255,20 @@ module _ (flow : FlowTree) (sort : Sort) (sorts : SortsWell flow sort) (may : Bo
       (later to : ℕ) → slice_get rest later ≡ Some to → slice_get targets (suc arm + later) ≡ Some to
   later_targets arm target rest at later to is = subst (λ (one : ℕ). slice_get targets one ≡ Some to) (let e : arm + suc later ≡ suc arm + later = omega arith in e) (at (suc later) to is)
 
+  -- what goes into an arm is a covered list
+  pub arm_listed : (arm : ℕ) → IsListed flow may around known (at_arm arm sibling.inside)
+  arm_listed arm = record {
+    plain = later_plain (at_arm arm sibling.inside) (all_at_arm IsLater arm sibling.inside inners);
+    covers = at_arm_covers flow may ahead known around arm sibling.inside fine.inner;
+    once = λ one. let less = at_arm_less (times_in one) arm sibling.inside in let most = once one in omega (arith, less, most);
+  }
+
   module _ (ways : Nodes) (own : (to : ℕ) → IsIn to targets → with_nodes (inner_entries sibling.inside) ways to ≡ true) where
     arms_cover_from : (arm : ℕ) (rest : List ℕ) → ((later to : ℕ) → slice_get rest later ≡ Some to → slice_get targets (arm + later) ≡ Some to) →
         CoverArms flow chain_entries ways around known (arms_from sort after sibling.inside arm (length rest)) rest
     arms_cover_from arm [] at = λ to none. absurd cc
     arms_cover_from arm (target ∷ rest) at = (
-      λ held. sorts.covers may around known after (at_arm arm sibling.inside) (later_plain (at_arm arm sibling.inside) (all_at_arm IsLater arm sibling.inside inners))
-          (at_arm_covers flow may ahead known around arm sibling.inside fine.inner)
-          (λ one. let less = at_arm_less (times_in one) arm sibling.inside in let most = once one in omega (arith, less, most)),
+      λ held. sorts.covers may around known after (at_arm arm sibling.inside) (arm_listed arm),
       λ none.
           let here = arm_target arm target rest at in
           either_by (is_in target (inner_entries sibling.inside)) (ways target) (λ there. absurd (not_inside arm target here none there)) (λ there. there) (own target (got_in targets arm target here)),

@@ -10,7 +10,7 @@ use Rattle.flow.specs.Flows.{NodeTree, FlowTree, node_targets, node_at, targets_
 use Rattle.emit.specs.Nests.{Nest, single, choice, group, repeated, dispatched, Chain, no_nests, more_nests, Chains, no_chains, chain, flat, all_flat, nest_nodes, chain_nodes, nest_entries, chain_entries}
 use Rattle.emit.specs.Sorting.{all_entries, most_depth, sorted_within, nests_of}
 use Rattle.emit_laws.specs.Covers.{Nodes, nowhere, with_nodes, either_of, all_entries_in, CoversNest, CoversChain, Covers}
-use Rattle.emit_laws.proofs.Arms.{IsPlain, ChainPlain, OwnPlain, IsLater, ListPlain, later_plain}
+use Rattle.emit_laws.proofs.Arms.{IsPlain, ChainPlain, OwnPlain, IsLater, later_plain, IsListed}
 use Rattle.emit_laws.proofs.Behind.{IsOwn, times_in, AreOnce, all_nodes, entries_append, entries_front}
 use Rattle.emit_laws.proofs.Covering.{either_by, in_left, in_right, in_first, nest_more}
 use Rattle.emit_laws.proofs.Kept.{AllNests, nests_weigh}
@@ -300,10 +300,15 @@ module _ (flow : FlowTree) where
         let same : times node (all_nodes (flat shape)) ≡ times node (nodes_in shape) = ap (times node) (flat_nodes shape) in
         let most = (stand_once node).0 in omega (arith, weight, same, most)
 
+    pub flat_listed : IsListed flow true nowhere nowhere (flat shape)
+    flat_listed = record {
+      plain = later_plain (flat shape) (flat_some graph shape fits.form).later;
+      covers = flat_covers shape fits.form stand_once nowhere nowhere (λ from to there edge. inl (fits.edges from to edge));
+      once = once_flat;
+    }
+
     pub nests_cover : Covers flow (nests_of flow shape)
-    nests_cover =
-        (sorts_well flow most_depth).covers true nowhere nowhere [] (flat shape) (later_plain (flat shape) (flat_some graph shape fits.form).later)
-        (flat_covers shape fits.form stand_once nowhere nowhere (λ from to there edge. inl (fits.edges from to edge))) once_flat
+    nests_cover = (sorts_well flow most_depth).covers true nowhere nowhere [] (flat shape) flat_listed
 
     pub nests_enter : IsIn flow.entry (chain_entries (nests_of flow shape))
     nests_enter =

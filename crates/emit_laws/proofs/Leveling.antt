@@ -135,7 +135,7 @@ module _ (flow : FlowTree) where
 
   pub sorts_well : (depth : ℕ) → SortsWell flow (sorted_within flow depth)
   sorts_well zero = record {
-    covers = λ may ahead known after nests plain covers once. arranged_covers ahead known after (map (level flow) nests) (list_covers may ahead known nests plain covers);
+    covers = λ may ahead known after nests is. arranged_covers ahead known after (map (level flow) nests) (list_covers may ahead known nests is.plain is.covers);
     entries = λ after first others plain. arranged_entries after (level flow first) (map (level flow) others) ∙ level_entries first plain.0;
     nothing = λ after. refl;
   }
