@@ -60,7 +60,7 @@ pub record IsListed (flow : FlowTree) (may : Bool) (ahead known : Nodes) (nests 
 pub record SortsWell (flow : FlowTree) (sort : Sort) : Type 0 where
   pub covers : (may : Bool) (ahead known : Nodes) (after : List ℕ) (nests : List Nest) → IsListed flow may ahead known nests → CoversChain flow chain_entries ahead known (sort after nests)
   pub entries : (after : List ℕ) (first : Nest) (others : List Nest) → ListPlain (first ∷ others) → chain_entries (sort after (first ∷ others)) ≡ nest_entries first
-  pub nothing : (after : List ℕ) → chain_entries (sort after []) ≡ []
+  pub nothing : (after : List ℕ) → sort after [] ≡ no_nests
 
 -- ---- what goes into an arm
 
@@ -224,10 +224,26 @@ module _ (flow : FlowTree) (sort : Sort) (sorts : SortsWell flow sort) (may : Bo
           (first.one, first.among, first.at,
           subst (λ (entries : List ℕ). IsIn to entries) (ap (λ (nests : List Nest). chain_entries (sort after nests)) first.list ∙ sorts.entries after first.one.nest first.others plain) held)
       by_side (inr none) =
-          absurd (in_nothing to (subst (λ (entries : List ℕ). IsIn to entries) (ap (λ (nests : List Nest). chain_entries (sort after nests)) none ∙ sorts.nothing after) held))
+          absurd (in_nothing to (subst (λ (entries : List ℕ). IsIn to entries) (ap (λ (nests : List Nest). chain_entries (sort after nests)) none ∙ ap chain_entries (sorts.nothing after)) held))
         where
           in_nothing : (to : ℕ) → IsIn to [] → ⊥
           in_nothing to there = cc
+
+  -- the first in an arm is entered at its target
+  first_entered : (arm to : ℕ) → slice_get targets arm ≡ Some to → IsFirst node arm sibling.inside → IsIn to (chain_entries (held_chain arm))
+  first_entered arm to is first =
+      let plain : ListPlain (first.one.nest ∷ first.others) = subst ListPlain first.list (later_plain (at_arm arm sibling.inside) (all_at_arm IsLater arm sibling.inside inners)) in
+      let leads = fine.first node arm first.one first.first in
+      let out = is_arm true node 0 targets leads.out.way (subst (λ (ways : List Leaving). IsAmong leads.out.way ways) ways_are leads.out.among) in
+      let index : out.after ≡ arm = (let first_is = out.arm_is in let other = leads.out.arm_is in omega (arith, first_is, other)) in
+      let target : leads.out.way.to ≡ to = some_number leads.out.way.to to (sym out.target ∙ ap (slice_get targets) index ∙ is) in
+      let entries : chain_entries (held_chain arm) ≡ leads.out.way.to ∷ [] =
+        ap (λ (nests : List Nest). chain_entries (sort after nests)) first.list ∙ sorts.entries after first.one.nest first.others plain ∙ leads.enters in
+      subst (λ (list : List ℕ). IsIn to list) (sym entries) (subst (λ (one : ℕ). IsIn one (leads.out.way.to ∷ [])) target (in_first leads.out.way.to []))
+
+  nothing_held : (arm to : ℕ) → slice_get targets arm ≡ Some to → is_in to (chain_entries (held_chain arm)) ≡ false → IsFirst node arm sibling.inside ⊎ (at_arm arm sibling.inside ≡ []) → held_chain arm ≡ no_nests
+  nothing_held arm to is none (inl first) = not_both (is_in to (chain_entries (held_chain arm))) (first_entered arm to is first) none
+  nothing_held arm to is none (inr nothing) = ap (sort after) nothing ∙ sorts.nothing after
 
   -- what isn't held at a target of an arm doesn't go inside
   not_inside : (arm to : ℕ) → slice_get targets arm ≡ Some to → is_in to (chain_entries (held_chain arm)) ≡ false → IsIn to (inner_entries sibling.inside) → ⊥
@@ -236,16 +252,7 @@ module _ (flow : FlowTree) (sort : Sort) (sorts : SortsWell flow sort) (may : Bo
       by_side found.0 found.1 (at_its_arm found.0 found.1 arm to is found.2) (first_or_none node arm sibling.inside at_node)
     where
       by_side : (one : Inner) → IsAmong one sibling.inside → one.arm ≡ arm → IsFirst node arm sibling.inside ⊎ (at_arm arm sibling.inside ≡ []) → ⊥
-      by_side one among at (inl first) =
-          let plain : ListPlain (first.one.nest ∷ first.others) = subst ListPlain first.list (later_plain (at_arm arm sibling.inside) (all_at_arm IsLater arm sibling.inside inners)) in
-          let leads = fine.first node arm first.one first.first in
-          let out = is_arm true node 0 targets leads.out.way (subst (λ (ways : List Leaving). IsAmong leads.out.way ways) ways_are leads.out.among) in
-          let index : out.after ≡ arm = (let first_is = out.arm_is in let other = leads.out.arm_is in omega (arith, first_is, other)) in
-          let target : leads.out.way.to ≡ to = some_number leads.out.way.to to (sym out.target ∙ ap (slice_get targets) index ∙ is) in
-          let entries : chain_entries (held_chain arm) ≡ leads.out.way.to ∷ [] =
-            ap (λ (nests : List Nest). chain_entries (sort after nests)) first.list ∙ sorts.entries after first.one.nest first.others plain ∙ leads.enters in
-          not_both (is_in to (chain_entries (held_chain arm)))
-          (subst (λ (list : List ℕ). IsIn to list) (sym entries) (subst (λ (one : ℕ). IsIn one (leads.out.way.to ∷ [])) target (in_first leads.out.way.to []))) none
+      by_side one among at (inl first) = not_both (is_in to (chain_entries (held_chain arm))) (first_entered arm to is first) none
       by_side one among at (inr nothing) = none_at arm sibling.inside one among at nothing
 
   arm_target : (arm target : ℕ) (rest : List ℕ) → ((later to : ℕ) → slice_get (target ∷ rest) later ≡ Some to → slice_get targets (arm + later) ≡ Some to) → slice_get targets arm ≡ Some target
@@ -271,7 +278,8 @@ module _ (flow : FlowTree) (sort : Sort) (sorts : SortsWell flow sort) (may : Bo
       λ held. sorts.covers may around known after (at_arm arm sibling.inside) (arm_listed arm),
       λ none.
           let here = arm_target arm target rest at in
-          either_by (is_in target (inner_entries sibling.inside)) (ways target) (λ there. absurd (not_inside arm target here none there)) (λ there. there) (own target (got_in targets arm target here)),
+          (nothing_held arm target here none (first_or_none node arm sibling.inside at_node),
+          either_by (is_in target (inner_entries sibling.inside)) (ways target) (λ there. absurd (not_inside arm target here none there)) (λ there. there) (own target (got_in targets arm target here))),
       arms_cover_from (suc arm) rest (later_targets arm target rest at),
     )
 

@@ -128,10 +128,10 @@ module _ (flow : FlowTree) where
       arms_grow : (arms : Chains) (targets : List ℕ) (ways others ahead known more further : Nodes) → IsWithin (λ to. IsIn to targets) ways others →
           Grows (chains_nodes arms) (chains_heads arms) ahead known more further → CoverArms flow behind ways ahead known arms targets → CoverArms flow behind others more further arms targets
       arms_grow no_chains targets ways others ahead known more further within grows covers = λ to there. within to there (covers to there)
-      arms_grow (more_chains inner rest) [] ways others ahead known more further within grows covers = tt
+      arms_grow (more_chains inner rest) [] ways others ahead known more further within grows covers = covers
       arms_grow (more_chains inner rest) (target ∷ targets) ways others ahead known more further within grows covers = (
         λ held. chain_grows inner ahead known more further (grows_left (chain_nodes inner) (chains_nodes rest) (chain_heads inner) (chains_heads rest) ahead known more further grows) (covers.0 held),
-        λ none. within target (in_first target targets) (covers.1 none),
+        λ none. let without = covers.1 none in (without.0, within target (in_first target targets) without.1),
         arms_grow rest targets ways others ahead known more further (λ to there. within to (or_right (to == target) (is_in to targets) there))
           (grows_right (chain_nodes inner) (chains_nodes rest) (chain_heads inner) (chains_heads rest) ahead known more further grows) covers.2,
       )

@@ -247,7 +247,7 @@ module _ {F S A B P : Type 0} (source : Source F S A P) (frame : Frame) (behave 
   no_arms_owed around ways served targets covers can to world there at = way_owed around ways served to world (covers to there) at
 
   more_arms_owed : (inner : Chain) (others : Chains) → ChainOwed inner → ArmsOwed others → ArmsOwed (more_chains inner others)
-  more_arms_owed inner others first rest around ways served [] covers can to world there at = absurd cc
+  more_arms_owed inner others first rest around ways served [] covers can to world there at = elim covers [ ]
   more_arms_owed inner others first rest around ways served (target ∷ targets) covers can to world there at = by_target (to == target) refl
     where
       inside : (held : Bool) → is_in target (chain_entries inner) ≡ held → At around.position target world →
@@ -257,7 +257,7 @@ module _ {F S A B P : Type 0} (source : Source F S A P) (frame : Frame) (behave 
           told_owed source frame At Back Good most_units most_steps around.next around.n around.m around.position target world (chain_is_told inner) (chain_stmts flow inner around.label around.jumps)
           (λ tells. can (or_left (chain_chooses inner) (chains_choose others) (chain_told_chooses inner tells))) here
           (λ start ready. first around (covers.0 is) (of_left (chain_chooses inner) (chains_choose others) can) target start is ready)
-      inside false is here = way_owed around ways served target world (covers.1 is) here
+      inside false is here = way_owed around ways served target world (covers.1 is).1 here
 
       by_target : (here : Bool) → (to == target) ≡ here →
           OwedAt around.n around.m around.position
