@@ -25,3 +25,4 @@ pub mod Seeing
 pub mod Serving
 pub mod Turns
 pub mod Ways
+pub mod Weights
