@@ -87,14 +87,14 @@ got_less (target ∷ targets) (suc number) to is = let rest = got_less targets n
 
 -- ---- weights of nests
 
-module _ (of_node : ℕ → ℕ) (of_choice of_loop of_dispatch : ℕ) where
+module _ (of_node : ℕ → ℕ) (of_choice : List ℕ → ℕ) (of_loop : ℕ) (of_dispatch : List ℕ → ℕ) where
   abbrev mutual
     pub nest_weight : Nest → ℕ
     nest_weight (single node arms) = of_node node + chains_weight arms
-    nest_weight (choice heads arms) = of_choice + chains_weight arms
+    nest_weight (choice heads arms) = of_choice heads + chains_weight arms
     nest_weight (group members) = chain_weight members
     nest_weight (repeated head body) = of_loop + chain_weight body
-    nest_weight (dispatched heads body) = of_dispatch + chain_weight body
+    nest_weight (dispatched heads body) = of_dispatch heads + chain_weight body
 
     pub chain_weight : Chain → ℕ
     chain_weight no_nests = 0
