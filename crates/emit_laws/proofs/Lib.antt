@@ -23,6 +23,7 @@ pub mod Placing
 pub mod Runs
 pub mod Seeing
 pub mod Serving
+pub mod Shaped
 pub mod Turns
 pub mod Ways
 pub mod Weights

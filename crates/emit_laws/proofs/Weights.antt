@@ -104,7 +104,7 @@ module _ (of_node : ℕ → ℕ) (of_choice : List ℕ → ℕ) (of_loop : ℕ) 
     chains_weight no_chains = 0
     chains_weight (more_chains first others) = chain_weight first + chains_weight others
 
-  weigh_chain : (nests : List Nest) → chain_weight (chain nests) ≡ nests_weigh nest_weight nests
+  pub weigh_chain : (nests : List Nest) → chain_weight (chain nests) ≡ nests_weigh nest_weight nests
   weigh_chain [] = refl
   weigh_chain (nest ∷ others) = ap (λ (n : ℕ). nest_weight nest + n) (weigh_chain others)
 
