@@ -27,3 +27,4 @@ pub mod Shaped
 pub mod Turns
 pub mod Ways
 pub mod Weights
+pub mod Written

@@ -1,3 +1,4 @@
 pub mod Closed
 pub mod Covers
+pub mod LawsText
 pub mod Tells
