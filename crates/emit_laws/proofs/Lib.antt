@@ -9,6 +9,7 @@ pub mod Covering
 pub mod Drafting
 pub mod Every
 pub mod Filling
+pub mod Fits
 pub mod Fitting
 pub mod Ifs
 pub mod Keeping

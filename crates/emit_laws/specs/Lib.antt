@@ -1,4 +1,5 @@
 pub mod Closed
 pub mod Covers
 pub mod LawsText
+pub mod LawsTyping
 pub mod Tells
