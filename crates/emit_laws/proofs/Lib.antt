@@ -26,6 +26,7 @@ pub mod Seeing
 pub mod Serving
 pub mod Shaped
 pub mod Turns
+pub mod Typing
 pub mod Ways
 pub mod Weights
 pub mod Written

@@ -1,9 +1,16 @@
 //! Laws of the text that is written from a flow and its shape. The functions do nothing: their contracts are the laws.
 
 ghost use Rattle.emit_laws.specs.LawsText.{TextOwes};
+ghost use Rattle.emit_laws.specs.LawsTyping.{TextTyped};
 
 /// Law: the text is owed to any source that goes along the flow, node by node: in both halves, so that it does just what the source does.
 /// Used for a run of C, along the flow of its body.
 pub fn text_owes<F, S, A, B, P>()
     ensures { TextOwes F S A B P }
+{}
+
+/// Law: the text is well typed where the statements and branches of the nodes are, and `current_block` is a `u32` where the shape has a dispatch.
+/// Used for the body of a function in a crate that is well typed.
+pub fn text_typed()
+    ensures { TextTyped }
 {}

@@ -4,4 +4,4 @@
 
 mod laws;
 
-pub use laws::{text_owes};
+pub use laws::{text_owes, text_typed};
