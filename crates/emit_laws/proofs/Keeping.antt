@@ -122,33 +122,33 @@ module _ (flow : FlowTree) (Good : List LabelScope → Stmts → Type 0) (IsTell
     pub block : (around : List LabelScope) (label : ℕ) (body rest : Stmts) → Good (of_block (label_of label) ∷ around) body → Good around rest → Good around (block_then label body rest)
     pub loop : (around : List LabelScope) (label : ℕ) (body : Stmts) → Rounds → Good (of_loop (label_of label) ∷ around) body → Good around (one_stmt (loop_of label body))
 
-  abbrev NestAsked : Nest → Type 0
+  abbrev pub NestAsked : Nest → Type 0
   NestAsked = EveryNest (λ node. ⊤) OfChoice Rounds
 
   abbrev pub ChainAsked : Chain → Type 0
   ChainAsked = EveryChain (λ node. ⊤) OfChoice Rounds
 
-  abbrev ChainsAsked : Chains → Type 0
+  abbrev pub ChainsAsked : Chains → Type 0
   ChainsAsked = EveryChains (λ node. ⊤) OfChoice Rounds
 
-  nest_tells : (nest : Nest) → NestAsked nest → nest_is_told nest ≡ true → Tells
+  pub nest_tells : (nest : Nest) → NestAsked nest → nest_is_told nest ≡ true → Tells
   nest_tells = nest_told_gives (λ node. ⊤) OfChoice Rounds Tells (λ heads asked. asked.0)
 
-  chain_tells : (nests : Chain) → ChainAsked nests → chain_is_told nests ≡ true → Tells
+  pub chain_tells : (nests : Chain) → ChainAsked nests → chain_is_told nests ≡ true → Tells
   chain_tells = chain_told_gives (λ node. ⊤) OfChoice Rounds Tells (λ heads asked. asked.0)
 
   -- a node is told by a jump only where heads are told
-  abbrev JumpsTell : Jumps → Type 0
+  abbrev pub JumpsTell : Jumps → Type 0
   JumpsTell jumps = (node : ℕ) (jump : Jump) → jumps.jump node ≡ Some jump → jump.is_told ≡ true → Tells
 
-  tell_before : (label : ℕ) (second : Nest) (jumps : Jumps) → JumpsTell jumps → NestAsked second → JumpsTell (jumps_before label second jumps)
+  pub tell_before : (label : ℕ) (second : Nest) (jumps : Jumps) → JumpsTell jumps → NestAsked second → JumpsTell (jumps_before label second jumps)
   tell_before label second jumps tell asked node jump = by_test (is_in node (nest_entries second))
     where
       by_test : (here : Bool) → (if here then Some (leaving (nest_is_told second) label) else jumps.jump node) ≡ Some jump → jump.is_told ≡ true → Tells
       by_test true same is = nest_tells second asked (ap (λ (one : Jump). one.is_told) (some_is (leaving (nest_is_told second) label) jump same) ∙ is)
       by_test false same is = tell node jump same is
 
-  tell_within : (label : ℕ) (heads : List ℕ) (is_told : Bool) (jumps : Jumps) → JumpsTell jumps → (is_told ≡ true → Tells) → JumpsTell (jumps_within label heads is_told jumps)
+  pub tell_within : (label : ℕ) (heads : List ℕ) (is_told : Bool) (jumps : Jumps) → JumpsTell jumps → (is_told ≡ true → Tells) → JumpsTell (jumps_within label heads is_told jumps)
   tell_within label heads is_told jumps tell tells node jump = by_test (is_in node heads) (jumps.next node) (jumps.jump node) refl
     where
       by_test : (here is_next : Bool) (outer : Option Jump) → jumps.jump node ≡ outer → (if here then Some (turning is_told label) else by_own_label label is_next outer) ≡ Some jump → jump.is_told ≡ true → Tells

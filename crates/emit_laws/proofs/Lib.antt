@@ -5,6 +5,7 @@ pub mod Branches
 pub mod Chaining
 pub mod Closing
 pub mod Conditions
+pub mod Counting
 pub mod Covering
 pub mod Drafting
 pub mod Every
