@@ -102,7 +102,7 @@ module _ (is : Stmt → Bool) where
     found_count (Some node) = of_branch node.last
 
     -- what is so of a node: its statements are without the kind
-    abbrev FoundIs : Option NodeTree → Type 0
+    abbrev pub FoundIs : Option NodeTree → Type 0
     FoundIs None = ⊤
     FoundIs (Some node) = (count node.body ≡ 0) × BranchIs node.last
 
@@ -119,7 +119,7 @@ module _ (is : Stmt → Bool) where
 
   -- ---- blocks and loops
 
-  block_counts : (label : ℕ) (body rest : Stmts) → IsMore (count (block_then label body rest)) (count body + count rest) (λ own. ((name : List ℕ) (ss : Stmts) → is (Block name ss) ≡ false) → own ≡ 0)
+  pub block_counts : (label : ℕ) (body rest : Stmts) → IsMore (count (block_then label body rest)) (count body + count rest) (λ own. ((name : List ℕ) (ss : Stmts) → is (Block name ss) ≡ false) → own ≡ 0)
   block_counts label body rest = by_name (stmts_name (label_of label) body)
     where
       by_name : (named : Bool) → IsMore (count (if named then more_stmts (Block (label_of label) body) rest else behind body rest)) (count body + count rest)
@@ -127,7 +127,7 @@ module _ (is : Stmt → Bool) where
       by_name true = record { own = one_if (is (Block (label_of label) body)); is = omega arith; exact = λ no. none_of (is (Block (label_of label) body)) (no (label_of label) body) }
       by_name false = record { own = 0; is = let both = behind_counts body rest in omega (arith, both); exact = λ no. refl }
 
-  arms_long : (flow : FlowTree) (ways ahead known : Nodes) (arms : Chains) (label : ℕ) (jumps : Jumps) (nodes : List ℕ) → CoverArms flow chain_entries ways ahead known arms nodes →
+  pub arms_long : (flow : FlowTree) (ways ahead known : Nodes) (arms : Chains) (label : ℕ) (jumps : Jumps) (nodes : List ℕ) → CoverArms flow chain_entries ways ahead known arms nodes →
       length (arms_stmts flow arms label jumps nodes) ≡ length nodes
   arms_long flow ways ahead known no_chains label jumps nodes cover = length_map (goes_to jumps) nodes
     where

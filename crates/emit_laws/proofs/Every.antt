@@ -54,3 +54,22 @@ module _ (OfNode : ℕ → Type 0) (OfChoice : List ℕ → Type 0) (OfLoop : Ty
       chains_choice_gives : (arms : Chains) → EveryChains arms → chains_choose arms ≡ true → A
       chains_choice_gives no_chains every is = absurd cc
       chains_choice_gives (more_chains first others) every is = by_either (chain_chooses first) (chains_choose others) is (chain_choice_gives first every.0) (chains_choice_gives others every.1)
+
+-- what gives something else
+module _ (OfNode OtherNode : ℕ → Type 0) (OfChoice OtherChoice : List ℕ → Type 0) (OfLoop OtherLoop : Type 0) (node_is : (node : ℕ) → OfNode node → OtherNode node)
+    (choice_is : (heads : List ℕ) → OfChoice heads → OtherChoice heads) (loop_is : OfLoop → OtherLoop) where
+  mutual
+    nest_with : (nest : Nest) → EveryNest OfNode OfChoice OfLoop nest → EveryNest OtherNode OtherChoice OtherLoop nest
+    nest_with (single node arms) every = (node_is node every.0, chains_with arms every.1)
+    nest_with (choice heads arms) every = (choice_is heads every.0, chains_with arms every.1)
+    nest_with (group members) every = chain_with members every
+    nest_with (repeated head body) every = (loop_is every.0, chain_with body every.1)
+    nest_with (dispatched heads body) every = (choice_is heads every.0, loop_is every.1, chain_with body every.2)
+
+    pub chain_with : (nests : Chain) → EveryChain OfNode OfChoice OfLoop nests → EveryChain OtherNode OtherChoice OtherLoop nests
+    chain_with no_nests every = tt
+    chain_with (more_nests nest others) every = (nest_with nest every.0, chain_with others every.1)
+
+    chains_with : (arms : Chains) → EveryChains OfNode OfChoice OfLoop arms → EveryChains OtherNode OtherChoice OtherLoop arms
+    chains_with no_chains every = tt
+    chains_with (more_chains first others) every = (chain_with first every.0, chains_with others every.1)

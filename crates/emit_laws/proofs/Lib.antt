@@ -26,6 +26,8 @@ pub mod Runs
 pub mod Seeing
 pub mod Serving
 pub mod Shaped
+pub mod Shapes
+pub mod Told
 pub mod Turns
 pub mod Typing
 pub mod Ways

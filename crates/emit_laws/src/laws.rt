@@ -1,5 +1,6 @@
 //! Laws of the text that is written from a flow and its shape. The functions do nothing: their contracts are the laws.
 
+ghost use Rattle.emit_laws.specs.LawsShape.{TextShaped};
 ghost use Rattle.emit_laws.specs.LawsText.{TextOwes};
 ghost use Rattle.emit_laws.specs.LawsTyping.{TextTyped};
 
@@ -13,4 +14,11 @@ pub fn text_owes<F, S, A, B, P>()
 /// Used for the body of a function in a crate that is well typed.
 pub fn text_typed()
     ensures { TextTyped }
+{}
+
+/// Law: `current_block` stands in the text exactly where the shape has a dispatch; without one there is a `loop` for each loop of the shape
+/// and a `match` for each node that chooses among cases; and there is no `loop` where the shape doesn't go round.
+/// Used for what a function declares, and for how its text looks.
+pub fn text_shaped()
+    ensures { TextShaped }
 {}
