@@ -15,6 +15,7 @@ pub mod Fitting
 pub mod Ifs
 pub mod Keeping
 pub mod Kept
+pub mod Labels
 pub mod Leveling
 pub mod Measure
 pub mod Names

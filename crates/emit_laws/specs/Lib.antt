@@ -4,4 +4,5 @@ pub mod Covers
 pub mod LawsShape
 pub mod LawsText
 pub mod LawsTyping
+pub mod LawsValid
 pub mod Tells
