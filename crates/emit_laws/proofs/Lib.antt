@@ -31,6 +31,7 @@ pub mod Shapes
 pub mod Told
 pub mod Turns
 pub mod Typing
+pub mod Valid
 pub mod Ways
 pub mod Weights
 pub mod Written

@@ -38,12 +38,12 @@ by_name around flow = pure (renamed around flow)
 -- ---- labels around
 
 -- a label around is one of a number that is less than theirs
-record IsNumbered (around : List LabelScope) (label : List ℕ) : Type 0 where
-  number : ℕ
-  less : number < length (names around)
-  is : numbered_label (names around) label ≡ label_of number
+pub record IsNumbered (around : List LabelScope) (label : List ℕ) : Type 0 where
+  pub number : ℕ
+  pub less : number < length (names around)
+  pub is : numbered_label (names around) label ≡ label_of number
 
-bound_number : (around : List LabelScope) (label : List ℕ) → is_bound around label ≡ true → IsNumbered around label
+pub bound_number : (around : List LabelScope) (label : List ℕ) → is_bound around label ≡ true → IsNumbered around label
 bound_number [] label is = absurd cc
 bound_number (one ∷ others) label is = by_test (bytes_eq one.name label) refl is (bound_number others label)
   where
@@ -67,7 +67,7 @@ apart_inside around label is =
     let found = bound_number around label is in
     ap (bytes_eq (label_of (length (names around)))) found.is ∙ told_apart (length (names around)) found.number (let less = found.less in λ same. absurd (omega (arith, less, same)))
 
-loop_bound : (around : List LabelScope) (label : List ℕ) → is_loop_label around label ≡ true → is_bound around label ≡ true
+pub loop_bound : (around : List LabelScope) (label : List ℕ) → is_loop_label around label ≡ true → is_bound around label ≡ true
 loop_bound [] label is = absurd cc
 loop_bound (one ∷ others) label is = by_test (bytes_eq one.name label) is (loop_bound others label)
   where

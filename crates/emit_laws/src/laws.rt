@@ -3,6 +3,7 @@
 ghost use Rattle.emit_laws.specs.LawsShape.{TextShaped};
 ghost use Rattle.emit_laws.specs.LawsText.{TextOwes};
 ghost use Rattle.emit_laws.specs.LawsTyping.{TextTyped};
+ghost use Rattle.emit_laws.specs.LawsValid.{TextValid};
 
 /// Law: the text is owed to any source that goes along the flow, node by node: in both halves, so that it does just what the source does.
 /// Used for a run of C, along the flow of its body.
@@ -21,4 +22,10 @@ pub fn text_typed()
 /// Used for what a function declares, and for how its text looks.
 pub fn text_shaped()
     ensures { TextShaped }
+{}
+
+/// Law: the text is one that is printed and read where the statements and branches of the nodes are.
+/// Used for the body of a function in a crate that is printed.
+pub fn text_valid()
+    ensures { TextValid }
 {}

@@ -4,4 +4,4 @@
 
 mod laws;
 
-pub use laws::{text_owes, text_shaped, text_typed};
+pub use laws::{text_owes, text_shaped, text_typed, text_valid};
