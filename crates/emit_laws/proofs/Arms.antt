@@ -1,19 +1,19 @@
 -- What goes into the arms of a branch covers there.
-use Rattle.std.proofs.Common.{◌≡◌, ◌∙◌, ◌⊎◌, inl, inr, ℕ, zero, suc, ◌+◌, ◌≤◌, ◌<◌, ◌==◌, Bool, true, false, ◌&&◌, ◌||◌, List, [], ◌∷◌, ◌++◌, map, length, Option, Some, None, slice_get, if◌then◌else◌, arith, refl, sym, ap, subst}
+use Rattle.std.proofs.Common.{◌≡◌, ◌∙◌, ◌⊎◌, inl, inr, ℕ, zero, suc, ◌+◌, ◌≤◌, ◌==◌, Bool, true, false, ◌&&◌, List, [], ◌∷◌, ◌++◌, map, length, Some, slice_get, if◌then◌else◌, arith, refl, sym, ap, subst}
 use Rattle.std.specs.Prelude.{⊤}
 use Rattle.std.specs.List.{filter}
 use Rattle.reloop.specs.Graphs.{is_in, IsIn}
-use Rattle.reloop.proofs.Sets.{either, or_left, or_right, in_append, same_number, equal_itself, not_both, decide}
+use Rattle.reloop.proofs.Sets.{either, or_left, or_right, in_append, same_number, equal_itself, not_both}
 use Rattle.flow.specs.Flows.{FlowTree}
-use Rattle.emit.specs.Nests.{Nest, single, choice, group, repeated, dispatched, Chain, no_nests, more_nests, Chains, no_chains, more_chains, nest_entries, chain_entries}
+use Rattle.emit.specs.Nests.{Nest, single, choice, group, repeated, dispatched, Chain, no_nests, more_nests, no_chains, more_chains, nest_entries, chain_entries}
 use Rattle.emit.specs.Places.{Leaving, leavings_from, leavings, Table}
 use Rattle.emit.specs.Sorting.{Inner, Sibling, Sort, all_entries, nest_of, at_arm, arms_from}
-use Rattle.emit_laws.specs.Covers.{Nodes, with_nodes, either_of, all_entries_in, held_targets, AreApart, CoversChain, CoverArms}
+use Rattle.emit_laws.specs.Covers.{Nodes, with_nodes, all_entries_in, held_targets, AreApart, CoversChain, CoverArms}
 use Rattle.emit_laws.proofs.Behind.{IsOwn, times_in, AreOnce}
-use Rattle.emit_laws.proofs.Closing.{and_left, and_right, and_both}
+use Rattle.emit_laws.proofs.Closing.{and_right}
 use Rattle.emit_laws.proofs.Covering.{either_by, in_left, in_right, in_first, nest_more}
 use Rattle.emit_laws.proofs.Kept.{AllNests, AllInners, nests_weigh, inners_weigh, all_at_arm}
-use Rattle.emit_laws.proofs.Placing.{inner_entries, is_at, entries_at, first_at, HasArm, LeadsTo, around_of, InnersCover, IsFine, ListCovers}
+use Rattle.emit_laws.proofs.Placing.{inner_entries, is_at, entries_at, first_at, around_of, InnersCover, IsFine, ListCovers}
 use Rattle.emit_laws.proofs.Seeing.{IsAmong}
 use Rattle.emit_laws.proofs.Ways.{is_arm, got_in}
 
@@ -153,7 +153,7 @@ module _ (flow : FlowTree) (may : Bool) (ahead known around : Nodes) where
       by_test true is rest = (
         cover.0,
         nest_more flow all_entries_in inner.nest (with_nodes (entries_at inner.node inner.arm others) around) (with_nodes (all_entries (at_arm arm others)) around) known
-          (λ node. either_by (is_in node (entries_at inner.node inner.arm others)) (around node)
+            (λ node. either_by (is_in node (entries_at inner.node inner.arm others)) (around node)
             (λ there. or_left (is_in node (all_entries (at_arm arm others))) (around node) (in_arm others node (same_number inner.arm arm is) there))
             (or_right (is_in node (all_entries (at_arm arm others))) (around node))) cover.1,
         rest,
@@ -220,9 +220,12 @@ module _ (flow : FlowTree) (sort : Sort) (sorts : SortsWell flow sort) (may : Bo
     where
       by_side : IsFirst node arm sibling.inside ⊎ (at_arm arm sibling.inside ≡ []) → (one : Inner) × IsAmong one sibling.inside × (one.arm ≡ arm) × IsIn to (nest_entries one.nest)
       by_side (inl first) =
-          let plain : ListPlain (first.one.nest ∷ first.others) = subst ListPlain first.list (later_plain (at_arm arm sibling.inside) (all_at_arm IsLater arm sibling.inside inners)) in
-          (first.one, first.among, first.at,
-          subst (λ (entries : List ℕ). IsIn to entries) (ap (λ (nests : List Nest). chain_entries (sort after nests)) first.list ∙ sorts.entries after first.one.nest first.others plain) held)
+          let plain : ListPlain (first.one.nest ∷ first.others) = subst ListPlain first.list (later_plain (at_arm arm sibling.inside) (all_at_arm IsLater arm sibling.inside inners)) in (
+            first.one,
+            first.among,
+            first.at,
+            subst (λ (entries : List ℕ). IsIn to entries) (ap (λ (nests : List Nest). chain_entries (sort after nests)) first.list ∙ sorts.entries after first.one.nest first.others plain) held,
+          )
       by_side (inr none) =
           absurd (in_nothing to (subst (λ (entries : List ℕ). IsIn to entries) (ap (λ (nests : List Nest). chain_entries (sort after nests)) none ∙ ap chain_entries (sorts.nothing after)) held))
         where
@@ -238,7 +241,7 @@ module _ (flow : FlowTree) (sort : Sort) (sorts : SortsWell flow sort) (may : Bo
       let index : out.after ≡ arm = (let first_is = out.arm_is in let other = leads.out.arm_is in omega (arith, first_is, other)) in
       let target : leads.out.way.to ≡ to = some_number leads.out.way.to to (sym out.target ∙ ap (slice_get targets) index ∙ is) in
       let entries : chain_entries (held_chain arm) ≡ leads.out.way.to ∷ [] =
-        ap (λ (nests : List Nest). chain_entries (sort after nests)) first.list ∙ sorts.entries after first.one.nest first.others plain ∙ leads.enters in
+      ap (λ (nests : List Nest). chain_entries (sort after nests)) first.list ∙ sorts.entries after first.one.nest first.others plain ∙ leads.enters in
       subst (λ (list : List ℕ). IsIn to list) (sym entries) (subst (λ (one : ℕ). IsIn one (leads.out.way.to ∷ [])) target (in_first leads.out.way.to []))
 
   nothing_held : (arm to : ℕ) → slice_get targets arm ≡ Some to → is_in to (chain_entries (held_chain arm)) ≡ false → IsFirst node arm sibling.inside ⊎ (at_arm arm sibling.inside ≡ []) → held_chain arm ≡ no_nests
@@ -277,9 +280,10 @@ module _ (flow : FlowTree) (sort : Sort) (sorts : SortsWell flow sort) (may : Bo
     arms_cover_from arm (target ∷ rest) at = (
       λ held. sorts.covers may around known after (at_arm arm sibling.inside) (arm_listed arm),
       λ none.
-          let here = arm_target arm target rest at in
-          (nothing_held arm target here none (first_or_none node arm sibling.inside at_node),
-          either_by (is_in target (inner_entries sibling.inside)) (ways target) (λ there. absurd (not_inside arm target here none there)) (λ there. there) (own target (got_in targets arm target here))),
+          let here = arm_target arm target rest at in (
+            nothing_held arm target here none (first_or_none node arm sibling.inside at_node),
+            either_by (is_in target (inner_entries sibling.inside)) (ways target) (λ there. absurd (not_inside arm target here none there)) (λ there. there) (own target (got_in targets arm target here)),
+          ),
       arms_cover_from (suc arm) rest (later_targets arm target rest at),
     )
 
@@ -296,16 +300,19 @@ module _ (flow : FlowTree) (sort : Sort) (sorts : SortsWell flow sort) (may : Bo
       by_test : (held : Bool) → is_in target (chain_entries (held_chain arm)) ≡ held →
           IsIn to (if held then target ∷ held_targets (arms_from sort after sibling.inside (suc arm) (length rest)) rest else held_targets (arms_from sort after sibling.inside (suc arm) (length rest)) rest) →
           (IsIn to (held_targets (arms_from sort after sibling.inside (suc arm) (length rest)) rest) →
-            (later : ℕ) × (slice_get rest later ≡ Some to) × (is_in to (chain_entries (held_chain (suc arm + later))) ≡ true)) →
+          (later : ℕ) × (slice_get rest later ≡ Some to) × (is_in to (chain_entries (held_chain (suc arm + later))) ≡ true)) →
           (later : ℕ) × (slice_get (target ∷ rest) later ≡ Some to) × (is_in to (chain_entries (held_chain (arm + later))) ≡ true)
       by_test true is there found = by_side (either (to == target) (is_in to (held_targets (arms_from sort after sibling.inside (suc arm) (length rest)) rest)) there)
         where
           by_side : ((to == target) ≡ true) ⊎ IsIn to (held_targets (arms_from sort after sibling.inside (suc arm) (length rest)) rest) →
               (later : ℕ) × (slice_get (target ∷ rest) later ≡ Some to) × (is_in to (chain_entries (held_chain (arm + later))) ≡ true)
           by_side (inl same) =
-              let at = same_number to target same in
-              (0, ap Some (sym at), subst (λ (one : ℕ). is_in to (chain_entries (held_chain one)) ≡ true) (let e : arm ≡ arm + 0 = omega arith in e)
-              (subst (λ (one : ℕ). is_in one (chain_entries (held_chain arm)) ≡ true) (sym at) is))
+              let at = same_number to target same in (
+                0,
+                ap Some (sym at),
+                subst (λ (one : ℕ). is_in to (chain_entries (held_chain one)) ≡ true) (let e : arm ≡ arm + 0 = omega arith in e)
+                    (subst (λ (one : ℕ). is_in one (chain_entries (held_chain arm)) ≡ true) (sym at) is),
+              )
           by_side (inr later) = later_one (found later)
       by_test false is there found = later_one (found there)
 

@@ -1,17 +1,17 @@
 -- What goes behind the nodes of a loop covers there.
-use Rattle.std.proofs.Common.{◌≡◌, ◌∙◌, ◌⊎◌, inl, inr, ℕ, ◌+◌, ◌≤◌, ◌<◌, ◌==◌, Bool, true, false, ◌&&◌, ◌||◌, not, List, [], ◌∷◌, ◌++◌, map, if◌then◌else◌, arith, refl, sym, ap, subst}
+use Rattle.std.proofs.Common.{◌≡◌, ◌∙◌, inl, inr, ℕ, ◌≤◌, ◌<◌, ◌==◌, Bool, true, false, ◌||◌, not, List, [], ◌∷◌, ◌++◌, map, if◌then◌else◌, arith, refl, sym, ap, subst}
 use Rattle.std.specs.Prelude.{⊤}
 use Rattle.std.specs.List.{filter}
 use Rattle.reloop.specs.Fits.{times}
 use Rattle.reloop.specs.Graphs.{is_in, IsIn}
 use Rattle.reloop.proofs.Sets.{or_left, or_right, in_append, in_some, same_number, not_both}
 use Rattle.flow.specs.Flows.{FlowTree, targets_of}
-use Rattle.emit.specs.Nests.{Nest, single, choice, group, repeated, dispatched, Chain, no_nests, more_nests, Chains, no_chains, more_chains, nest_nodes, nest_entries}
+use Rattle.emit.specs.Nests.{Nest, single, choice, group, repeated, dispatched, Chain, no_chains, more_chains, nest_nodes, nest_entries}
 use Rattle.emit.specs.Sorting.{Inner, all_entries, nest_of, behind_nodes}
-use Rattle.emit_laws.specs.Covers.{Nodes, nowhere, with_nodes, either_of, all_entries_in, CoversNest}
-use Rattle.emit_laws.proofs.Closing.{and_left, and_right}
+use Rattle.emit_laws.specs.Covers.{Nodes, nowhere, with_nodes, either_of, all_entries_in}
+use Rattle.emit_laws.proofs.Closing.{and_left}
 use Rattle.emit_laws.proofs.Covering.{GoTo, either_by, in_left, in_right, nest_heads, nest_grows, nest_more}
-use Rattle.emit_laws.proofs.Kept.{AllNests, AllInners, nests_weigh}
+use Rattle.emit_laws.proofs.Kept.{AllInners, nests_weigh}
 use Rattle.emit_laws.proofs.Placing.{is_at, entries_at, InnersCover, ListCovers}
 use Rattle.emit_laws.proofs.Seeing.{IsAmong}
 use Rattle.emit_laws.proofs.Ways.{IsFlat}
@@ -55,8 +55,8 @@ behind_entries (nest ∷ others) inside node there =
     either_by (is_in node (nest_entries nest)) (is_in node (all_entries others))
     (in_left node (nest_entries nest) (all_entries (map nest_of (filter (λ inner. is_in inner.node (nest_nodes nest)) inside) ++ behind_nodes others (filter (λ inner. not (is_in inner.node (nest_nodes nest))) inside))))
     (λ rest. in_right node (nest_entries nest) _
-      (entries_append (map nest_of (filter (λ inner. is_in inner.node (nest_nodes nest)) inside)) (behind_nodes others (filter (λ inner. not (is_in inner.node (nest_nodes nest))) inside)) node
-      (behind_entries others (filter (λ inner. not (is_in inner.node (nest_nodes nest))) inside) node rest)))
+    (entries_append (map nest_of (filter (λ inner. is_in inner.node (nest_nodes nest)) inside)) (behind_nodes others (filter (λ inner. not (is_in inner.node (nest_nodes nest))) inside)) node
+    (behind_entries others (filter (λ inner. not (is_in inner.node (nest_nodes nest))) inside) node rest)))
     (sym (in_append node (nest_entries nest) (all_entries others)) ∙ there)
 
 among_entries : (inside : List Inner) (one : Inner) (node : ℕ) → IsAmong one inside → IsIn node (nest_entries one.nest) → IsIn node (all_entries (map nest_of inside))
@@ -102,7 +102,7 @@ module _ (test : ℕ → Bool) where
       by_tests true so true passed there rest =
           subst (λ (here : Bool). IsIn to (if here then nest_entries inner.nest ++ entries_at node arm (passing others) else entries_at node arm (passing others))) (sym so)
           (either_by (is_in to (nest_entries inner.nest)) (is_in to (entries_at node arm others)) (in_left to (nest_entries inner.nest) (entries_at node arm (passing others)))
-            (λ later. in_right to (nest_entries inner.nest) (entries_at node arm (passing others)) (rest later)) (sym (in_append to (nest_entries inner.nest) (entries_at node arm others)) ∙ there))
+          (λ later. in_right to (nest_entries inner.nest) (entries_at node arm (passing others)) (rest later)) (sym (in_append to (nest_entries inner.nest) (entries_at node arm others)) ∙ there))
       by_tests true so false passed there rest = not_both (test inner.node) (passes so) passed
       by_tests false so true passed there rest =
           subst (λ (here : Bool). IsIn to (if here then nest_entries inner.nest ++ entries_at node arm (passing others) else entries_at node arm (passing others))) (sym so) (rest there)
@@ -118,7 +118,7 @@ module _ (test : ℕ → Bool) where
         by_test true is rest = (
           cover.0,
           nest_more flow behind inner.nest (with_nodes (entries_at inner.node inner.arm others) around) (with_nodes (entries_at inner.node inner.arm (passing others)) around) known
-            (λ node. either_by (is_in node (entries_at inner.node inner.arm others)) (around node)
+              (λ node. either_by (is_in node (entries_at inner.node inner.arm others)) (around node)
               (λ there. or_left (is_in node (entries_at inner.node inner.arm (passing others))) (around node) (entries_passing inner.node inner.arm others node is there))
               (or_right (is_in node (entries_at inner.node inner.arm (passing others))) (around node))) cover.1,
           rest,
@@ -152,7 +152,7 @@ module _ (flow : FlowTree) (may : Bool) (ahead known around : Nodes) (heads : Li
   group_covers (inner ∷ others) rest own cover covers = (
     cover.0,
     nest_grows flow all_entries_in inner.nest (with_nodes (entries_at inner.node inner.arm others) around) known (with_nodes (all_entries (map nest_of others ++ rest)) nowhere) known_within
-      ((λ to going. grows to), λ to there. absurd (no_heads inner.nest to cover.0 own.0 there)) cover.1,
+        ((λ to going. grows to), λ to there. absurd (no_heads inner.nest to cover.0 own.0 there)) cover.1,
     group_covers others rest own.1 cover.2 covers,
   )
     where
@@ -172,10 +172,10 @@ module _ (flow : FlowTree) (may : Bool) (ahead known around : Nodes) (heads : Li
       grows to =
           either_by (is_in to (entries_at inner.node inner.arm others) || around to) (known to)
           (either_by (is_in to (entries_at inner.node inner.arm others)) (around to)
-            (λ there. or_left (is_in to (all_entries (map nest_of others ++ rest)) || false) (known_within to)
-              (or_left (is_in to (all_entries (map nest_of others ++ rest))) false (entries_front (map nest_of others) rest to (at_later inner.node inner.arm to others there))))
-            (λ there. or_right (is_in to (all_entries (map nest_of others ++ rest)) || false) (known_within to)
-              (or_right (is_in to heads) (around to || known to) (or_left (around to) (known to) there))))
+          (λ there. or_left (is_in to (all_entries (map nest_of others ++ rest)) || false) (known_within to)
+          (or_left (is_in to (all_entries (map nest_of others ++ rest))) false (entries_front (map nest_of others) rest to (at_later inner.node inner.arm to others there))))
+          (λ there. or_right (is_in to (all_entries (map nest_of others ++ rest)) || false) (known_within to)
+          (or_right (is_in to heads) (around to || known to) (or_left (around to) (known to) there))))
           (λ there. or_right (is_in to (all_entries (map nest_of others ++ rest)) || false) (known_within to) (or_right (is_in to heads) (around to || known to) (or_right (around to) (known to) there)))
 
   -- what goes inside and is entered where a node goes stands behind that node
@@ -210,10 +210,10 @@ module _ (flow : FlowTree) (may : Bool) (ahead known around : Nodes) (heads : Li
   behind_covers entries (nest ∷ others) inside covers once own cover held = (
     covers.0,
     nest_grows flow all_entries_in nest (with_nodes (all_entries others) nowhere) (known_with entries) (with_nodes (all_entries (held_here ++ rest)) nowhere) known_within
-      (grows, λ to head. either_by (is_in to (all_entries others)) false (λ there. or_left (is_in to (all_entries (held_here ++ rest))) false (in_rest to there)) (λ none. absurd cc)) covers.1,
+        (grows, λ to head. either_by (is_in to (all_entries others)) false (λ there. or_left (is_in to (all_entries (held_here ++ rest))) false (in_rest to there)) (λ none. absurd cc)) covers.1,
     group_covers (passing here inside) rest (all_passing here IsOwn inside own) (inners_passing here flow all_entries_in may ahead known around inside cover)
-      (behind_covers entries others (passing (λ node. not (here node)) inside) covers.2 (once_behind nest others once) (all_passing (λ node. not (here node)) IsOwn inside own)
-      (inners_passing (λ node. not (here node)) flow all_entries_in may ahead known around inside cover) held_later),
+        (behind_covers entries others (passing (λ node. not (here node)) inside) covers.2 (once_behind nest others once) (all_passing (λ node. not (here node)) IsOwn inside own)
+        (inners_passing (λ node. not (here node)) flow all_entries_in may ahead known around inside cover) held_later),
   )
     where
       here : ℕ → Bool
@@ -246,9 +246,9 @@ module _ (flow : FlowTree) (may : Bool) (ahead known around : Nodes) (heads : Li
           either_by (is_in to (all_entries others) || false) (known_with entries to)
           (either_by (is_in to (all_entries others)) false (λ there. in_front to (in_rest to there)) (λ none. absurd cc))
           (either_by (is_in to heads) ((is_in to entries || around to) || known to) (λ there. in_known to (or_left (is_in to heads) (around to || known to) there))
-            (either_by (is_in to entries || around to) (known to)
-              (either_by (is_in to entries) (around to) (entered to going) (λ there. in_known to (or_right (is_in to heads) (around to || known to) (or_left (around to) (known to) there))))
-              (λ there. in_known to (or_right (is_in to heads) (around to || known to) (or_right (around to) (known to) there)))))
+          (either_by (is_in to entries || around to) (known to)
+          (either_by (is_in to entries) (around to) (entered to going) (λ there. in_known to (or_right (is_in to heads) (around to || known to) (or_left (around to) (known to) there))))
+          (λ there. in_known to (or_right (is_in to heads) (around to || known to) (or_right (around to) (known to) there)))))
 
       held_later : AreHeld entries (all_nodes others) (passing (λ node. not (here node)) inside)
       held_later node to there goes inside_is =

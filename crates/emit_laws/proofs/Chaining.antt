@@ -1,8 +1,8 @@
 -- A list of nests as a chain covers where each nest is left for later ones alone that say so.
-use Rattle.std.proofs.Common.{◌≡◌, ◌∙◌, ℕ, suc, ◌+◌, ◌<◌, ◌≤◌, nat_lt, Bool, true, false, ◌&&◌, ◌||◌, List, [], ◌∷◌, if◌then◌else◌, arith, refl, sym, ap}
+use Rattle.std.proofs.Common.{◌≡◌, ◌∙◌, ℕ, suc, ◌≤◌, nat_lt, Bool, true, false, ◌&&◌, ◌||◌, List, [], ◌∷◌, if◌then◌else◌, arith, refl, sym, ap}
 use Rattle.std.proofs.lemmas.Bool.{le-ltb, ltb-false, ltb-true, lt-ltb}
 use Rattle.std.specs.Prelude.{⊤}
-use Rattle.reloop.specs.Graphs.{is_in, IsIn}
+use Rattle.reloop.specs.Graphs.{is_in}
 use Rattle.reloop.proofs.Sets.{or_left, or_right}
 use Rattle.flow.specs.Flows.{FlowTree}
 use Rattle.emit.specs.Chains.{Ranked, Piece, gathered, joined, in_front, chained_from, chained}
@@ -53,7 +53,7 @@ module _ (flow : FlowTree) (ahead known : Nodes) where
   pieces_skip ranked others after limit (piece ∷ pieces) is cover = (
     cover.0,
     nest_more flow chain_entries piece.nest (with_nodes after (ahead_of limit (ranked ∷ others))) (with_nodes after (ahead_of limit others)) known
-      (λ node there. sym (ap (λ (one : Bool). is_in node after || (one || ahead node)) (not_entered ranked others limit node is)) ∙ there) cover.1,
+        (λ node there. sym (ap (λ (one : Bool). is_in node after || (one || ahead node)) (not_entered ranked others limit node is)) ∙ there) cover.1,
     pieces_skip ranked others (nest_entries piece.nest) piece.start pieces (let start = cover.0 in omega (arith, start, is)) cover.2,
   )
 
@@ -63,8 +63,8 @@ module _ (flow : FlowTree) (ahead known : Nodes) where
   this_or_later ranked others limit number node is there =
       either_by (entered_from limit (ranked ∷ others) node) (ahead node)
       (either_by (nat_lt ranked.from limit && is_in node (nest_entries ranked.nest)) (entered_from limit others node)
-        (λ one. or_left (is_in node (nest_entries ranked.nest)) (ahead_of number others node) (and_right (nat_lt ranked.from limit) (is_in node (nest_entries ranked.nest)) one))
-        (λ rest. or_right (is_in node (nest_entries ranked.nest)) (ahead_of number others node) (or_left (entered_from number others node) (ahead node) (entered_more limit number others node is rest))))
+      (λ one. or_left (is_in node (nest_entries ranked.nest)) (ahead_of number others node) (and_right (nat_lt ranked.from limit) (is_in node (nest_entries ranked.nest)) one))
+      (λ rest. or_right (is_in node (nest_entries ranked.nest)) (ahead_of number others node) (or_left (entered_from number others node) (ahead node) (entered_more limit number others node is rest))))
       (λ out. or_right (is_in node (nest_entries ranked.nest)) (ahead_of number others node) (or_right (entered_from number others node) (ahead node) out)) there
 
   gathered_cover : (ranked : Ranked) (others : List Ranked) (number : ℕ) (first : Nest) (nests : List Nest) (limit : ℕ) (pieces : List Piece) → limit ≤ number →
@@ -77,8 +77,8 @@ module _ (flow : FlowTree) (ahead known : Nodes) where
       both : CoversChain flow chain_entries (with_nodes (nest_entries ranked.nest) (ahead_of number others)) known (chain (piece.nest ∷ first ∷ nests))
       both = (
         nest_more flow chain_entries piece.nest (with_nodes (nest_entries first) (ahead_of limit (ranked ∷ others)))
-          (with_nodes (nest_entries first) (with_nodes (nest_entries ranked.nest) (ahead_of number others))) known
-          (λ node. either_by (is_in node (nest_entries first)) (ahead_of limit (ranked ∷ others) node)
+            (with_nodes (nest_entries first) (with_nodes (nest_entries ranked.nest) (ahead_of number others))) known
+            (λ node. either_by (is_in node (nest_entries first)) (ahead_of limit (ranked ∷ others) node)
             (or_left (is_in node (nest_entries first)) (with_nodes (nest_entries ranked.nest) (ahead_of number others) node))
             (λ there. or_right (is_in node (nest_entries first)) (with_nodes (nest_entries ranked.nest) (ahead_of number others) node) (this_or_later ranked others limit number node is there))) cover.1,
         covers,

@@ -1,20 +1,20 @@
 -- How many statements of a kind stand in the text of nests.
-use Rattle.std.proofs.Common.{◌≡◌, ◌∙◌, ℕ, zero, suc, ◌+◌, ◌<◌, ◌≤◌, Bool, true, false, ◌||◌, List, [], ◌∷◌, ◌++◌, map, length, Option, Some, None, if◌then◌else◌, arith, refl, sym, ap, subst}
+use Rattle.std.proofs.Common.{◌≡◌, ◌∙◌, ℕ, suc, ◌+◌, Bool, true, false, List, [], ◌∷◌, ◌++◌, map, length, Option, Some, None, if◌then◌else◌, arith, refl, sym, ap}
 use Rattle.std.specs.Prelude.{⊤}
 use Rattle.reloop.specs.Graphs.{is_in}
 use Rattle.rs_text.specs.declared.integer.IntegerTy.{IntegerTy}
 use Rattle.rs_text.specs.Tree.{Expr, Stmt, Assign, Eval, CopyBytes, If, Loop, Block, Break, Continue, Match, Return, Stmts, no_stmts, more_stmts, LiteralArm, Arms, no_arms, more_arms}
 use Rattle.rs_mean.specs.Laws.{behind}
 use Rattle.rs_mean_ends.specs.Ways.{goes, stmts_end, stmts_name}
-use Rattle.flow.specs.Flows.{CaseTree, SwitchTree, BranchTree, go, if_test, switch, gives, NodeTree, FlowTree, node_at, case_targets, targets, targets_in, targets_of}
+use Rattle.flow.specs.Flows.{CaseTree, BranchTree, go, if_test, switch, gives, NodeTree, FlowTree, node_at, case_targets, targets, targets_in, targets_of}
 use Rattle.emit.specs.Bodies.{node_stmts, arm_stmts, nest_stmts, chain_stmts, arms_stmts, draft_of, without_return, without_last_return}
-use Rattle.emit.specs.Jumps.{Jump, Jumps, no_jumps, label_of, tells, told, by_label, leaves, jump_stmts, goes_to, jumps_before, jumps_within}
+use Rattle.emit.specs.Jumps.{Jump, Jumps, no_jumps, label_of, told, leaves, jump_stmts, goes_to, jumps_before, jumps_within}
 use Rattle.emit.specs.Labels.{numbered_stmt, numbered, numbered_arms}
-use Rattle.emit.specs.Nests.{Nest, single, choice, group, repeated, dispatched, Chain, no_nests, more_nests, Chains, no_chains, more_chains, chain_entries, nest_is_told, chain_is_told}
-use Rattle.emit.specs.Texts.{one_stmt, negated, if_of, if_else, case_arms, first_text, other_text, branch_stmts, block_then, loop_of}
+use Rattle.emit.specs.Nests.{Nest, single, choice, group, repeated, dispatched, Chain, no_nests, more_nests, Chains, no_chains, more_chains, chain_entries, chain_is_told}
+use Rattle.emit.specs.Texts.{one_stmt, negated, if_of, case_arms, other_text, branch_stmts, block_then, loop_of}
 use Rattle.emit_laws.specs.Counts.{one_if, stmt_count, count_of, arms_count}
 use Rattle.emit_laws.specs.Covers.{Nodes, nowhere, with_nodes, either_of, CoversNest, CoversChain, CoverArms}
-use Rattle.emit_laws.proofs.Keeping.{NestAsked, ChainAsked, ChainsAsked, JumpsTell, nest_tells, chain_tells, tell_before, tell_within}
+use Rattle.emit_laws.proofs.Keeping.{NestAsked, ChainAsked, ChainsAsked, JumpsTell, chain_tells, tell_before, tell_within}
 use Rattle.emit_laws.proofs.Weights.{nest_weight, chain_weight, chains_weight}
 
 -- a count of which some is said
@@ -55,7 +55,7 @@ module _ (is : Stmt → Bool) where
     where
       by_ends : (first second : Bool) →
           IsMore (count (if first then (if second then one_stmt (If condition (more_stmts s ss) (more_stmts t ts)) else more_stmts (If (negated condition) (more_stmts t ts) no_stmts) (more_stmts s ss))
-            else more_stmts (If condition (more_stmts s ss) no_stmts) (more_stmts t ts))) (count (more_stmts s ss) + count (more_stmts t ts)) (λ own. NoIf condition → own ≡ 0)
+          else more_stmts (If condition (more_stmts s ss) no_stmts) (more_stmts t ts))) (count (more_stmts s ss) + count (more_stmts t ts)) (λ own. NoIf condition → own ≡ 0)
       by_ends true true =
           record { own = one_if (is (If condition (more_stmts s ss) (more_stmts t ts))); is = omega arith; exact = λ no. none_of (is (If condition (more_stmts s ss) (more_stmts t ts))) (no.0 (more_stmts s ss) (more_stmts t ts)) }
       by_ends true false =
@@ -271,7 +271,7 @@ module _ (flow : FlowTree) (is : Stmt → Bool) (round : Bool) (kind : KindOf is
         let text = chain_stmts flow body (suc label) (jumps_within label (head ∷ []) (chain_is_told body) jumps) in
         let own = loop_counts label text in
         let inner = chain_counts body asked.1 nowhere (with_nodes (head ∷ []) (either_of ahead known)) covers.1 (suc label) (jumps_within label (head ∷ []) (chain_is_told body) jumps)
-          (tell_within flow (λ around ss. ⊤) (λ node. ⊤) ⊥ ⊤ label (head ∷ []) (chain_is_told body) jumps tell (chain_tells flow (λ around ss. ⊤) (λ node. ⊤) ⊥ ⊤ body asked.1)) in
+        (tell_within flow (λ around ss. ⊤) (λ node. ⊤) ⊥ ⊤ label (head ∷ []) (chain_is_told body) jumps tell (chain_tells flow (λ around ss. ⊤) (λ node. ⊤) ⊥ ⊤ body asked.1)) in
         omega (arith, own, inner)
     nest_counts (dispatched heads body) asked ahead known covers label jumps tell = elim ((asked.0).0) [ ]
 
@@ -282,7 +282,7 @@ module _ (flow : FlowTree) (is : Stmt → Bool) (round : Bool) (kind : KindOf is
         let one = nest_counts first asked.0 (with_nodes [] ahead) known covers.0 label jumps tell in omega (arith, one)
     chain_counts (more_nests first (more_nests second others)) asked ahead known covers label jumps tell =
         let one = nest_counts first asked.0 (with_nodes (chain_entries (more_nests second others)) ahead) known covers.0 (suc label) (jumps_before label second jumps)
-          (tell_before flow (λ around ss. ⊤) (λ node. ⊤) ⊥ ⊤ label second jumps tell (asked.1).0) in
+        (tell_before flow (λ around ss. ⊤) (λ node. ⊤) ⊥ ⊤ label second jumps tell (asked.1).0) in
         let rest = chain_counts (more_nests second others) asked.1 ahead known covers.1 label jumps tell in
         let all = block_counts is label (nest_stmts flow first (suc label) (jumps_before label second jumps)) (chain_stmts flow (more_nests second others) label jumps) in
         let own = all.exact kind.blocks in let same = all.is in omega (arith, one, rest, own, same)

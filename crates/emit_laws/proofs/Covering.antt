@@ -1,11 +1,10 @@
 -- Nests cover with other nodes ahead and known, as far as they go to these.
-use Rattle.std.proofs.Common.{◌≡◌, ◌∙◌, ◌⊎◌, inl, inr, ℕ, ◌==◌, Bool, true, false, ◌||◌, List, [], ◌∷◌, ◌++◌, is_some, refl}
-use Rattle.std.specs.Prelude.{⊤}
+use Rattle.std.proofs.Common.{◌≡◌, ◌∙◌, ℕ, ◌==◌, Bool, true, false, ◌||◌, List, [], ◌∷◌, ◌++◌, refl}
 use Rattle.reloop.specs.Graphs.{is_in, IsIn}
-use Rattle.reloop.proofs.Sets.{either, or_left, or_right, decide, in_append, equal_itself}
-use Rattle.flow.specs.Flows.{FlowTree, node_at, targets_of}
-use Rattle.emit.specs.Nests.{Nest, single, choice, group, repeated, dispatched, Chain, no_nests, more_nests, Chains, no_chains, more_chains, nest_entries, chain_entries, nest_nodes, chain_nodes, chains_nodes}
-use Rattle.emit_laws.specs.Covers.{Nodes, nowhere, with_nodes, either_of, AreApart, CoversNest, CoversChain, CoverArms}
+use Rattle.reloop.proofs.Sets.{or_left, or_right, in_append, equal_itself}
+use Rattle.flow.specs.Flows.{FlowTree, targets_of}
+use Rattle.emit.specs.Nests.{Nest, single, choice, group, repeated, dispatched, Chain, no_nests, more_nests, Chains, no_chains, more_chains, nest_nodes, chain_nodes, chains_nodes}
+use Rattle.emit_laws.specs.Covers.{Nodes, nowhere, with_nodes, either_of, CoversNest, CoversChain, CoverArms}
 
 -- one set of nodes is in another, as far as they are of a kind
 abbrev pub IsWithin : (ℕ → Type 0) → Nodes → Nodes → Type 0
@@ -103,8 +102,8 @@ module _ (flow : FlowTree) where
       nest_grows (single node arms) ahead known more further grows covers = (
         covers.0,
         arms_grow arms (targets_of flow node) (either_of ahead known) (either_of more further) ahead known more further
-          (λ to there. grows.0 to (record { node = node; there = in_first node (chains_nodes arms); goes = there }))
-          ((λ to going. grows.0 to (go_right (node ∷ []) (chains_nodes arms) to going)), grows.1) covers.1,
+            (λ to there. grows.0 to (record { node = node; there = in_first node (chains_nodes arms); goes = there }))
+            ((λ to going. grows.0 to (go_right (node ∷ []) (chains_nodes arms) to going)), grows.1) covers.1,
         covers.2,
       )
       nest_grows (choice heads arms) ahead known more further grows covers =
@@ -120,8 +119,8 @@ module _ (flow : FlowTree) where
       chain_grows no_nests ahead known more further grows covers = tt
       chain_grows (more_nests first others) ahead known more further grows covers = (
         nest_grows first (with_nodes (behind others) ahead) known (with_nodes (behind others) more) further
-          (grows_with (nest_nodes first) (nest_heads first) (behind others) ahead known more further
-          (grows_left (nest_nodes first) (chain_nodes others) (nest_heads first) (chain_heads others) ahead known more further grows)) covers.0,
+            (grows_with (nest_nodes first) (nest_heads first) (behind others) ahead known more further
+            (grows_left (nest_nodes first) (chain_nodes others) (nest_heads first) (chain_heads others) ahead known more further grows)) covers.0,
         chain_grows others ahead known more further (grows_right (nest_nodes first) (chain_nodes others) (nest_heads first) (chain_heads others) ahead known more further grows) covers.1,
       )
 
@@ -133,7 +132,7 @@ module _ (flow : FlowTree) where
         λ held. chain_grows inner ahead known more further (grows_left (chain_nodes inner) (chains_nodes rest) (chain_heads inner) (chains_heads rest) ahead known more further grows) (covers.0 held),
         λ none. let without = covers.1 none in (without.0, within target (in_first target targets) without.1),
         arms_grow rest targets ways others ahead known more further (λ to there. within to (or_right (to == target) (is_in to targets) there))
-          (grows_right (chain_nodes inner) (chains_nodes rest) (chain_heads inner) (chains_heads rest) ahead known more further grows) covers.2,
+            (grows_right (chain_nodes inner) (chains_nodes rest) (chain_heads inner) (chains_heads rest) ahead known more further grows) covers.2,
       )
 
     -- with more nodes ahead

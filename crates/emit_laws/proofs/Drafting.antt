@@ -10,7 +10,7 @@ use Rattle.rs_text.specs.Tree.{Expr, Read, Stmt, Assign, Eval, CopyBytes, If, Lo
 use Rattle.rs_mean.specs.Laws.{behind}
 use Rattle.rs_mean.specs.Typing.{LabelScope}
 use Rattle.rs_mean_ends.specs.Ways.{goes, stmts_end, stmt_names, stmts_name, arms_name}
-use Rattle.flow.specs.Flows.{CaseTree, SwitchTree, BranchTree, go, if_test, switch, gives, NodeTree, FlowTree, node_at}
+use Rattle.flow.specs.Flows.{CaseTree, BranchTree, go, if_test, switch, gives, NodeTree, FlowTree, node_at}
 use Rattle.emit.specs.Bodies.{node_stmts}
 use Rattle.emit.specs.Jumps.{label_of, current_block}
 use Rattle.emit.specs.Texts.{one_stmt, negated, if_of, case_arms, first_text, other_text, head_arms, branch_stmts}
@@ -46,7 +46,7 @@ module _ (around : List LabelScope) where
     where
       by_ends : (first second : Bool) →
           Closed (if first then (if second then one_stmt (If condition (more_stmts s ss) (more_stmts t ts)) else more_stmts (If (negated condition) (more_stmts t ts) no_stmts) (more_stmts s ss))
-            else more_stmts (If condition (more_stmts s ss) no_stmts) (more_stmts t ts))
+          else more_stmts (If condition (more_stmts s ss) no_stmts) (more_stmts t ts))
       by_ends true true = one_closed (If condition (more_stmts s ss) (more_stmts t ts)) (and_both (stmts_closed around (more_stmts s ss)) (stmts_closed around (more_stmts t ts)) one other)
       by_ends true false = and_both (stmts_closed around (more_stmts t ts) && true) (stmts_closed around (more_stmts s ss)) (and_both (stmts_closed around (more_stmts t ts)) true other refl) one
       by_ends false second = and_both (stmts_closed around (more_stmts s ss) && true) (stmts_closed around (more_stmts t ts)) (and_both (stmts_closed around (more_stmts s ss)) true one refl) other

@@ -1,22 +1,21 @@
 -- Lists are sorted well where the lists inside of their nests are.
-use Rattle.std.proofs.Common.{◌≡◌, ◌∙◌, ◌⊎◌, inl, inr, ℕ, zero, suc, ◌+◌, ◌≤◌, ◌<◌, ◌==◌, nat_lt, Bool, true, false, ◌&&◌, ◌||◌, not, List, [], ◌∷◌, ◌++◌, map, length, Option, Some, None, if◌then◌else◌, arith, refl, sym, ap, subst}
+use Rattle.std.proofs.Common.{◌≡◌, ◌∙◌, ℕ, suc, ◌+◌, ◌≤◌, nat_lt, Bool, true, false, ◌&&◌, ◌||◌, not, List, [], ◌∷◌, ◌++◌, map, Some, if◌then◌else◌, arith, refl, sym, ap, subst}
 use Rattle.std.proofs.Math.Path.{fun_ext}
-use Rattle.std.specs.Prelude.{⊤}
 use Rattle.std.specs.List.{filter}
 use Rattle.reloop.specs.Fits.{times}
 use Rattle.reloop.specs.Graphs.{is_in, IsIn}
-use Rattle.reloop.proofs.Sets.{or_left, or_right, in_append, times_append}
+use Rattle.reloop.proofs.Sets.{times_append}
 use Rattle.flow.specs.Flows.{FlowTree, targets_of}
-use Rattle.emit.specs.Chains.{Ranked, chained}
-use Rattle.emit.specs.Nests.{Nest, single, choice, group, repeated, dispatched, Chain, no_nests, more_nests, Chains, no_chains, more_chains, listed, nest_nodes, chain_nodes, nest_entries, chain_entries}
-use Rattle.emit.specs.Places.{Leaving, Table, leavings_from, node_leavings, is_inner, leavings}
-use Rattle.emit.specs.Sorting.{Inner, Sibling, Sort, nothing_sorted, all_entries, put_all, nest_of, at_arm, behind_nodes, filled, entries_behind, all_filled}
+use Rattle.emit.specs.Chains.{chained}
+use Rattle.emit.specs.Nests.{Nest, single, choice, group, repeated, dispatched, Chain, no_nests, more_nests, no_chains, more_chains, listed, nest_nodes, chain_nodes, nest_entries, chain_entries}
+use Rattle.emit.specs.Places.{Leaving, Table, node_leavings, is_inner, leavings}
+use Rattle.emit.specs.Sorting.{Inner, Sibling, Sort, nothing_sorted, all_entries, put_all, nest_of, behind_nodes, filled, entries_behind, all_filled}
 use Rattle.emit_laws.specs.Covers.{Nodes, nowhere, with_nodes, either_of, all_entries_in, CoversNest, CoversChain}
-use Rattle.emit_laws.proofs.Arms.{IsPlain, ChainPlain, OwnPlain, IsLater, ListPlain, later_plain, IsListed, SortsWell, in_inners, arms_cover, arms_are_apart}
+use Rattle.emit_laws.proofs.Arms.{IsPlain, ChainPlain, OwnPlain, IsLater, ListPlain, IsListed, SortsWell, in_inners, arms_cover, arms_are_apart}
 use Rattle.emit_laws.proofs.Behind.{IsOwn, times_in, AreOnce, all_nodes, AreHeld, behind_covers}
 use Rattle.emit_laws.proofs.Chaining.{entered_from, RankedCover, chained_covers, chained_entries}
 use Rattle.emit_laws.proofs.Kept.{AllNests, AllInners, AllSiblings, nests_weigh, inners_weigh, siblings_weigh, list_keeps, all_weigh, head_nest, list_head}
-use Rattle.emit_laws.proofs.Placing.{inner_entries, seen_from, around_of, InnersCover, IsFine, AllFine, ListCovers, Comes, list_comes}
+use Rattle.emit_laws.proofs.Placing.{inner_entries, seen_from, IsFine, AllFine, ListCovers, list_comes}
 use Rattle.emit_laws.proofs.Seeing.{IsAmong}
 use Rattle.emit_laws.proofs.Ways.{IsFlat, node_way}
 
@@ -119,8 +118,8 @@ all_behind Holds [] inside one other = all_inners_listed Holds inside other
 all_behind Holds (nest ∷ others) inside one other = (
   one.0,
   all_append Holds (map nest_of (filter (λ inner. is_in inner.node (nest_nodes nest)) inside)) (behind_nodes others (filter (λ inner. not (is_in inner.node (nest_nodes nest))) inside))
-    (all_of_filter Holds (λ inner. is_in inner.node (nest_nodes nest)) inside other).0
-    (all_behind Holds others (filter (λ inner. not (is_in inner.node (nest_nodes nest))) inside) one.1 (all_of_filter Holds (λ inner. not (is_in inner.node (nest_nodes nest))) inside other).1),
+      (all_of_filter Holds (λ inner. is_in inner.node (nest_nodes nest)) inside other).0
+      (all_behind Holds others (filter (λ inner. not (is_in inner.node (nest_nodes nest))) inside) one.1 (all_of_filter Holds (λ inner. not (is_in inner.node (nest_nodes nest))) inside other).1),
 )
 
 -- a list with a plain first nest stays plain
@@ -128,8 +127,8 @@ behind_plain : (first : Nest) (others : List Nest) (inside : List Inner) → IsP
 behind_plain first others inside plain later inner = (
   plain,
   all_append IsLater (map nest_of (filter (λ one. is_in one.node (nest_nodes first)) inside)) (behind_nodes others (filter (λ one. not (is_in one.node (nest_nodes first))) inside))
-    (all_of_filter IsLater (λ one. is_in one.node (nest_nodes first)) inside inner).0
-    (all_behind IsLater others (filter (λ one. not (is_in one.node (nest_nodes first))) inside) later (all_of_filter IsLater (λ one. not (is_in one.node (nest_nodes first))) inside inner).1),
+      (all_of_filter IsLater (λ one. is_in one.node (nest_nodes first)) inside inner).0
+      (all_behind IsLater others (filter (λ one. not (is_in one.node (nest_nodes first))) inside) later (all_of_filter IsLater (λ one. not (is_in one.node (nest_nodes first))) inside inner).1),
 )
 
 only_own : (inside : List Inner) → AllInners IsLater inside → AllInners IsOwn inside
@@ -194,7 +193,7 @@ module _ (flow : FlowTree) (sort : Sort) (sorts : SortsWell flow sort) where
             let found = in_inners sibling.inside to entered in
             let way = node_way flow test (chain_nodes (more_nests first others)) node to (subst (λ (nodes : List ℕ). IsIn node nodes) (sym (nodes_listed (more_nests first others))) in_body) goes in
             let placed = fine.placed found.0 found.1 way.0 (subst (λ (ways : List Leaving). IsAmong way.0 ways) (sym ways_are) way.1)
-              (subst (λ (one : ℕ). IsIn one (nest_entries (found.0).nest)) (sym way.2) found.2) in
+            (subst (λ (one : ℕ). IsIn one (nest_entries (found.0).nest)) (sym way.2) found.2) in
             (found.0, found.1, found.2, sym placed.0 ∙ way.3)
 
     loop_filled : (heads : List ℕ) (body : Chain) (test : ℕ → Bool) → leavings flow sibling.nest ≡ node_leavings flow test (chain_nodes body) → nest_nodes sibling.nest ≡ chain_nodes body →
@@ -215,7 +214,7 @@ module _ (flow : FlowTree) (sort : Sort) (sorts : SortsWell flow sort) where
     of_nest (single node no_chains) is plain covers = (
       covers.0,
       arms_cover flow sort sorts true ahead known sees after table number sibling fine inners once_inside node (targets_of flow node) (ap (leavings flow) is) (either_of there known)
-        (λ to there_too. grouped (is_in to (inner_entries sibling.inside)) (there to) (known to) (covers.1 to there_too)),
+          (λ to there_too. grouped (is_in to (inner_entries sibling.inside)) (there to) (known to) (covers.1 to there_too)),
       arms_are_apart flow sort sorts true ahead known sees after table number sibling fine inners once_inside node (targets_of flow node) (ap (leavings flow) is),
     )
       where
@@ -245,8 +244,8 @@ module _ (flow : FlowTree) (sort : Sort) (sorts : SortsWell flow sort) where
   siblings_filled ahead known after table number [] fine plain once = tt
   siblings_filled ahead known after table number (sibling ∷ others) fine plain once = (
     subst (λ (sees : Nodes). CoversNest flow chain_entries (either_of sees ahead) known (filled flow sort (entries_behind after others) sibling.nest sibling.inside))
-      (fun_ext (λ node. sym (entered_filled after (suc number) others node plain.2)))
-      (sibling_filled ahead known (seen_from (suc number) others) (entries_behind after others) table number sibling fine.0 plain.1 (λ node. let all = once node in omega (arith, all)) plain.0),
+        (fun_ext (λ node. sym (entered_filled after (suc number) others node plain.2)))
+        (sibling_filled ahead known (seen_from (suc number) others) (entries_behind after others) table number sibling fine.0 plain.1 (λ node. let all = once node in omega (arith, all)) plain.0),
     siblings_filled ahead known after table (suc number) others fine.1 plain.2 (λ node. let all = once node in omega (arith, all)),
   )
 

@@ -1,12 +1,12 @@
 -- Statements that are well typed but for their labels.
-use Rattle.std.proofs.Common.{◌≡◌, ◌∙◌, ℕ, suc, ◌<◌, Bool, true, false, not, ◌&&◌, ◌||◌, ℤ, List, [], ◌∷◌, map, length, Option, Some, None, bytes_eq, if◌then◌else◌, arith, refl, sym, ap, subst}
+use Rattle.std.proofs.Common.{◌≡◌, ◌∙◌, ℕ, suc, ◌<◌, Bool, true, false, not, ◌&&◌, ◌||◌, ℤ, List, [], ◌∷◌, length, Option, Some, None, bytes_eq, if◌then◌else◌, arith, refl, sym, ap, subst}
 use Rattle.std.specs.Cmp.Lexicographic.{same_text}
 use Rattle.std.specs.List.{list_any}
 use Rattle.std.specs.Ordering.{int_eq}
 use Rattle.std.specs.Prelude.{⊤}
-use Rattle.rs_text.specs.Tree.{Ty, Boolean, Pointer, Integer, Expr, Stmt, Assign, Eval, CopyBytes, If, Loop, Block, Break, Continue, Match, Return, Stmts, no_stmts, more_stmts, LiteralArm, Arms, no_arms, more_arms}
+use Rattle.rs_text.specs.Tree.{Ty, Boolean, Pointer, Integer, Stmt, Assign, Eval, CopyBytes, If, Loop, Block, Break, Continue, Match, Return, Stmts, no_stmts, more_stmts, LiteralArm, Arms, no_arms, more_arms}
 use Rattle.rs_text.specs.declared.integer.IntegerTy.TheVariants.{U8}
-use Rattle.rs_mean.specs.Typing.{Scope, BodyScope, LabelScope, own_type, is_of_type, place_type, kind_of, gives_type, is_scalar_of, drops_call, usize_type, has_label, with_label, is_new_label, in_loop, is_new_loop, arm_differs, matches, is_matched, stmt_typed, stmts_typed, arms_typed}
+use Rattle.rs_mean.specs.Typing.{Scope, BodyScope, LabelScope, own_type, is_of_type, place_type, kind_of, gives_type, is_scalar_of, drops_call, usize_type, is_new_label, arm_differs, matches, is_matched, stmt_typed, stmts_typed, arms_typed}
 use Rattle.emit.specs.Jumps.{label_of}
 use Rattle.emit.specs.Labels.{numbered_label, numbered_stmt, numbered, numbered_arms}
 use Rattle.emit_laws.specs.Closed.{is_bound, is_loop_label, of_loop, of_block, stmt_closed, stmts_closed, arms_closed}
@@ -107,9 +107,9 @@ module _ (scope : Scope) (result : Option Ty) where
         let condition_is = is_of_type Boolean (kind_of scope condition) in
         let both = and_left (condition_is && stmts_typed (within labels) if_true) (stmts_typed (within labels) if_false) typed in
         and_both (condition_is && stmts_fit if_true) (stmts_fit if_false)
-          (and_both condition_is (stmts_fit if_true) (and_left condition_is (stmts_typed (within labels) if_true) both)
-            (typed_fits labels if_true (and_right condition_is (stmts_typed (within labels) if_true) both)))
-          (typed_fits labels if_false (and_right (condition_is && stmts_typed (within labels) if_true) (stmts_typed (within labels) if_false) typed))
+        (and_both condition_is (stmts_fit if_true) (and_left condition_is (stmts_typed (within labels) if_true) both)
+        (typed_fits labels if_true (and_right condition_is (stmts_typed (within labels) if_true) both)))
+        (typed_fits labels if_false (and_right (condition_is && stmts_typed (within labels) if_true) (stmts_typed (within labels) if_false) typed))
     stmt_typed_fits labels (Loop None body) typed = typed_fits labels body typed
     stmt_typed_fits labels (Loop (Some label) body) typed =
         typed_fits (of_loop label ∷ labels) body (and_right (is_new_label (within labels) label) (stmts_typed (within (of_loop label ∷ labels)) body) typed)
@@ -121,9 +121,9 @@ module _ (scope : Scope) (result : Option Ty) where
         let operand = own_type (kind_of scope e) in
         let both = and_left (is_matched operand && arms_typed (within labels) operand cases) (stmts_typed (within labels) other) typed in
         and_both (is_matched operand && arms_fit operand cases) (stmts_fit other)
-          (and_both (is_matched operand) (arms_fit operand cases) (and_left (is_matched operand) (arms_typed (within labels) operand cases) both)
-            (arms_typed_fit labels operand cases (and_right (is_matched operand) (arms_typed (within labels) operand cases) both)))
-          (typed_fits labels other (and_right (is_matched operand && arms_typed (within labels) operand cases) (stmts_typed (within labels) other) typed))
+        (and_both (is_matched operand) (arms_fit operand cases) (and_left (is_matched operand) (arms_typed (within labels) operand cases) both)
+        (arms_typed_fit labels operand cases (and_right (is_matched operand) (arms_typed (within labels) operand cases) both)))
+        (typed_fits labels other (and_right (is_matched operand && arms_typed (within labels) operand cases) (stmts_typed (within labels) other) typed))
     stmt_typed_fits labels (Return value) typed = typed
 
     pub typed_fits : (labels : List LabelScope) (ss : Stmts) → stmts_typed (within labels) ss ≡ true → stmts_fit ss ≡ true
@@ -138,8 +138,8 @@ module _ (scope : Scope) (result : Option Ty) where
         let head = matches operand value ty && arm_differs value others in
         let front = and_left (head && stmts_typed (within labels) body) (arms_typed (within labels) operand others) typed in
         and_both (head && stmts_fit body) (arms_fit operand others)
-          (and_both head (stmts_fit body) (and_left head (stmts_typed (within labels) body) front) (typed_fits labels body (and_right head (stmts_typed (within labels) body) front)))
-          (arms_typed_fit labels operand others (and_right (head && stmts_typed (within labels) body) (arms_typed (within labels) operand others) typed))
+        (and_both head (stmts_fit body) (and_left head (stmts_typed (within labels) body) front) (typed_fits labels body (and_right head (stmts_typed (within labels) body) front)))
+        (arms_typed_fit labels operand others (and_right (head && stmts_typed (within labels) body) (arms_typed (within labels) operand others) typed))
 
   -- ---- and is closed
 
@@ -152,8 +152,8 @@ module _ (scope : Scope) (result : Option Ty) where
         let condition_is = is_of_type Boolean (kind_of scope condition) in
         let both = and_left (condition_is && stmts_typed (within labels) if_true) (stmts_typed (within labels) if_false) typed in
         and_both (stmts_closed labels if_true) (stmts_closed labels if_false)
-          (typed_closed labels differ if_true (and_right condition_is (stmts_typed (within labels) if_true) both))
-          (typed_closed labels differ if_false (and_right (condition_is && stmts_typed (within labels) if_true) (stmts_typed (within labels) if_false) typed))
+        (typed_closed labels differ if_true (and_right condition_is (stmts_typed (within labels) if_true) both))
+        (typed_closed labels differ if_false (and_right (condition_is && stmts_typed (within labels) if_true) (stmts_typed (within labels) if_false) typed))
     stmt_typed_closed labels differ (Loop None body) typed = typed_closed labels differ body typed
     stmt_typed_closed labels differ (Loop (Some label) body) typed =
         typed_closed (of_loop label ∷ labels) (not_true (list_any (is_named label) labels) (and_left (is_new_label (within labels) label) (stmts_typed (within (of_loop label ∷ labels)) body) typed), differ) body
@@ -167,8 +167,8 @@ module _ (scope : Scope) (result : Option Ty) where
         let operand = own_type (kind_of scope e) in
         let both = and_left (is_matched operand && arms_typed (within labels) operand cases) (stmts_typed (within labels) other) typed in
         and_both (arms_closed labels cases) (stmts_closed labels other)
-          (arms_typed_closed labels differ operand cases (and_right (is_matched operand) (arms_typed (within labels) operand cases) both))
-          (typed_closed labels differ other (and_right (is_matched operand && arms_typed (within labels) operand cases) (stmts_typed (within labels) other) typed))
+        (arms_typed_closed labels differ operand cases (and_right (is_matched operand) (arms_typed (within labels) operand cases) both))
+        (typed_closed labels differ other (and_right (is_matched operand && arms_typed (within labels) operand cases) (stmts_typed (within labels) other) typed))
     stmt_typed_closed labels differ (Return value) typed = refl
 
     pub typed_closed : (labels : List LabelScope) → AllDiffer labels → (ss : Stmts) → stmts_typed (within labels) ss ≡ true → stmts_closed labels ss ≡ true
@@ -183,8 +183,8 @@ module _ (scope : Scope) (result : Option Ty) where
         let head = matches operand value ty && arm_differs value others in
         let front = and_left (head && stmts_typed (within labels) body) (arms_typed (within labels) operand others) typed in
         and_both (stmts_closed labels body) (arms_closed labels others)
-          (typed_closed labels differ body (and_right head (stmts_typed (within labels) body) front))
-          (arms_typed_closed labels differ operand others (and_right (head && stmts_typed (within labels) body) (arms_typed (within labels) operand others) typed))
+        (typed_closed labels differ body (and_right head (stmts_typed (within labels) body) front))
+        (arms_typed_closed labels differ operand others (and_right (head && stmts_typed (within labels) body) (arms_typed (within labels) operand others) typed))
 
 -- ---- labels by depth
 
@@ -261,10 +261,10 @@ module _ (scope : Scope) (result : Option Ty) where
         let condition_is = is_of_type Boolean (kind_of scope condition) in
         let both = and_left (condition_is && stmts_fit scope result if_true) (stmts_fit scope result if_false) fits in
         and_both (condition_is && Named around if_true) (Named around if_false)
-          (and_both condition_is (Named around if_true) (and_left condition_is (stmts_fit scope result if_true) both)
-            (named_typed around if_true (and_right condition_is (stmts_fit scope result if_true) both) (and_left (stmts_closed around if_true) (stmts_closed around if_false) closed)))
-          (named_typed around if_false (and_right (condition_is && stmts_fit scope result if_true) (stmts_fit scope result if_false) fits)
-            (and_right (stmts_closed around if_true) (stmts_closed around if_false) closed))
+        (and_both condition_is (Named around if_true) (and_left condition_is (stmts_fit scope result if_true) both)
+        (named_typed around if_true (and_right condition_is (stmts_fit scope result if_true) both) (and_left (stmts_closed around if_true) (stmts_closed around if_false) closed)))
+        (named_typed around if_false (and_right (condition_is && stmts_fit scope result if_true) (stmts_fit scope result if_false) fits)
+        (and_right (stmts_closed around if_true) (stmts_closed around if_false) closed))
     stmt_named_typed around (Loop None body) fits closed = named_typed around body fits closed
     stmt_named_typed around (Loop (Some label) body) fits closed =
         and_both (not (list_any (is_named (label_of (length (names around)))) (by_depth around))) (Named (of_loop label ∷ around) body)
@@ -278,11 +278,11 @@ module _ (scope : Scope) (result : Option Ty) where
         let operand = own_type (kind_of scope e) in
         let both = and_left (is_matched operand && arms_fit scope result operand cases) (stmts_fit scope result other) fits in
         and_both (is_matched operand && arms_typed (within scope result (by_depth around)) operand (numbered_arms (names around) cases)) (Named around other)
-          (and_both (is_matched operand) (arms_typed (within scope result (by_depth around)) operand (numbered_arms (names around) cases))
-            (and_left (is_matched operand) (arms_fit scope result operand cases) both)
-            (arms_named_typed around operand cases (and_right (is_matched operand) (arms_fit scope result operand cases) both) (and_left (arms_closed around cases) (stmts_closed around other) closed)))
-          (named_typed around other (and_right (is_matched operand && arms_fit scope result operand cases) (stmts_fit scope result other) fits)
-            (and_right (arms_closed around cases) (stmts_closed around other) closed))
+        (and_both (is_matched operand) (arms_typed (within scope result (by_depth around)) operand (numbered_arms (names around) cases))
+        (and_left (is_matched operand) (arms_fit scope result operand cases) both)
+        (arms_named_typed around operand cases (and_right (is_matched operand) (arms_fit scope result operand cases) both) (and_left (arms_closed around cases) (stmts_closed around other) closed)))
+        (named_typed around other (and_right (is_matched operand && arms_fit scope result operand cases) (stmts_fit scope result other) fits)
+        (and_right (arms_closed around cases) (stmts_closed around other) closed))
     stmt_named_typed around (Return value) fits closed = fits
 
     pub named_typed : (around : List LabelScope) (ss : Stmts) → stmts_fit scope result ss ≡ true → stmts_closed around ss ≡ true → stmts_typed (within scope result (by_depth around)) (numbered (names around) ss) ≡ true
@@ -301,6 +301,6 @@ module _ (scope : Scope) (result : Option Ty) where
         let front = and_left (head && stmts_fit scope result body) (arms_fit scope result operand others) fits in
         let own = and_left head (stmts_fit scope result body) front in
         and_both (named_head && Named around body) (arms_typed (within scope result (by_depth around)) operand (numbered_arms (names around) others))
-          (and_both named_head (Named around body) (ap (λ (rest : Bool). matches operand value ty && rest) (arm_differs_named (names around) value others) ∙ own)
-            (named_typed around body (and_right head (stmts_fit scope result body) front) (and_left (stmts_closed around body) (arms_closed around others) closed)))
-          (arms_named_typed around operand others (and_right (head && stmts_fit scope result body) (arms_fit scope result operand others) fits) (and_right (stmts_closed around body) (arms_closed around others) closed))
+        (and_both named_head (Named around body) (ap (λ (rest : Bool). matches operand value ty && rest) (arm_differs_named (names around) value others) ∙ own)
+        (named_typed around body (and_right head (stmts_fit scope result body) front) (and_left (stmts_closed around body) (arms_closed around others) closed)))
+        (arms_named_typed around operand others (and_right (head && stmts_fit scope result body) (arms_fit scope result operand others) fits) (and_right (stmts_closed around body) (arms_closed around others) closed))

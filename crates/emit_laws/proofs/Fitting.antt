@@ -1,17 +1,16 @@
 -- The nests of a shape that fits cover the flow.
-use Rattle.std.proofs.Common.{◌≡◌, ◌∙◌, ◌⊎◌, inl, inr, ℕ, zero, suc, ◌+◌, ◌≤◌, ◌<◌, ◌==◌, Bool, true, false, ◌||◌, List, [], ◌∷◌, ◌++◌, map, length, get_or, Option, Some, None, slice_get, is_some, arith, refl, sym, ap, subst}
+use Rattle.std.proofs.Common.{◌≡◌, ◌∙◌, ◌⊎◌, inl, inr, ℕ, zero, suc, ◌≤◌, ◌<◌, Bool, true, false, ◌||◌, List, [], ◌∷◌, ◌++◌, map, length, get_or, slice_get, is_some, arith, refl, sym, ap, subst}
 use Rattle.std.proofs.lemmas.List.{append_assoc, append-nil}
-use Rattle.std.specs.Prelude.{⊤}
-use Rattle.reloop.specs.Fits.{times, count_of, IsEntryAmong, Lands, LandsAmong, Enters, IsLoop, HasForm, HaveForm, HoldsNodes, IsFit}
+use Rattle.reloop.specs.Fits.{times, count_of, IsEntryAmong, Lands, LandsAmong, Enters, HasForm, HaveForm, IsFit}
 use Rattle.reloop.specs.Graphs.{FlowGraph, is_in, IsIn, IsNode, HasEdge}
 use Rattle.reloop.specs.Shapes.{ShapeTree, simple, blocks, loop, dispatch, ShapeTrees, no_shapes, more_shapes, nodes_in, nodes_among, entries_of, first_entries}
-use Rattle.reloop.proofs.Sets.{either, or_left, or_right, in_append, times_append, in_some, in_none, not_both}
+use Rattle.reloop.proofs.Sets.{or_left, or_right, times_append, in_some, in_none}
 use Rattle.flow.specs.Flows.{NodeTree, FlowTree, node_targets, node_at, targets_in, targets_of, graph_of}
-use Rattle.emit.specs.Nests.{Nest, single, choice, group, repeated, dispatched, Chain, no_nests, more_nests, Chains, no_chains, chain, flat, all_flat, nest_nodes, chain_nodes, nest_entries, chain_entries}
+use Rattle.emit.specs.Nests.{Nest, single, choice, repeated, dispatched, more_nests, no_chains, chain, flat, all_flat, nest_nodes, chain_nodes, nest_entries, chain_entries}
 use Rattle.emit.specs.Sorting.{all_entries, most_depth, sorted_within, nests_of}
 use Rattle.emit_laws.specs.Covers.{Nodes, nowhere, with_nodes, either_of, all_entries_in, CoversNest, CoversChain, Covers}
-use Rattle.emit_laws.proofs.Arms.{IsPlain, ChainPlain, OwnPlain, IsLater, later_plain, IsListed}
-use Rattle.emit_laws.proofs.Behind.{IsOwn, times_in, AreOnce, all_nodes, entries_append, entries_front}
+use Rattle.emit_laws.proofs.Arms.{ChainPlain, OwnPlain, IsLater, later_plain, IsListed}
+use Rattle.emit_laws.proofs.Behind.{times_in, AreOnce, all_nodes, entries_append, entries_front}
 use Rattle.emit_laws.proofs.Covering.{either_by, in_left, in_right, in_first, nest_more}
 use Rattle.emit_laws.proofs.Kept.{AllNests, nests_weigh}
 use Rattle.emit_laws.proofs.Leveling.{sorts_well}
@@ -165,10 +164,10 @@ module _ (flow : FlowTree) where
   append_covers ahead known (nest ∷ others) second one other = (
     one.0,
     nest_more flow all_entries_in nest (with_nodes (all_entries others) (with_nodes (all_entries second) ahead)) (with_nodes (all_entries (others ++ second)) ahead) known
-      (λ node. either_by (is_in node (all_entries others)) (is_in node (all_entries second) || ahead node)
+        (λ node. either_by (is_in node (all_entries others)) (is_in node (all_entries second) || ahead node)
         (λ there. or_left (is_in node (all_entries (others ++ second))) (ahead node) (entries_front others second node there))
         (either_by (is_in node (all_entries second)) (ahead node) (λ there. or_left (is_in node (all_entries (others ++ second))) (ahead node) (entries_append others second node there))
-          (or_right (is_in node (all_entries (others ++ second))) (ahead node)))) one.1,
+        (or_right (is_in node (all_entries (others ++ second))) (ahead node)))) one.1,
     append_covers ahead known others second one.2 other,
   )
 
@@ -273,7 +272,7 @@ module _ (flow : FlowTree) where
             by_side (inl (inr (inl lands))) = inl lands
             by_side (inl (inr (inr lands))) = absurd (never_both (nodes_in member) (nodes_among others) once from there (lands_among from to others lands))
             by_side (inr is) = inr (either_by (ahead to) (known to) (λ there. or_left (is_in to (all_entries (all_flat others)) || ahead to) (known to) (or_right (is_in to (all_entries (all_flat others))) (ahead to) there))
-              (or_right (is_in to (all_entries (all_flat others)) || ahead to) (known to)) is)
+                (or_right (is_in to (all_entries (all_flat others)) || ahead to) (known to)) is)
 
         edges_later : EdgesGo (nodes_among others) (λ from to. LandsAmong from to others) ahead known
         edges_later from to there edge = by_side (edges from to (in_right from (nodes_in member) (nodes_among others) there) edge)
@@ -315,6 +314,6 @@ module _ (flow : FlowTree) where
         let some = flat_some graph shape fits.form in
         let plain = later_plain (some.first ∷ some.others) (subst (AllNests IsLater) some.is some.later) in
         let entries : chain_entries (nests_of flow shape) ≡ entries_of shape =
-          ap (λ (nests : List Nest). chain_entries (sorted_within flow most_depth [] nests)) some.is
-          ∙ (sorts_well flow most_depth).entries [] some.first some.others plain ∙ some.enters in
+        ap (λ (nests : List Nest). chain_entries (sorted_within flow most_depth [] nests)) some.is
+        ∙ (sorts_well flow most_depth).entries [] some.first some.others plain ∙ some.enters in
         subst (λ (list : List ℕ). IsIn flow.entry list) (sym entries) fits.entered

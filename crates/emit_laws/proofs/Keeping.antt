@@ -1,5 +1,5 @@
 -- What holds of the statements of every node, by whatever stands at its targets, holds of the text of nests.
-use Rattle.std.proofs.Common.{◌≡◌, ◌≢◌, ◌∙◌, ℕ, suc, ◌<◌, ◌==◌, Bool, true, false, List, [], ◌∷◌, map, Option, Some, None, bytes_eq, if◌then◌else◌, arith, refl, sym, ap, subst}
+use Rattle.std.proofs.Common.{◌≡◌, ◌∙◌, ℕ, suc, ◌<◌, ◌==◌, Bool, true, false, List, [], ◌∷◌, map, Option, Some, None, bytes_eq, if◌then◌else◌, arith, refl, ap, subst}
 use Rattle.std.specs.Prelude.{⊤}
 use Rattle.reloop.specs.Graphs.{is_in, IsIn}
 use Rattle.reloop.proofs.Sets.{or_left, or_right, equal_itself}
@@ -40,7 +40,7 @@ loop_within around inner label differ is = ap (λ (test : Bool). if test then in
 jump_within : (around : List LabelScope) (is_loop : Bool) (label : ℕ) (jump : Jump) → jump.label < label → (turns : Bool) →
     (if turns then is_loop_label around (label_of jump.label) else is_bound around (label_of jump.label)) ≡ true →
     (if turns then is_loop_label (record { name = label_of label; is_loop = is_loop } ∷ around) (label_of jump.label)
-      else is_bound (record { name = label_of label; is_loop = is_loop } ∷ around) (label_of jump.label)) ≡ true
+    else is_bound (record { name = label_of label; is_loop = is_loop } ∷ around) (label_of jump.label)) ≡ true
 jump_within around is_loop label jump less true is = loop_within around (record { name = label_of label; is_loop = is_loop }) (label_of jump.label) (told_apart label jump.label (λ same. absurd (omega (arith, less, same)))) is
 jump_within around is_loop label jump less false is = bound_within around (record { name = label_of label; is_loop = is_loop }) (label_of jump.label) is
 
@@ -193,7 +193,7 @@ module _ (flow : FlowTree) (Good : List LabelScope → Stmts → Type 0) (IsTell
     followed first (more_nests second others) asked one rest around label jumps fit =
         kept.block around label (nest_stmts flow first (suc label) (jumps_before label second jumps)) (chain_stmts flow (more_nests second others) label jumps)
         (one (of_block (label_of label) ∷ around) (suc label) (jumps_before label second jumps)
-          (record { bound = fit_before around label jumps fit.bound second; tell = tell_before label second jumps fit.tell asked.0 }))
+        (record { bound = fit_before around label jumps fit.bound second; tell = tell_before label second jumps fit.tell asked.0 }))
         (rest around label jumps fit)
 
     arm_good : (inner : Chain) → ChainAsked inner → GoodWithin (chain_stmts flow inner) → (around : List LabelScope) (label : ℕ) (jumps : Jumps) → Fit around label jumps → (target : ℕ) → IsTellable target →
@@ -209,7 +209,7 @@ module _ (flow : FlowTree) (Good : List LabelScope → Stmts → Type 0) (IsTell
     loop_good heads body rounds asked good around label jumps fit =
         kept.loop around label (chain_stmts flow body (suc label) (jumps_within label heads (chain_is_told body) jumps)) rounds
         (good (of_loop (label_of label) ∷ around) (suc label) (jumps_within label heads (chain_is_told body) jumps)
-          (record { bound = fit_within around label jumps fit.bound heads (chain_is_told body); tell = tell_within label heads (chain_is_told body) jumps fit.tell (chain_tells body asked) }))
+        (record { bound = fit_within around label jumps fit.bound heads (chain_is_told body); tell = tell_within label heads (chain_is_told body) jumps fit.tell (chain_tells body asked) }))
 
     mutual
       nest_good : (nest : Nest) → NestAsked nest → (around : List LabelScope) (label : ℕ) (jumps : Jumps) → Fit around label jumps → Good around (nest_stmts flow nest label jumps)

@@ -1,5 +1,5 @@
 -- The label of each number is a label (the Rust Reference, "Lifetimes and loop labels" and "Keywords").
-use Rattle.std.proofs.Common.{◌≡◌, ◌∙◌, ℕ, zero, suc, ◌^◌, ◌<◌, ◌≤◌, ◌==◌, nat_lt, Bool, true, false, not, ◌&&◌, ◌||◌, List, [], ◌∷◌, ◌++◌, length, replicate, codes, bytes_eq, if◌then◌else◌, arith, tests, refl, sym, ap, subst}
+use Rattle.std.proofs.Common.{◌≡◌, ℕ, zero, suc, ◌^◌, ◌<◌, ◌==◌, nat_lt, Bool, true, false, not, ◌&&◌, ◌||◌, List, [], ◌∷◌, length, replicate, bytes_eq, if◌then◌else◌, arith, tests, refl, sym, ap, subst}
 use Rattle.std.proofs.lemmas.Bool.Decides.{nat_tests}
 use Rattle.std.proofs.lemmas.Fmt.{decimal_is_IsNumeral}
 use Rattle.std.proofs.lemmas.Str.Parse.{digit_from_value}
@@ -94,5 +94,5 @@ label_is number =
     let written = numeral_written number in
     let numbered : is_numbered (label_of number) ≡ true = written.begins in
     and_both (is_word (label_of number) && not (is_among path_words (label_of number))) (not (is_among keywords (label_of number)))
-      (and_both (is_word (label_of number)) (not (is_among path_words (label_of number))) written.all (ap not (not_among path_words (label_of number) path_words_are_not numbered)))
-      (ap not (not_among keywords (label_of number) keywords_are_not numbered))
+    (and_both (is_word (label_of number)) (not (is_among path_words (label_of number))) written.all (ap not (not_among path_words (label_of number) path_words_are_not numbered)))
+    (ap not (not_among keywords (label_of number) keywords_are_not numbered))

@@ -1,20 +1,18 @@
 -- Lists in which no nest goes into an arm are sorted well, and so are all lists.
-use Rattle.std.proofs.Common.{◌≡◌, ◌∙◌, ℕ, zero, suc, ◌≤◌, ◌==◌, nat_lt, Bool, true, false, ◌&&◌, ◌||◌, List, [], ◌∷◌, ◌++◌, map, length, Option, Some, None, arith, refl, sym, ap, subst}
+use Rattle.std.proofs.Common.{◌≡◌, ◌∙◌, ℕ, zero, suc, nat_lt, Bool, false, ◌&&◌, ◌||◌, List, [], ◌∷◌, ◌++◌, map, Some, refl, sym, ap, subst}
 use Rattle.std.proofs.Math.Path.{fun_ext}
-use Rattle.std.specs.Prelude.{⊤}
 use Rattle.reloop.specs.Graphs.{is_in, IsIn}
 use Rattle.flow.specs.Flows.{FlowTree}
-use Rattle.emit.specs.Chains.{Ranked, chained}
-use Rattle.emit.specs.Nests.{Nest, single, choice, group, repeated, dispatched, Chain, no_nests, more_nests, Chains, no_chains, more_chains, listed, nest_entries, chain_entries}
+use Rattle.emit.specs.Chains.{chained}
+use Rattle.emit.specs.Nests.{Nest, single, choice, group, repeated, dispatched, Chain, no_nests, more_nests, no_chains, more_chains, nest_entries, chain_entries}
 use Rattle.emit.specs.Places.{Table}
 use Rattle.emit.specs.Sorting.{Sibling, nothing_sorted, all_entries, put_all, unfilled, arranged, level, all_level, sorted_within}
 use Rattle.emit_laws.specs.Covers.{Nodes, nowhere, with_nodes, either_of, all_entries_in, CoversNest, CoversChain}
 use Rattle.emit_laws.proofs.Arms.{IsPlain, ChainPlain, OwnPlain, IsLater, ListPlain, SortsWell}
-use Rattle.emit_laws.proofs.Behind.{IsOwn, AreOnce}
 use Rattle.emit_laws.proofs.Chaining.{entered_from, RankedCover, chained_covers, chained_entries}
-use Rattle.emit_laws.proofs.Filling.{entries_listed, plain_flat, sorts_deeper}
+use Rattle.emit_laws.proofs.Filling.{sorts_deeper}
 use Rattle.emit_laws.proofs.Kept.{AllNests, head_nest, list_head}
-use Rattle.emit_laws.proofs.Placing.{inner_entries, seen_from, IsFine, AllFine, ListCovers, list_comes}
+use Rattle.emit_laws.proofs.Placing.{inner_entries, seen_from, AllFine, ListCovers, list_comes}
 use Rattle.emit_laws.proofs.Ways.{IsFlat}
 
 -- ---- lists in which nothing goes inside
@@ -96,7 +94,7 @@ module _ (flow : FlowTree) where
     body_covers (more_nests first others) plain ahead known covers = (
       level_flat first plain.0,
       subst (λ (entries : List ℕ). CoversNest flow chain_entries (with_nodes entries ahead) known (level flow first)) (sym (own_entries others plain.1))
-        (level_covers first plain.0 (with_nodes (all_entries_in others) ahead) known covers.0),
+          (level_covers first plain.0 (with_nodes (all_entries_in others) ahead) known covers.0),
       own_covers others plain.1 ahead known covers.1,
     )
 
@@ -105,7 +103,7 @@ module _ (flow : FlowTree) where
     own_covers (more_nests nest others) plain ahead known covers = (
       level_flat nest plain.1,
       subst (λ (entries : List ℕ). CoversNest flow chain_entries (with_nodes entries ahead) known (level flow nest)) (sym (own_entries others plain.2))
-        (level_covers nest plain.1 (with_nodes (all_entries_in others) ahead) known covers.0),
+          (level_covers nest plain.1 (with_nodes (all_entries_in others) ahead) known covers.0),
       own_covers others plain.2 ahead known covers.1,
     )
 
@@ -120,7 +118,7 @@ module _ (flow : FlowTree) where
   later_covers may ahead known (nest ∷ others) all covers = (
     level_flat nest (all.0).1,
     subst (λ (entries : List ℕ). CoversNest flow chain_entries (with_nodes entries ahead) known (level flow nest)) (sym (later_entries others all.1))
-      (level_covers nest (all.0).1 (with_nodes (all_entries others) ahead) known covers.1),
+        (level_covers nest (all.0).1 (with_nodes (all_entries others) ahead) known covers.1),
     later_covers may ahead known others all.1 covers.2,
   )
 
@@ -129,7 +127,7 @@ module _ (flow : FlowTree) where
   list_covers may ahead known (first ∷ others) plain covers = (
     level_flat first plain.0,
     subst (λ (entries : List ℕ). CoversNest flow chain_entries (with_nodes entries ahead) known (level flow first)) (sym (later_entries others plain.1))
-      (level_covers first plain.0 (with_nodes (all_entries others) ahead) known covers.1),
+        (level_covers first plain.0 (with_nodes (all_entries others) ahead) known covers.1),
     later_covers may ahead known others plain.1 covers.2,
   )
 

@@ -1,14 +1,14 @@
 -- Statements with labels by depth run as those without.
-use Rattle.std.proofs.Common.{◌≡◌, ◌∙◌, ℕ, zero, suc, ◌<◌, Bool, true, false, ◌&&◌, List, [], ◌∷◌, map, length, Option, Some, None, bytes_eq, if◌then◌else◌, arith, refl, sym, ap, subst}
+use Rattle.std.proofs.Common.{◌≡◌, ◌∙◌, ℕ, zero, suc, ◌<◌, Bool, true, false, List, [], ◌∷◌, map, length, Some, None, bytes_eq, if◌then◌else◌, arith, refl, sym, ap}
 use Rattle.cr_runs.specs.Runs.{Ran, came, halted, bad, out, bind}
 use Rattle.cr_world.specs.World.{World, Stop}
-use Rattle.rs_text.specs.Tree.{Expr, Stmt, Assign, Eval, CopyBytes, If, Loop, Block, Break, Continue, Match, Return, Stmts, no_stmts, more_stmts, LiteralArm, Arms, no_arms, more_arms}
+use Rattle.rs_text.specs.Tree.{Stmt, Assign, Eval, CopyBytes, If, Loop, Block, Break, Continue, Match, Return, Stmts, no_stmts, more_stmts, LiteralArm, Arms, no_arms, more_arms}
 use Rattle.rs_mean.specs.declared.cause.Cause.{Cause}
-use Rattle.rs_mean.specs.Run.{Frame, Flow, normal, breaks, continues, returned, run_expr, run_stmt, run_stmts, run_arms, run_dropped, then_on, after_block, after_turn, tests, is_arm}
+use Rattle.rs_mean.specs.Run.{Frame, Flow, normal, breaks, continues, returned, run_expr, run_stmt, run_stmts, run_arms, then_on, after_block, after_turn, tests, is_arm}
 use Rattle.rs_mean.specs.Typing.{LabelScope}
 use Rattle.rs_mean.specs.Values.{Typed}
 use Rattle.rs_mean.specs.World.{Run, pure, seq, takes_unit, either, Round, again, done, next_turn, turns_within, rounds}
-use Rattle.rs_mean_ends.specs.Ways.{Way, way_of, goes, is_goes, by_break, by_continue, stmt_ends, stmts_end}
+use Rattle.rs_mean_ends.specs.Ways.{Way, way_of, is_goes, by_break, by_continue, stmt_ends, stmts_end}
 use Rattle.rs_mean_ends.proofs.Ending.{ComesBy, stmt_comes, stmts_come}
 use Rattle.emit.specs.Jumps.{label_of}
 use Rattle.emit.specs.Labels.{numbered_label, numbered_stmt, numbered, numbered_arms}
@@ -238,17 +238,17 @@ module _ (frame : Frame) where
     stmt_named around (Loop None body) closed =
         rounds_named around (λ state. seq (run_stmts frame body) (after_turn None)) (λ state. seq (run_stmts frame (numbered (names around) body)) (after_turn None))
         (λ state. behind_named around (run_stmts frame body) _ (after_turn None) (stmts_named around body closed) ∙ seq_with (run_stmts frame body) _ _ (bare_way around)
-          ∙ sym (seq_seq (run_stmts frame body) (after_turn None) _)) tt
+        ∙ sym (seq_seq (run_stmts frame body) (after_turn None) _)) tt
     stmt_named around (Loop (Some label) body) closed =
         rounds_named around (λ state. seq (run_stmts frame body) (after_turn (Some label))) (λ state. seq (run_stmts frame (numbered (names (of_loop label ∷ around)) body)) (after_turn (Some (new around label))))
         (λ state. behind_named (of_loop label ∷ around) (run_stmts frame body) _ (after_turn (Some (new around label))) (stmts_named (of_loop label ∷ around) body closed)
-          ∙ seq_ways (stmts_end body) (run_stmts frame body) _ _
-            (loop_way around label (stmts_end body) (λ one is. stmts_break one (of_loop label ∷ around) body closed is) (λ one is. stmts_continue one (of_loop label ∷ around) body closed is)) (stmts_come frame body)
-          ∙ sym (seq_seq (run_stmts frame body) (after_turn (Some label)) _)) tt
+        ∙ seq_ways (stmts_end body) (run_stmts frame body) _ _
+        (loop_way around label (stmts_end body) (λ one is. stmts_break one (of_loop label ∷ around) body closed is) (λ one is. stmts_continue one (of_loop label ∷ around) body closed is)) (stmts_come frame body)
+        ∙ sym (seq_seq (run_stmts frame body) (after_turn (Some label)) _)) tt
     stmt_named around (Block label body) closed =
         behind_named (of_block label ∷ around) (run_stmts frame body) _ (after_block (new around label)) (stmts_named (of_block label ∷ around) body closed)
         ∙ seq_ways (stmts_end body) (run_stmts frame body) _ _
-          (block_way around label (stmts_end body) (λ one is. stmts_break one (of_block label ∷ around) body closed is) (λ one is. stmts_continue one (of_block label ∷ around) body closed is)) (stmts_come frame body)
+        (block_way around label (stmts_end body) (λ one is. stmts_break one (of_block label ∷ around) body closed is) (λ one is. stmts_continue one (of_block label ∷ around) body closed is)) (stmts_come frame body)
         ∙ sym (seq_seq (run_stmts frame body) (after_block label) _)
     stmt_named around (Break label) closed = sym (pure_seq (breaks label) (by_name around))
     stmt_named around (Continue label) closed = sym (pure_seq (continues label) (by_name around))

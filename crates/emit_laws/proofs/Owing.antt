@@ -1,31 +1,31 @@
 -- The statements of nests that cover a flow are owed to any source that goes along it.
-use Rattle.std.proofs.Common.{◌≡◌, ◌≢◌, ◌∙◌, ◌⊎◌, inl, inr, ℕ, zero, suc, pred, ◌+◌, ◌<◌, ◌≤◌, ◌==◌, Bool, true, false, ◌||◌, List, [], ◌∷◌, Option, Some, None, is_some, bytes_eq, if◌then◌else◌, arith, refl, sym, ap, subst}
+use Rattle.std.proofs.Common.{◌≡◌, ◌∙◌, ◌⊎◌, inl, inr, ℕ, zero, suc, pred, ◌+◌, ◌<◌, ◌≤◌, ◌==◌, Bool, true, false, ◌||◌, List, [], ◌∷◌, Option, Some, None, is_some, if◌then◌else◌, arith, refl, sym, ap, subst}
 use Rattle.cr_runs.specs.Owes.{Owes}
 use Rattle.cr_runs_rules.proofs.Rules.{tick_waits}
 use Rattle.cr_world.specs.World.{World, events_of}
 use Rattle.reloop.specs.Graphs.{is_in, IsIn}
-use Rattle.reloop.proofs.Sets.{either, or_left, or_right, decide, not_both, same_number}
-use Rattle.rs_text.specs.Tree.{Stmts, Block}
-use Rattle.rs_mean.specs.Run.{Frame, Flow, normal, breaks, continues, returned, run_stmt, run_stmts, then_on}
+use Rattle.reloop.proofs.Sets.{either, or_left, or_right, not_both, same_number}
+use Rattle.rs_text.specs.Tree.{Stmts}
+use Rattle.rs_mean.specs.Run.{Frame, Flow, normal, breaks, continues, returned, run_stmts}
 use Rattle.rs_mean.specs.Values.{Typed}
 use Rattle.rs_mean.specs.World.{Run, seq, takes_unit}
 use Rattle.rs_mean_frames.specs.Behave.{BodiesBehave}
 use Rattle.rs_mean_frames.proofs.Framed.{pieces_behave}
 use Rattle.flow.specs.Flows.{NodeTree, FlowTree, node_at, targets_in, targets_of}
-use Rattle.flow.specs.Machine.{Onto, to_node, gives_back, run_found}
-use Rattle.flow.specs.Sources.{Source, IsBehind, nothing_left, within_less, weighs_less, IsQuiet, FollowsAfter, StepsAlong}
+use Rattle.flow.specs.Machine.{to_node, gives_back, run_found}
+use Rattle.flow.specs.Sources.{Source, IsBehind, IsQuiet, FollowsAfter, StepsAlong}
 use Rattle.emit.specs.Bodies.{node_stmts, nest_stmts, chain_stmts, arms_stmts, draft_of}
 use Rattle.emit.specs.Jumps.{Jump, Jumps, no_jumps, label_of, goes_to, told, by_own_label, jumps_before, jumps_within}
 use Rattle.emit.specs.Nests.{Nest, single, choice, group, repeated, dispatched, Chain, no_nests, more_nests, Chains, no_chains, more_chains, nest_entries, chain_entries, nest_is_told, chain_is_told}
-use Rattle.emit.specs.Texts.{one_stmt, choice_stmts, loop_of}
+use Rattle.emit.specs.Texts.{one_stmt, loop_of}
 use Rattle.emit_laws.specs.Covers.{Nodes, nowhere, with_nodes, either_of, CoversNest, CoversChain, CoverArms, Covers}
-use Rattle.emit_laws.specs.Tells.{Reads, CanTell, nest_chooses, chain_chooses, chains_choose}
+use Rattle.emit_laws.specs.Tells.{CanTell, nest_chooses, chain_chooses, chains_choose}
 use Rattle.emit_laws.proofs.Blocks.{block_runs, loop_runs}
 use Rattle.emit_laws.proofs.Branches.{StaysWithin, AllAt, after, node_runs}
 use Rattle.emit_laws.proofs.Measure.{rank, gets_less}
 use Rattle.emit_laws.proofs.Names.{told_apart}
 use Rattle.emit_laws.proofs.Picks.{pick, arms_at, choice_runs}
-use Rattle.emit_laws.proofs.Serving.{flow_of, IsFrom, no_more, behind_behind, from_behind, from_from, behind_from, Owed, owed_by, owed_from, Ready, Served, Serves, Returns, IsSilent, owed_less, served_less, told_owed, goes_owed}
+use Rattle.emit_laws.proofs.Serving.{flow_of, IsFrom, no_more, from_behind, from_from, behind_from, Owed, owed_by, owed_from, Ready, Served, Serves, Returns, IsSilent, owed_less, served_less, told_owed, goes_owed}
 use Rattle.emit_laws.proofs.Turns.{silent_seq, looped, after_body, loop_is, round_normal, round_continues, round_breaks, round_returned, round_breaks_other, round_continues_other, round_silent, after_inside, block_is, inside_normal, inside_breaks, inside_returned, inside_continues, inside_breaks_other, inside_silent}
 
 -- what one or the other needs, the one needs
@@ -220,7 +220,7 @@ module _ {F S A B P : Type 0} (source : Source F S A P) (frame : Frame) (behave 
             let there_now = moved around less later (inl behind) in
             owed there_now (either_of around.ahead around.known)
             (λ one is. served_less source frame At Back Good most_units most_steps (Behind around.m around.position) (From less later) around.label around.label around.jumps around.n around.n around.next one
-              (λ least last on. from_behind source.weight least last less later around.m around.position on behind) (omega arith) (omega arith) (all_behind around one is))
+            (λ least last on. from_behind source.weight least last less later around.m around.position on behind) (omega arith) (omega arith) (all_behind around one is))
             (targets_of flow node) covers.1 can to world there at;
         backs = λ less later value world back behind.
             around.returns around.n less later value world around.few (let no = no_more source.weight less later around.m around.position behind in omega (arith, no, around.little)) back;
@@ -262,7 +262,7 @@ module _ {F S A B P : Type 0} (source : Source F S A P) (frame : Frame) (behave 
       by_target : (here : Bool) → (to == target) ≡ here →
           OwedAt around.n around.m around.position
           (seq (run_stmts frame (if here then (if is_in target (chain_entries inner) then told (chain_is_told inner) target (chain_stmts flow inner around.label around.jumps) else goes_to around.jumps target)
-            else pick flow around.label around.jumps others targets to)) around.next) world
+          else pick flow around.label around.jumps others targets to)) around.next) world
       by_target true same = inside (is_in target (chain_entries inner)) refl (subst (λ (x : ℕ). At around.position x world) (same_number to target same) at)
       by_target false same = rest around ways served targets covers.2 (of_right (chain_chooses inner) (chains_choose others) can) to world (right_true (to == target) (is_in to targets) there same) at
 
@@ -389,7 +389,7 @@ module _ {F S A B P : Type 0} (source : Source F S A P) (frame : Frame) (behave 
           jump_is : (falls : Bool) → around.jumps.next node ≡ falls → jumps_inside.jump node ≡ by_own_label around.label falls (Some outer.jump)
           jump_is falls same =
               ap (λ (here : Bool). if here then Some (record { is_told = chain_is_told body; turns = true; label = around.label })
-                else by_own_label around.label (around.jumps.next node) (around.jumps.jump node)) is
+              else by_own_label around.label (around.jumps.next node) (around.jumps.jump node)) is
               ∙ ap (λ (one : Bool). by_own_label around.label one (around.jumps.jump node)) same
               ∙ ap (λ (jump : Option Jump). by_own_label around.label falls jump) outer.is
 
@@ -450,8 +450,8 @@ module _ {F S A B P : Type 0} (source : Source F S A P) (frame : Frame) (behave 
         (tick_waits source.events events_of Good around.n around.m world (source.runs around.position) (seq (run_stmts frame (inner around)) (next_turned around) world)
         (along.waits around.position node world ready.0)
         (owed (in_turn around (λ less later head start behind is on. one_turn less later head start is on (gets_less source.weight source.limit along.weighs along.limited around.n less around.m later around.position behind) behind
-          (λ smaller. turns_owed k (moved (a_unit_less around) less later (inl behind)) (omega (arith, few, smaller)) covers head start is on)))
-          covers can node world (enters node there) ready))
+        (λ smaller. turns_owed k (moved (a_unit_less around) less later (inl behind)) (omega (arith, few, smaller)) covers head start is on)))
+        covers can node world (enters node there) ready))
       where
         one_turn : (less : ℕ) (later : P) (head : ℕ) (start : World) → IsIn head heads → IsReady later head (chain_is_told body) start →
             (pred around.n + rank source.limit less (source.weight later) < around.n + rank source.limit around.m (source.weight around.position)) ⊎ ((around.n ≡ 0) × (around.m ≡ 0)) →

@@ -1,18 +1,18 @@
 -- Where each nest of a list goes: from each of its nodes there is a way to each of its targets, in the list or in an arm.
-use Rattle.std.proofs.Common.{◌≡◌, ◌≢◌, ◌∙◌, ◌⊎◌, inl, inr, ℕ, zero, suc, ◌+◌, ◌<◌, ◌≤◌, ◌==◌, nat_lt, Bool, true, false, ◌&&◌, ◌||◌, not, List, [], ◌∷◌, ◌++◌, length, map, Option, Some, None, slice_get, if◌then◌else◌, arith, refl, sym, ap, subst}
-use Rattle.std.specs.Prelude.{⊤, flat_map}
-use Rattle.std.proofs.lemmas.Bool.{le-ltb, ltb-false, ltb-true, lt-ltb}
+use Rattle.std.proofs.Common.{◌≡◌, ◌≢◌, ◌∙◌, ◌⊎◌, inl, inr, ℕ, zero, suc, ◌+◌, ◌<◌, ◌≤◌, ◌==◌, nat_lt, Bool, true, false, ◌&&◌, ◌||◌, not, List, [], ◌∷◌, ◌++◌, length, Option, Some, None, slice_get, if◌then◌else◌, arith, refl, sym, ap, subst}
+use Rattle.std.specs.Prelude.{⊤}
+use Rattle.std.proofs.lemmas.Bool.{lt-ltb}
 use Rattle.reloop.specs.Graphs.{is_in, IsIn}
 use Rattle.reloop.proofs.Sets.{either, or_left, or_right, in_append, same_number, equal_itself}
-use Rattle.flow.specs.Flows.{FlowTree, targets_of}
+use Rattle.flow.specs.Flows.{FlowTree}
 use Rattle.emit.specs.Nests.{Nest, Chain, nest_entries}
-use Rattle.emit.specs.Places.{Leaving, leavings, Seen, least, first_of, Table, see_all}
-use Rattle.emit.specs.Sorting.{Inner, Sibling, Sorted, nothing_sorted, count_to, only_entry, seen_at, stays, sibling_holds, goes_inside, out_of_arm, with_inner, ahead_with, put_inside, first_from, put_behind, put_seen, put, all_entries, put_all}
+use Rattle.emit.specs.Places.{Leaving, leavings, Seen, first_of, Table, see_all}
+use Rattle.emit.specs.Sorting.{Inner, Sibling, Sorted, nothing_sorted, only_entry, seen_at, stays, sibling_holds, goes_inside, out_of_arm, with_inner, put_inside, first_from, put_behind, put_seen, put, all_entries, put_all}
 use Rattle.emit_laws.specs.Covers.{Nodes, nowhere, with_nodes, either_of, CoversNest}
 use Rattle.emit_laws.proofs.Closing.{and_left, and_right, and_both}
-use Rattle.emit_laws.proofs.Covering.{either_by, in_left, in_right, in_first, nest_more}
+use Rattle.emit_laws.proofs.Covering.{either_by, in_left, in_right, nest_more}
 use Rattle.emit_laws.proofs.Seeing.{IsAmong, least_left, least_right, IsSeen, AreTold, AreBefore, all_keep, all_seen, all_told, all_before}
-use Rattle.emit_laws.proofs.Ways.{IsFlat, among_append, among_left, among_right, alone, flat_grows}
+use Rattle.emit_laws.proofs.Ways.{IsFlat, among_append, alone, flat_grows}
 
 -- ---- what goes inside
 
@@ -96,9 +96,9 @@ module _ (flow : FlowTree) where
       around_grows inside to shows is =
           either_by (is_in to inside) (around_of (entries ++ rest) sees to) (or_left (is_in to inside) (around_of rest more to))
           (λ out. or_right (is_in to inside) (around_of rest more to) (either_by (is_in to (entries ++ rest)) (sees to || ahead to)
-            (λ there. either_by (is_in to entries) (is_in to rest) (λ here. or_right (is_in to rest) (more to || ahead to) (or_left (more to) (ahead to) (shows here)))
-              (or_left (is_in to rest) (more to || ahead to)) (sym (in_append to entries rest) ∙ there))
-            (λ beyond. or_right (is_in to rest) (more to || ahead to) (either_by (sees to) (ahead to) (λ seen. or_left (more to) (ahead to) (within to seen)) (or_right (more to) (ahead to)) beyond)) out)) is
+          (λ there. either_by (is_in to entries) (is_in to rest) (λ here. or_right (is_in to rest) (more to || ahead to) (or_left (more to) (ahead to) (shows here)))
+          (or_left (is_in to rest) (more to || ahead to)) (sym (in_append to entries rest) ∙ there))
+          (λ beyond. or_right (is_in to rest) (more to || ahead to) (either_by (sees to) (ahead to) (λ seen. or_left (more to) (ahead to) (within to seen)) (or_right (more to) (ahead to)) beyond)) out)) is
 
       inners_grow : (inside : List Inner) → ((one : Inner) → IsAmong one inside → (way : Leaving) → IsAmong way (leavings flow one.nest) → IsSeen table number one.node one.arm way.to) →
           InnersCover (around_of (entries ++ rest) sees) inside → InnersCover (around_of rest more) inside
@@ -106,7 +106,7 @@ module _ (flow : FlowTree) where
       inners_grow (inner ∷ others) seen cover = (
         cover.0,
         flat_grows flow behind inner.nest (with_nodes (entries_at inner.node inner.arm others) (around_of (entries ++ rest) sees)) (with_nodes (entries_at inner.node inner.arm others) (around_of rest more)) known
-          cover.0 (λ way there. around_grows (entries_at inner.node inner.arm others) way.to (shown inner.node inner.arm way.to (seen inner (inl refl) way there))) cover.1,
+            cover.0 (λ way there. around_grows (entries_at inner.node inner.arm others) way.to (shown inner.node inner.arm way.to (seen inner (inl refl) way there))) cover.1,
         inners_grow others (λ one there. seen one (inr there)) cover.2,
       )
 
@@ -197,10 +197,10 @@ module _ (flow : FlowTree) where
           (subst (λ (k : ℕ). IsFine rest new_table nowhere k new_sibling) (let same : length_is ≡ number = omega (arith, is) in same) (new_fine flat covers before), tt)
       behind_fine number (sibling ∷ others) is flat covers before fine = (
         still_fine (nest_entries nest) rest table new_table (seen_from (suc number) others) (seen_from (suc number) (others ++ new_sibling ∷ [])) number
-          (λ node there. seen_still (suc number) others new_sibling node there)
-          (λ node arm to seen there. seen_new (suc number) others new_sibling to (let from = from_seen table length_is (nest_entries nest) number node arm to seen there in omega (arith, from)) there)
-          sibling (λ node arm to seen. all_keep length_is true (leavings flow nest) table number node arm to seen)
-          (λ told. all_told length_is true (leavings flow nest) table number (IsTold sibling.nest sibling.inside) told (λ way there same. absurd (omega (arith, same, is)))) fine.0,
+            (λ node there. seen_still (suc number) others new_sibling node there)
+            (λ node arm to seen there. seen_new (suc number) others new_sibling to (let from = from_seen table length_is (nest_entries nest) number node arm to seen there in omega (arith, from)) there)
+            sibling (λ node arm to seen. all_keep length_is true (leavings flow nest) table number node arm to seen)
+            (λ told. all_told length_is true (leavings flow nest) table number (IsTold sibling.nest sibling.inside) told (λ way there same. absurd (omega (arith, same, is)))) fine.0,
         behind_fine (suc number) others (omega (arith, is)) flat covers before fine.1,
       )
 
@@ -330,23 +330,26 @@ module _ (flow : FlowTree) where
         around_held inside more to old new is =
             either_by (is_in to inside) (around_of (nest_entries nest ++ rest) sees to) (λ there. or_left (is_in to more) (around_of rest sees to) (old there))
             (either_by (is_in to (nest_entries nest ++ rest)) (sees to || ahead to)
-              (λ there. either_by (is_in to (nest_entries nest)) (is_in to rest) (λ here. or_left (is_in to more) (around_of rest sees to) (new here))
-                (λ later. or_right (is_in to more) (around_of rest sees to) (or_left (is_in to rest) (sees to || ahead to) later)) (sym (in_append to (nest_entries nest) rest) ∙ there))
-              (λ out. or_right (is_in to more) (around_of rest sees to) (or_right (is_in to rest) (sees to || ahead to) out))) is
+            (λ there. either_by (is_in to (nest_entries nest)) (is_in to rest) (λ here. or_left (is_in to more) (around_of rest sees to) (new here))
+            (λ later. or_right (is_in to more) (around_of rest sees to) (or_left (is_in to rest) (sees to || ahead to) later)) (sym (in_append to (nest_entries nest) rest) ∙ there))
+            (λ out. or_right (is_in to more) (around_of rest sees to) (or_right (is_in to rest) (sees to || ahead to) out))) is
 
         inners_held : (inside : List Inner) → ((inner : Inner) → IsAmong inner inside → (way : Leaving) → IsAmong way (leavings flow inner.nest) → IsSeen table number inner.node inner.arm way.to) →
             InnersCover (around_of (nest_entries nest ++ rest) sees) inside → InnersCover (around_of rest sees) (inside ++ new_inner ∷ [])
-        inners_held [] found cover =
-            (flat, nest_more flow behind nest (with_nodes rest ahead) (with_nodes [] (around_of rest sees)) known
+        inners_held [] found cover = (
+          flat,
+          nest_more flow behind nest (with_nodes rest ahead) (with_nodes [] (around_of rest sees)) known
               (λ node. either_by (is_in node rest) (ahead node) (or_left (is_in node rest) (sees node || ahead node)) (λ out. or_right (is_in node rest) (sees node || ahead node) (or_right (sees node) (ahead node) out)))
-              covers, tt)
+              covers,
+          tt,
+        )
         inners_held (inner ∷ others) found cover = (
           cover.0,
           flat_grows flow behind inner.nest (with_nodes (entries_at inner.node inner.arm others) (around_of (nest_entries nest ++ rest) sees))
-            (with_nodes (entries_at inner.node inner.arm (others ++ new_inner ∷ [])) (around_of rest sees)) known cover.0
-            (λ way there. around_held (entries_at inner.node inner.arm others) (entries_at inner.node inner.arm (others ++ new_inner ∷ [])) way.to (entries_left inner.node inner.arm others new_inner way.to)
+              (with_nodes (entries_at inner.node inner.arm (others ++ new_inner ∷ [])) (around_of rest sees)) known cover.0
+              (λ way there. around_held (entries_at inner.node inner.arm others) (entries_at inner.node inner.arm (others ++ new_inner ∷ [])) way.to (entries_left inner.node inner.arm others new_inner way.to)
               (λ here. let arm = at_arm_of number inner.node inner.arm way.to (found inner (inl refl) way there) here in
-                entries_last inner.node inner.arm others new_inner way.to (is_at_itself inner.node inner.arm new_inner arm.1 arm.2) here)) cover.1,
+              entries_last inner.node inner.arm others new_inner way.to (is_at_itself inner.node inner.arm new_inner arm.1 arm.2) here)) cover.1,
           inners_held others (λ other there. found other (inr there)) cover.2,
         )
 
@@ -356,9 +359,11 @@ module _ (flow : FlowTree) where
         -- in its arm there is one then
         some_at : (found : Option Inner) → first_at seen.node seen.arm sibling.inside ≡ found → (inner : Inner) × (first_at seen.node seen.arm inside_now ≡ Some inner)
         some_at (Some inner) found = (inner, first_left seen.node seen.arm sibling.inside new_inner inner found)
-        some_at None found =
-            (new_inner, first_last seen.node seen.arm sibling.inside new_inner found
-              ∙ ap (λ (here : Bool). if here then Some new_inner else None) (is_at_itself seen.node seen.arm new_inner refl refl))
+        some_at None found = (
+          new_inner,
+          first_last seen.node seen.arm sibling.inside new_inner found
+              ∙ ap (λ (here : Bool). if here then Some new_inner else None) (is_at_itself seen.node seen.arm new_inner refl refl),
+        )
 
         -- the nest is the first in its arm only where that leads to it
         first_new : (node arm : ℕ) (inner : Inner) → first_at node arm sibling.inside ≡ None → (here : Bool) → is_at node arm new_inner ≡ here → (if here then Some new_inner else None) ≡ Some inner →
@@ -378,7 +383,7 @@ module _ (flow : FlowTree) where
             by_told (inl leads) = record { out = leads.out; enters = enters ∙ leads.enters }
             by_told (inr held) =
                 let none_there : first_at seen.node seen.arm sibling.inside ≡ None =
-                  ap (λ (n : ℕ). first_at n seen.arm sibling.inside) node_is ∙ ap (λ (a : ℕ). first_at node a sibling.inside) arm_is ∙ none in
+                ap (λ (n : ℕ). first_at n seen.arm sibling.inside) node_is ∙ ap (λ (a : ℕ). first_at node a sibling.inside) arm_is ∙ none in
                 absurd (some_and_none held.0 (sym held.1 ∙ none_there))
               where
                 some_and_none : (held : Inner) → Some held ≡ None → ⊥
@@ -419,7 +424,7 @@ module _ (flow : FlowTree) where
           inner_seen = by_inner (λ inner. (way : Leaving) → IsAmong way (leavings flow inner.nest) → IsSeen later_table number inner.node inner.arm way.to)
               (λ inner there way among. keeps_seen number inner.node inner.arm way.to (fine.inner_seen inner there way among))
               (λ way among. subst (λ (k : ℕ). IsSeen later_table k seen.node seen.arm way.to) at
-                (all_seen seen.sibling false (out_of_arm seen (leavings flow nest)) table _ (among_out seen (leavings flow nest) way among)));
+              (all_seen seen.sibling false (out_of_arm seen (leavings flow nest)) table _ (among_out seen (leavings flow nest) way among)));
           placed = by_inner (λ inner. (way : Leaving) → IsAmong way (leavings flow sibling.nest) → IsIn way.to (nest_entries inner.nest) → (way.node ≡ inner.node) × (way.arm ≡ inner.arm))
               (λ inner there. fine.placed inner there)
               (λ way among there. let arm = at_arm_of number way.node way.arm way.to (fine.seen way among) there in (sym arm.1, sym arm.2));
@@ -428,9 +433,9 @@ module _ (flow : FlowTree) where
           told = all_told seen.sibling false (out_of_arm seen (leavings flow nest)) table number (IsTold sibling.nest inside_now)
               (λ to other is at one. told_more other.node other.arm to (fine.told to other is at one))
               (λ way among same.
-                let out = out_is seen (leavings flow nest) way among in
-                subst (λ (n : ℕ). IsTold sibling.nest inside_now n way.arm way.to) (sym out.0)
-                (subst (λ (a : ℕ). IsTold sibling.nest inside_now seen.node a way.to) (sym out.1) (inr (some_at (first_at seen.node seen.arm sibling.inside) refl))));
+              let out = out_is seen (leavings flow nest) way among in
+              subst (λ (n : ℕ). IsTold sibling.nest inside_now n way.arm way.to) (sym out.0)
+              (subst (λ (a : ℕ). IsTold sibling.nest inside_now seen.node a way.to) (sym out.1) (inr (some_at (first_at seen.node seen.arm sibling.inside) refl))));
           bare = λ none. absurd (both_ways may_go_inside may none);
         }
           where
@@ -447,7 +452,7 @@ module _ (flow : FlowTree) where
       )
       inside_fine number (suc left) (sibling ∷ others) at less fine = (
         other_fine number sibling (seen_from (suc number) others) (seen_from (suc number) (with_inner left new_inner others)) (λ same. absurd (omega (arith, at, same)))
-          (λ node there. seen_with_inner (suc number) left new_inner others node there) fine.0,
+            (λ node there. seen_with_inner (suc number) left new_inner others node there) fine.0,
         inside_fine (suc number) left others (omega (arith, at)) (omega (arith, less)) fine.1,
       )
 

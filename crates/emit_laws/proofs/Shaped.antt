@@ -1,13 +1,13 @@
 -- What is in the nests of a shape: choices of heads only where it has a dispatch, and loops only where it goes round.
-use Rattle.std.proofs.Common.{◌≡◌, ◌∙◌, ◌⊎◌, inl, inr, ℕ, zero, suc, ◌+◌, ◌<◌, ◌==◌, nat_lt, Bool, true, false, ◌&&◌, ◌||◌, List, [], ◌∷◌, ◌++◌, map, length, arith, refl, sym, ap, subst}
+use Rattle.std.proofs.Common.{◌≡◌, ◌∙◌, ◌⊎◌, inl, inr, ℕ, suc, ◌+◌, ◌<◌, ◌==◌, nat_lt, Bool, true, false, ◌&&◌, List, [], ◌∷◌, ◌++◌, map, length, arith, refl, sym, ap, subst}
 use Rattle.std.proofs.lemmas.Bool.{ltb-false, ltb-true}
 use Rattle.std.specs.Prelude.{⊤}
 use Rattle.reloop.specs.Fits.{IsEntryAmong, Lands, LandsAmong, Enters, HasForm, HaveForm, IsFit}
-use Rattle.reloop.specs.Graphs.{FlowGraph, is_in, IsIn, IsNode}
+use Rattle.reloop.specs.Graphs.{FlowGraph, is_in, IsIn}
 use Rattle.reloop.specs.Shapes.{ShapeTree, simple, blocks, loop, dispatch, ShapeTrees, no_shapes, more_shapes, nodes_in, nodes_among, entries_of, has_dispatch, have_dispatch, goes_round, go_round}
 use Rattle.reloop.proofs.Sets.{either, or_left, or_right, same_number}
 use Rattle.flow.specs.Flows.{NodeTree, FlowTree, node_targets, targets_of, graph_of}
-use Rattle.emit.specs.Nests.{Nest, single, choice, group, repeated, dispatched, Chain, no_nests, more_nests, Chains, no_chains, more_chains, chain, flat, all_flat}
+use Rattle.emit.specs.Nests.{Nest, single, choice, group, repeated, dispatched, Chain, no_nests, more_nests, Chains, no_chains, more_chains, flat, all_flat}
 use Rattle.emit.specs.Sorting.{most_depth, nests_of}
 use Rattle.emit_laws.proofs.Closing.{and_left, and_right, and_both}
 use Rattle.emit_laws.proofs.Covering.{in_left, in_right, in_first}
@@ -230,9 +230,9 @@ module _ (flow : FlowTree) (shape : ShapeTree) (fits : IsFit (graph_of flow) sha
     asked_among no_shapes form less has rounds = tt
     asked_among (more_shapes member others) form less has rounds = (
       asked_in member form.0 (λ node there. less node (in_left node (nodes_in member) (nodes_among others) there)) (λ is. has (or_left (has_dispatch member) (have_dispatch others) is))
-        (λ is. rounds (or_left (goes_round member) (go_round others) is)),
+          (λ is. rounds (or_left (goes_round member) (go_round others) is)),
       asked_among others form.1 (λ node there. less node (in_right node (nodes_in member) (nodes_among others) there)) (λ is. has (or_right (has_dispatch member) (have_dispatch others) is))
-        (λ is. rounds (or_right (goes_round member) (go_round others) is)),
+          (λ is. rounds (or_right (goes_round member) (go_round others) is)),
     )
 
   -- a choice stands in the nests only where the shape has a dispatch, and its heads are nodes; and a loop only where the shape goes round

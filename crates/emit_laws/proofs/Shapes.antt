@@ -1,5 +1,5 @@
 -- What stands in the text of a flow and its shape, by what the shape has.
-use Rattle.std.proofs.Common.{◌≡◌, ◌∙◌, ◌⊎◌, inl, inr, ℕ, zero, suc, ◌+◌, ◌<◌, ◌≤◌, ◌==◌, nat_lt, Bool, true, false, ◌||◌, List, [], ◌∷◌, ◌++◌, map, length, Option, Some, None, slice_get, if◌then◌else◌, arith, refl, sym, ap, subst}
+use Rattle.std.proofs.Common.{◌≡◌, ◌∙◌, ℕ, zero, suc, ◌+◌, ◌<◌, ◌≤◌, ◌==◌, nat_lt, Bool, true, false, ◌||◌, List, [], ◌∷◌, ◌++◌, map, length, Option, Some, None, slice_get, if◌then◌else◌, arith, refl, sym, ap, subst}
 use Rattle.std.proofs.lemmas.Bool.{ltb-false, ltb-true}
 use Rattle.std.specs.Prelude.{⊤}
 use Rattle.reloop.specs.Fits.{times, IsFit}
@@ -8,16 +8,16 @@ use Rattle.reloop.specs.Shapes.{ShapeTree, simple, blocks, loop, dispatch, Shape
 use Rattle.reloop.proofs.Sets.{or_left, or_right, same_number, equal_itself, not_both}
 use Rattle.rs_text.specs.declared.operator.Operator.{Operator}
 use Rattle.rs_text.specs.declared.operator.Operator.TheVariants.{Add, Sub, Mul, Div, Rem, BitAnd, BitOr, BitXor, Shl, Shr, Equal, NotEqual, Less, LessEqual, Greater, GreaterEqual}
-use Rattle.rs_text.specs.Tree.{Expr, Literal, Truth, NoFunction, Read, Call, CallBy, Wrapped, WrappingNeg, Offset, OffsetFrom, IsNull, IsNone, AddressOf, NullPointer, SomeFunction, Transmute, Neg, Not, Cast, Binary, And, Or, Choose, Stmt, Assign, Eval, CopyBytes, If, Loop, Block, Break, Continue, Match, Return, Stmts, no_stmts, more_stmts, LiteralArm, Arms, no_arms, more_arms}
-use Rattle.flow.specs.Flows.{SwitchTree, BranchTree, go, if_test, switch, gives, NodeTree, FlowTree, node_targets, node_at, graph_of}
+use Rattle.rs_text.specs.Tree.{Expr, Literal, Truth, NoFunction, Read, Call, CallBy, Wrapped, WrappingNeg, Offset, OffsetFrom, IsNull, IsNone, AddressOf, NullPointer, SomeFunction, Transmute, Neg, Not, Cast, Binary, And, Or, Choose, Stmt, Assign, Eval, CopyBytes, If, Loop, Block, Break, Continue, Match, Return}
+use Rattle.flow.specs.Flows.{BranchTree, go, if_test, switch, gives, NodeTree, FlowTree, node_targets, node_at, graph_of}
 use Rattle.emit.specs.Bodies.{draft_of, emitted}
 use Rattle.emit.specs.Labels.{numbered_stmt, numbered}
 use Rattle.emit.specs.Sorting.{nests_of}
 use Rattle.emit.specs.Texts.{opposite, compared_by, negated}
 use Rattle.emit_laws.specs.Counts.{one_if, count_of, is_loop, is_match, expr_uses, stmt_uses}
 use Rattle.emit_laws.specs.LawsShape.{BodiesWithout, rounds_of, rounds_among, branch_switches, switches, block_name, branch_uses, IsUnused, TextShaped}
-use Rattle.emit_laws.proofs.Counting.{NoIf, BranchIs, FoundIs, found_count, KindOf, count_numbered, count_last, draft_counts, of_number, of_round}
-use Rattle.emit_laws.proofs.Every.{EveryChain, chain_with}
+use Rattle.emit_laws.proofs.Counting.{BranchIs, FoundIs, found_count, KindOf, count_numbered, count_last, draft_counts, of_number}
+use Rattle.emit_laws.proofs.Every.{chain_with}
 use Rattle.emit_laws.proofs.Fitting.{nests_cover}
 use Rattle.emit_laws.proofs.Keeping.{ChainAsked}
 use Rattle.emit_laws.proofs.Shaped.{shape_weight, shapes_weight, nests_weight, OfChoiceIn, node_less, nests_asked}

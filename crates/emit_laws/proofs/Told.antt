@@ -1,13 +1,13 @@
 -- Where a choice of a head stands in nests, the text names `current_block`.
-use Rattle.std.proofs.Common.{◌≡◌, ◌∙◌, ◌⊎◌, inl, inr, ℕ, zero, suc, ◌+◌, ◌<◌, ◌≤◌, Bool, true, false, List, [], ◌∷◌, Option, Some, None, if◌then◌else◌, arith, refl, sym, ap, subst}
+use Rattle.std.proofs.Common.{◌≡◌, ◌⊎◌, inl, inr, ℕ, zero, suc, ◌+◌, ◌<◌, Bool, true, false, List, [], ◌∷◌, if◌then◌else◌, arith, refl, ap}
 use Rattle.reloop.specs.Graphs.{is_in}
-use Rattle.rs_text.specs.Tree.{Stmt, Match, Read, Stmts, no_stmts}
+use Rattle.rs_text.specs.Tree.{Stmt, Stmts}
 use Rattle.flow.specs.Flows.{FlowTree, node_at, targets_of}
 use Rattle.emit.specs.Bodies.{arm_stmts, nest_stmts, chain_stmts, arms_stmts, draft_of}
-use Rattle.emit.specs.Jumps.{Jumps, no_jumps, told, goes_to, jumps_before, jumps_within, current_block}
+use Rattle.emit.specs.Jumps.{Jumps, no_jumps, told, goes_to, jumps_before, jumps_within}
 use Rattle.emit.specs.Nests.{Nest, single, choice, group, repeated, dispatched, Chain, no_nests, more_nests, Chains, no_chains, more_chains, chain_entries, chain_is_told}
-use Rattle.emit.specs.Texts.{one_stmt, head_arms, choice_stmts, loop_of}
-use Rattle.emit_laws.specs.Counts.{one_if, count_of, arms_count, stmt_uses}
+use Rattle.emit.specs.Texts.{one_stmt, choice_stmts, loop_of}
+use Rattle.emit_laws.specs.Counts.{one_if, count_of, stmt_uses}
 use Rattle.emit_laws.specs.Covers.{Nodes, nowhere, with_nodes, either_of, CoversNest, CoversChain, CoverArms}
 use Rattle.emit_laws.specs.LawsShape.{block_name}
 use Rattle.emit_laws.proofs.Counting.{texts_count, node_counts, block_counts, arms_long}
@@ -79,8 +79,8 @@ module _ (flow : FlowTree) where
     chain_uses (more_nests first (more_nests second others)) ahead known covers label jumps some =
         let all = (block_counts uses label (nest_stmts flow first (suc label) (jumps_before label second jumps)) (chain_stmts flow (more_nests second others) label jumps)).is in
         either_some (weight_of first) (choices_in (more_nests second others)) (count_of uses (chain_stmts flow (more_nests first (more_nests second others)) label jumps)) some
-          (λ one. let has = nest_uses first (with_nodes (chain_entries (more_nests second others)) ahead) known covers.0 (suc label) (jumps_before label second jumps) one in omega (arith, all, has))
-          (λ rest. let has = chain_uses (more_nests second others) ahead known covers.1 label jumps rest in omega (arith, all, has))
+        (λ one. let has = nest_uses first (with_nodes (chain_entries (more_nests second others)) ahead) known covers.0 (suc label) (jumps_before label second jumps) one in omega (arith, all, has))
+        (λ rest. let has = chain_uses (more_nests second others) ahead known covers.1 label jumps rest in omega (arith, all, has))
 
     arms_use : (arms : Chains) (ways ahead known : Nodes) (targets : List ℕ) → CoverArms flow chain_entries ways ahead known arms targets → (label : ℕ) (jumps : Jumps) → 0 < weight_of_arms arms →
         0 < texts_count uses (arms_stmts flow arms label jumps targets)
@@ -88,8 +88,8 @@ module _ (flow : FlowTree) where
     arms_use (more_chains inner others) ways ahead known [] cover label jumps some = elim cover [ ]
     arms_use (more_chains inner others) ways ahead known (target ∷ targets) cover label jumps some =
         either_some (choices_in inner) (weight_of_arms others) (texts_count uses (arms_stmts flow (more_chains inner others) label jumps (target ∷ targets))) some
-          (λ one. let has = arm_uses inner target label jumps (λ held. chain_uses inner ahead known (cover.0 held) label jumps) (λ none. (cover.1 none).0) one in omega (arith, has))
-          (λ rest. let has = arms_use others ways ahead known targets cover.2 label jumps rest in omega (arith, has))
+        (λ one. let has = arm_uses inner target label jumps (λ held. chain_uses inner ahead known (cover.0 held) label jumps) (λ none. (cover.1 none).0) one in omega (arith, has))
+        (λ rest. let has = arms_use others ways ahead known targets cover.2 label jumps rest in omega (arith, has))
 
   pub draft_uses : (nests : Chain) → CoversChain flow chain_entries nowhere nowhere nests → 0 < choices_in nests → 0 < count_of uses (draft_of flow nests)
   draft_uses nests covers some = told_more (chain_is_told nests) flow.entry (chain_stmts flow nests 0 no_jumps) (chain_uses nests nowhere nowhere covers 0 no_jumps some)

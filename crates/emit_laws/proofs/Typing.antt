@@ -1,5 +1,5 @@
 -- The text of nests is well typed where nodes and branches are.
-use Rattle.std.proofs.Common.{◌≡◌, ◌∙◌, ◌⊎◌, inl, inr, ℕ, suc, ◌^◌, ◌<◌, ◌≤◌, ◌==◌, Bool, true, false, not, ◌&&◌, ◌||◌, ℤ, pos, List, [], ◌∷◌, length, Option, Some, None, if◌then◌else◌, arith, tests, refl, sym, ap, subst}
+use Rattle.std.proofs.Common.{◌≡◌, ◌∙◌, ℕ, ◌^◌, ◌<◌, ◌==◌, Bool, true, false, not, ◌&&◌, ℤ, pos, List, [], ◌∷◌, length, Option, Some, None, if◌then◌else◌, arith, tests, refl, sym, ap, subst}
 use Rattle.std.proofs.lemmas.Bool.Decides.{nat_tests}
 use Rattle.std.specs.Ordering.{int_eq}
 use Rattle.std.specs.Prelude.{⊤}
@@ -11,22 +11,21 @@ use Rattle.rs_text.specs.declared.integer.IntegerTy.{IntegerTy}
 use Rattle.rs_text.specs.declared.integer.IntegerTy.TheVariants.{U32}
 use Rattle.rs_text.specs.declared.operator.Operator.{Operator}
 use Rattle.rs_text.specs.declared.operator.Operator.TheVariants.{Add, Sub, Mul, Div, Rem, BitAnd, BitOr, BitXor, Shl, Shr, Equal, NotEqual, Less, LessEqual, Greater, GreaterEqual}
-use Rattle.rs_text.specs.Tree.{Ty, Integer, Boolean, Void, Pointer, Array, Code, Record, Place, Expr, Literal, Truth, NoFunction, Read, Call, CallBy, Wrapped, WrappingNeg, Offset, OffsetFrom, IsNull, IsNone, AddressOf, NullPointer, SomeFunction, Transmute, Neg, Not, Cast, Binary, And, Or, Choose, Stmt, Assign, Eval, CopyBytes, If, Loop, Block, Break, Continue, Match, Return, Stmts, no_stmts, more_stmts, LiteralArm, Arms, no_arms, more_arms}
+use Rattle.rs_text.specs.Tree.{Ty, Integer, Boolean, Void, Pointer, Array, Code, Record, Expr, Literal, Truth, NoFunction, Read, Call, CallBy, Wrapped, WrappingNeg, Offset, OffsetFrom, IsNull, IsNone, AddressOf, NullPointer, SomeFunction, Transmute, Neg, Not, Cast, Binary, And, Or, Choose, Stmt, Assign, Eval, CopyBytes, If, Loop, Block, Break, Continue, Match, Return, Stmts, no_stmts, more_stmts, LiteralArm, Arms, more_arms}
 use Rattle.rs_mean.specs.Laws.{behind}
 use Rattle.rs_mean.specs.Scalars.{is_scalar, fits_integer}
-use Rattle.rs_mean.specs.Typing.{Scope, BodyScope, LabelScope, Kind, of, of_none, is_of_type, own_type, where_is, is_bits, only_if, place_type, kind_of, gives_type, is_scalar_of, arm_differs, matches, is_matched, stmt_typed, stmts_typed}
+use Rattle.rs_mean.specs.Typing.{Scope, BodyScope, LabelScope, Kind, of, of_none, is_of_type, own_type, where_is, is_bits, only_if, place_type, kind_of, is_scalar_of, arm_differs, matches, is_matched, stmt_typed, stmts_typed}
 use Rattle.rs_mean_ends.specs.Ways.{goes, stmts_end, stmts_name}
-use Rattle.flow.specs.Flows.{CaseTree, SwitchTree, BranchTree, go, if_test, switch, gives, NodeTree, FlowTree, node_at, graph_of, targets_of}
+use Rattle.flow.specs.Flows.{CaseTree, BranchTree, go, if_test, switch, gives, NodeTree, FlowTree, node_at, graph_of}
 use Rattle.emit.specs.Bodies.{node_stmts, draft_of, emitted, without_return, without_last_return}
-use Rattle.emit.specs.Jumps.{Jump, label_of, current_block, by_label}
+use Rattle.emit.specs.Jumps.{label_of, current_block}
 use Rattle.emit.specs.Labels.{numbered}
 use Rattle.emit.specs.Sorting.{nests_of}
 use Rattle.emit.specs.Texts.{one_stmt, opposite, compared_by, negated, if_of, case_arms, first_text, other_text, head_arms, branch_stmts}
-use Rattle.emit_laws.specs.Closed.{stmts_closed}
 use Rattle.emit_laws.specs.LawsText.{NodesClosed}
 use Rattle.emit_laws.specs.LawsTyping.{value_differs, cases_typed, branch_typed, whole_body, NodesTyped, TellsTyped, TextTyped}
 use Rattle.emit_laws.proofs.Closing.{and_left, and_right, and_both}
-use Rattle.emit_laws.proofs.Fits.{stmt_fits, stmts_fit, arms_fit, within, typed_fits, typed_closed, named_typed}
+use Rattle.emit_laws.proofs.Fits.{stmt_fits, stmts_fit, arms_fit, typed_fits, typed_closed, named_typed}
 use Rattle.emit_laws.proofs.Keeping.{AllGood, IsKept, draft_good}
 use Rattle.emit_laws.proofs.Shaped.{entry_less, target_less, nests_asked}
 use Rattle.emit_laws.proofs.Written.{draft_closed}
@@ -139,7 +138,7 @@ module _ (scope : Scope) (result : Option Ty) where
     where
       by_ends : (first second : Bool) →
           Fits (if first then (if second then one_stmt (If condition (more_stmts s ss) (more_stmts t ts)) else more_stmts (If (negated condition) (more_stmts t ts) no_stmts) (more_stmts s ss))
-            else more_stmts (If condition (more_stmts s ss) no_stmts) (more_stmts t ts))
+          else more_stmts (If condition (more_stmts s ss) no_stmts) (more_stmts t ts))
       by_ends true true = one_fits (If condition (more_stmts s ss) (more_stmts t ts)) (if_one condition (more_stmts s ss) (more_stmts t ts) is one other)
       by_ends true false =
           and_both (stmt_fits scope result (If (negated condition) (more_stmts t ts) no_stmts)) (stmts_fit scope result (more_stmts s ss))
@@ -184,7 +183,7 @@ module _ (scope : Scope) (result : Option Ty) where
   match_fits e cases other is arms rest =
       one_fits (Match e cases other)
       (and_both (is_matched (own_type (kind_of scope e)) && arms_fit scope result (own_type (kind_of scope e)) cases) (stmts_fit scope result other)
-        (and_both (is_matched (own_type (kind_of scope e))) (arms_fit scope result (own_type (kind_of scope e)) cases) is arms) rest)
+      (and_both (is_matched (own_type (kind_of scope e))) (arms_fit scope result (own_type (kind_of scope e)) cases) is arms) rest)
 
   branch_fits : (last : BranchTree) (texts : List Stmts) → branch_typed scope result last ≡ true → AllFit texts → Fits (branch_stmts last texts)
   branch_fits (go to) texts typed all = first_fits texts all
@@ -323,9 +322,9 @@ text_typed : (names : Scope) (result : Option Ty) (flow : FlowTree) (shape : Sha
 text_typed names result flow shape typed fits tells =
     last_typed (whole_body names result) (numbered [] (draft_of flow (nests_of flow shape)))
     (named_typed names result [] (draft_of flow (nests_of flow shape))
-      (draft_good flow (FitsAround names result flow typed (has_dispatch shape ≡ true) (goes_round shape ≡ true) tells) (λ node. node < length flow.nodes) (has_dispatch shape ≡ true) (goes_round shape ≡ true)
-        (typed_kept names result flow typed (has_dispatch shape ≡ true) (goes_round shape ≡ true) tells) (target_less flow shape fits) (nests_of flow shape) (nests_asked flow shape fits) (entry_less flow shape fits))
-      (draft_closed flow (nodes_closed names result flow typed) (nests_of flow shape)))
+    (draft_good flow (FitsAround names result flow typed (has_dispatch shape ≡ true) (goes_round shape ≡ true) tells) (λ node. node < length flow.nodes) (has_dispatch shape ≡ true) (goes_round shape ≡ true)
+    (typed_kept names result flow typed (has_dispatch shape ≡ true) (goes_round shape ≡ true) tells) (target_less flow shape fits) (nests_of flow shape) (nests_asked flow shape fits) (entry_less flow shape fits))
+    (draft_closed flow (nodes_closed names result flow typed) (nests_of flow shape)))
 
 pub all_typed : TextTyped
 all_typed = record { typed = text_typed; closed = nodes_closed }

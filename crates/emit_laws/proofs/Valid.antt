@@ -1,5 +1,5 @@
 -- The text of nests is valid where nodes and branches are.
-use Rattle.std.proofs.Common.{◌≡◌, ◌∙◌, ℕ, suc, ◌^◌, ◌<◌, ◌≤◌, ◌==◌, nat_lt, Bool, true, false, not, ◌&&◌, ◌||◌, ℤ, pos, List, [], ◌∷◌, length, Option, Some, None, bytes_eq, if◌then◌else◌, arith, refl, sym, ap, subst}
+use Rattle.std.proofs.Common.{◌≡◌, ◌∙◌, ℕ, ◌^◌, ◌<◌, ◌≤◌, ◌==◌, Bool, true, false, ◌&&◌, ℤ, pos, List, [], ◌∷◌, length, Option, Some, None, if◌then◌else◌, arith, refl, ap}
 use Rattle.std.proofs.lemmas.Bool.Decides.{nat_tests}
 use Rattle.std.specs.Prelude.{⊤}
 use Rattle.reloop.specs.Fits.{IsFit}
@@ -17,19 +17,19 @@ use Rattle.rs_text.specs.Valid.{is_value, valid_place, valid_expr, valid_label, 
 use Rattle.rs_mean.specs.Laws.{behind}
 use Rattle.rs_mean.specs.Typing.{LabelScope}
 use Rattle.rs_mean_ends.specs.Ways.{goes, stmts_end, stmts_name}
-use Rattle.flow.specs.Flows.{CaseTree, SwitchTree, BranchTree, go, if_test, switch, gives, NodeTree, FlowTree, node_at, graph_of, targets_of}
+use Rattle.flow.specs.Flows.{CaseTree, BranchTree, go, if_test, switch, gives, NodeTree, FlowTree, node_at, graph_of}
 use Rattle.emit.specs.Bodies.{node_stmts, draft_of, emitted, without_return, without_last_return}
-use Rattle.emit.specs.Jumps.{Jump, label_of, current_block, by_label}
+use Rattle.emit.specs.Jumps.{label_of, current_block}
 use Rattle.emit.specs.Labels.{numbered_label, numbered_stmt, numbered, numbered_arms}
 use Rattle.emit.specs.Sorting.{nests_of}
 use Rattle.emit.specs.Texts.{one_stmt, opposite, compared_by, negated, if_of, case_arms, first_text, other_text, head_arms, branch_stmts}
-use Rattle.emit_laws.specs.Closed.{is_bound, is_loop_label, of_loop, of_block, stmt_closed, stmts_closed, arms_closed}
+use Rattle.emit_laws.specs.Closed.{is_bound, of_loop, of_block, stmt_closed, stmts_closed, arms_closed}
 use Rattle.emit_laws.specs.LawsText.{NodesClosed}
 use Rattle.emit_laws.specs.LawsValid.{cases_valid, branch_valid, NodesValid, TextValid}
 use Rattle.emit_laws.proofs.Closing.{and_left, and_right, and_both}
 use Rattle.emit_laws.proofs.Keeping.{AllGood, IsKept, draft_good}
 use Rattle.emit_laws.proofs.Labels.{label_is}
-use Rattle.emit_laws.proofs.Numbering.{names, IsNumbered, bound_number, loop_bound}
+use Rattle.emit_laws.proofs.Numbering.{names, bound_number, loop_bound}
 use Rattle.emit_laws.proofs.Shaped.{entry_less, target_less, nests_asked}
 use Rattle.emit_laws.proofs.Written.{draft_closed}
 
@@ -64,8 +64,8 @@ mutual
   stmt_valid_sound (If condition if_true if_false) valid =
       let both = and_left (valid_expr condition && valid_stmts if_true) (valid_stmts if_false) valid in
       and_both (valid_expr condition && stmts_sound if_true) (stmts_sound if_false)
-        (and_both (valid_expr condition) (stmts_sound if_true) (and_left (valid_expr condition) (valid_stmts if_true) both) (valid_sound if_true (and_right (valid_expr condition) (valid_stmts if_true) both)))
-        (valid_sound if_false (and_right (valid_expr condition && valid_stmts if_true) (valid_stmts if_false) valid))
+      (and_both (valid_expr condition) (stmts_sound if_true) (and_left (valid_expr condition) (valid_stmts if_true) both) (valid_sound if_true (and_right (valid_expr condition) (valid_stmts if_true) both)))
+      (valid_sound if_false (and_right (valid_expr condition && valid_stmts if_true) (valid_stmts if_false) valid))
   stmt_valid_sound (Loop label body) valid = valid_sound body (and_right (valid_label label) (valid_stmts body) valid)
   stmt_valid_sound (Block label body) valid = valid_sound body (and_right (is_label label) (valid_stmts body) valid)
   stmt_valid_sound (Break label) valid = refl
@@ -73,8 +73,8 @@ mutual
   stmt_valid_sound (Match value cases other) valid =
       let both = and_left (valid_expr value && valid_arms cases) (valid_stmts other) valid in
       and_both (valid_expr value && arms_sound cases) (stmts_sound other)
-        (and_both (valid_expr value) (arms_sound cases) (and_left (valid_expr value) (valid_arms cases) both) (arms_valid_sound cases (and_right (valid_expr value) (valid_arms cases) both)))
-        (valid_sound other (and_right (valid_expr value && valid_arms cases) (valid_stmts other) valid))
+      (and_both (valid_expr value) (arms_sound cases) (and_left (valid_expr value) (valid_arms cases) both) (arms_valid_sound cases (and_right (valid_expr value) (valid_arms cases) both)))
+      (valid_sound other (and_right (valid_expr value && valid_arms cases) (valid_stmts other) valid))
   stmt_valid_sound (Return value) valid = valid
 
   valid_sound : (ss : Stmts) → valid_stmts ss ≡ true → stmts_sound ss ≡ true
@@ -87,8 +87,8 @@ mutual
   arms_valid_sound (more_arms (LiteralArm value ty body) others) valid =
       let one = and_left (is_value value && valid_stmts body) (valid_arms others) valid in
       and_both (is_value value && stmts_sound body) (arms_sound others)
-        (and_both (is_value value) (stmts_sound body) (and_left (is_value value) (valid_stmts body) one) (valid_sound body (and_right (is_value value) (valid_stmts body) one)))
-        (arms_valid_sound others (and_right (is_value value && valid_stmts body) (valid_arms others) valid))
+      (and_both (is_value value) (stmts_sound body) (and_left (is_value value) (valid_stmts body) one) (valid_sound body (and_right (is_value value) (valid_stmts body) one)))
+      (arms_valid_sound others (and_right (is_value value && valid_stmts body) (valid_arms others) valid))
 
 -- ---- with labels by depth
 
@@ -103,9 +103,9 @@ mutual
   stmt_named_valid around (If condition if_true if_false) sound closed =
       let both = and_left (valid_expr condition && stmts_sound if_true) (stmts_sound if_false) sound in
       and_both (valid_expr condition && valid_stmts (numbered (names around) if_true)) (valid_stmts (numbered (names around) if_false))
-        (and_both (valid_expr condition) (valid_stmts (numbered (names around) if_true)) (and_left (valid_expr condition) (stmts_sound if_true) both)
-          (named_valid around if_true (and_right (valid_expr condition) (stmts_sound if_true) both) (and_left (stmts_closed around if_true) (stmts_closed around if_false) closed)))
-        (named_valid around if_false (and_right (valid_expr condition && stmts_sound if_true) (stmts_sound if_false) sound) (and_right (stmts_closed around if_true) (stmts_closed around if_false) closed))
+      (and_both (valid_expr condition) (valid_stmts (numbered (names around) if_true)) (and_left (valid_expr condition) (stmts_sound if_true) both)
+      (named_valid around if_true (and_right (valid_expr condition) (stmts_sound if_true) both) (and_left (stmts_closed around if_true) (stmts_closed around if_false) closed)))
+      (named_valid around if_false (and_right (valid_expr condition && stmts_sound if_true) (stmts_sound if_false) sound) (and_right (stmts_closed around if_true) (stmts_closed around if_false) closed))
   stmt_named_valid around (Loop None body) sound closed = named_valid around body sound closed
   stmt_named_valid around (Loop (Some label) body) sound closed =
       and_both (is_label (label_of (length (names around)))) (valid_stmts (numbered (names (of_loop label ∷ around)) body)) (label_is (length (names around))) (named_valid (of_loop label ∷ around) body sound closed)
@@ -116,9 +116,9 @@ mutual
   stmt_named_valid around (Match value cases other) sound closed =
       let both = and_left (valid_expr value && arms_sound cases) (stmts_sound other) sound in
       and_both (valid_expr value && valid_arms (numbered_arms (names around) cases)) (valid_stmts (numbered (names around) other))
-        (and_both (valid_expr value) (valid_arms (numbered_arms (names around) cases)) (and_left (valid_expr value) (arms_sound cases) both)
-          (arms_named_valid around cases (and_right (valid_expr value) (arms_sound cases) both) (and_left (arms_closed around cases) (stmts_closed around other) closed)))
-        (named_valid around other (and_right (valid_expr value && arms_sound cases) (stmts_sound other) sound) (and_right (arms_closed around cases) (stmts_closed around other) closed))
+      (and_both (valid_expr value) (valid_arms (numbered_arms (names around) cases)) (and_left (valid_expr value) (arms_sound cases) both)
+      (arms_named_valid around cases (and_right (valid_expr value) (arms_sound cases) both) (and_left (arms_closed around cases) (stmts_closed around other) closed)))
+      (named_valid around other (and_right (valid_expr value && arms_sound cases) (stmts_sound other) sound) (and_right (arms_closed around cases) (stmts_closed around other) closed))
   stmt_named_valid around (Return value) sound closed = sound
 
   named_valid : (around : List LabelScope) (ss : Stmts) → stmts_sound ss ≡ true → stmts_closed around ss ≡ true → valid_stmts (numbered (names around) ss) ≡ true
@@ -133,9 +133,9 @@ mutual
   arms_named_valid around (more_arms (LiteralArm value ty body) others) sound closed =
       let one = and_left (is_value value && stmts_sound body) (arms_sound others) sound in
       and_both (is_value value && valid_stmts (numbered (names around) body)) (valid_arms (numbered_arms (names around) others))
-        (and_both (is_value value) (valid_stmts (numbered (names around) body)) (and_left (is_value value) (stmts_sound body) one)
-          (named_valid around body (and_right (is_value value) (stmts_sound body) one) (and_left (stmts_closed around body) (arms_closed around others) closed)))
-        (arms_named_valid around others (and_right (is_value value && stmts_sound body) (arms_sound others) sound) (and_right (stmts_closed around body) (arms_closed around others) closed))
+      (and_both (is_value value) (valid_stmts (numbered (names around) body)) (and_left (is_value value) (stmts_sound body) one)
+      (named_valid around body (and_right (is_value value) (stmts_sound body) one) (and_left (stmts_closed around body) (arms_closed around others) closed)))
+      (arms_named_valid around others (and_right (is_value value && stmts_sound body) (arms_sound others) sound) (and_right (stmts_closed around body) (arms_closed around others) closed))
 
 -- ---- conditions
 
@@ -211,7 +211,7 @@ if_sound condition (more_stmts s ss) (more_stmts t ts) is one other = by_ends (s
   where
     by_ends : (first second : Bool) →
         Sound (if first then (if second then one_stmt (If condition (more_stmts s ss) (more_stmts t ts)) else more_stmts (If (negated condition) (more_stmts t ts) no_stmts) (more_stmts s ss))
-          else more_stmts (If condition (more_stmts s ss) no_stmts) (more_stmts t ts))
+        else more_stmts (If condition (more_stmts s ss) no_stmts) (more_stmts t ts))
     by_ends true true = one_sound (If condition (more_stmts s ss) (more_stmts t ts)) (if_one condition (more_stmts s ss) (more_stmts t ts) is one other)
     by_ends true false =
         and_both (stmt_sound (If (negated condition) (more_stmts t ts) no_stmts)) (stmts_sound (more_stmts s ss)) (if_one (negated condition) (more_stmts t ts) no_stmts (negated_valid condition ∙ is) other refl) one
@@ -338,9 +338,9 @@ text_valid : (flow : FlowTree) (shape : ShapeTree) → NodesValid flow → Nodes
 text_valid flow shape valid closed fits few =
     last_valid (numbered [] (draft_of flow (nests_of flow shape)))
     (named_valid [] (draft_of flow (nests_of flow shape))
-      (draft_good flow (SoundAround flow valid (has_dispatch shape ≡ true) (goes_round shape ≡ true) few) (λ node. node < length flow.nodes) (has_dispatch shape ≡ true) (goes_round shape ≡ true)
-        (valid_kept flow valid (has_dispatch shape ≡ true) (goes_round shape ≡ true) few) (target_less flow shape fits) (nests_of flow shape) (nests_asked flow shape fits) (entry_less flow shape fits))
-      (draft_closed flow closed (nests_of flow shape)))
+    (draft_good flow (SoundAround flow valid (has_dispatch shape ≡ true) (goes_round shape ≡ true) few) (λ node. node < length flow.nodes) (has_dispatch shape ≡ true) (goes_round shape ≡ true)
+    (valid_kept flow valid (has_dispatch shape ≡ true) (goes_round shape ≡ true) few) (target_less flow shape fits) (nests_of flow shape) (nests_asked flow shape fits) (entry_less flow shape fits))
+    (draft_closed flow closed (nests_of flow shape)))
 
 pub all_valid : TextValid
 all_valid = record { valid = text_valid }

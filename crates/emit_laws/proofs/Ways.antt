@@ -1,10 +1,10 @@
 -- The ways out of nests in whose arms nothing stands.
-use Rattle.std.proofs.Common.{◌≡◌, ◌∙◌, ◌⊎◌, inl, inr, ℕ, zero, suc, ◌+◌, ◌<◌, ◌≤◌, ◌==◌, Bool, true, false, ◌||◌, List, [], ◌∷◌, ◌++◌, length, flat_map, Option, Some, None, slice_get, arith, refl, sym, ap, subst}
+use Rattle.std.proofs.Common.{◌≡◌, ◌∙◌, ◌⊎◌, inl, inr, ℕ, zero, suc, ◌+◌, ◌==◌, Bool, true, false, ◌||◌, List, [], ◌∷◌, ◌++◌, Some, slice_get, arith, refl, sym, subst}
 use Rattle.std.specs.Prelude.{⊤}
 use Rattle.reloop.specs.Graphs.{is_in, IsIn}
 use Rattle.reloop.proofs.Sets.{either, or_left, or_right, in_append, same_number}
 use Rattle.flow.specs.Flows.{FlowTree, targets_of}
-use Rattle.emit.specs.Nests.{Nest, single, choice, group, repeated, dispatched, Chain, Chains, no_chains, more_chains, nest_nodes, chain_nodes}
+use Rattle.emit.specs.Nests.{Nest, single, choice, group, repeated, dispatched, Chain, no_chains, more_chains, nest_nodes, chain_nodes}
 use Rattle.emit.specs.Places.{Leaving, leavings_from, node_leavings, is_inner, leavings}
 use Rattle.emit_laws.specs.Covers.{Nodes, either_of, CoversNest}
 use Rattle.emit_laws.proofs.Covering.{GoTo, in_first, either_by, nest_heads, nest_grows}
@@ -121,9 +121,10 @@ module _ (flow : FlowTree) where
       by_side : IsAmong way (leavings_from (test first) first 0 (targets_of flow first)) ⊎ IsAmong way (node_leavings flow test nodes) →
           (IsAmong way (node_leavings flow test nodes) → IsIn way.node nodes × IsIn way.to (targets_of flow way.node)) → IsIn way.node (first ∷ nodes) × IsIn way.to (targets_of flow way.node)
       by_side (inl one) later =
-          let arm = is_arm (test first) first 0 (targets_of flow first) way one in
-          (subst (λ (node : ℕ). IsIn node (first ∷ nodes)) (sym arm.node_is) (in_first first nodes),
-          subst (λ (node : ℕ). IsIn way.to (targets_of flow node)) (sym arm.node_is) (got_in (targets_of flow first) arm.after way.to arm.target))
+          let arm = is_arm (test first) first 0 (targets_of flow first) way one in (
+            subst (λ (node : ℕ). IsIn node (first ∷ nodes)) (sym arm.node_is) (in_first first nodes),
+            subst (λ (node : ℕ). IsIn way.to (targets_of flow node)) (sym arm.node_is) (got_in (targets_of flow first) arm.after way.to arm.target),
+          )
       by_side (inr rest) later = let found = later rest in (or_right (way.node == first) (is_in way.node nodes) found.0, found.1)
 
   pub goes_by : (nest : Nest) (to : ℕ) → IsFlat nest → GoTo flow (nest_nodes nest) to → WayTo nest to

@@ -1,7 +1,6 @@
 -- What is counted of nodes, choices and loops is the same of the nests of a shape as of the shape.
-use Rattle.std.proofs.Common.{◌≡◌, ◌∙◌, ◌⊎◌, inl, inr, ℕ, zero, suc, ◌+◌, ◌≤◌, ◌<◌, ◌==◌, nat_lt, Bool, true, false, List, [], ◌∷◌, ◌++◌, map, length, Option, Some, None, slice_get, if◌then◌else◌, arith, refl, sym, ap, subst}
+use Rattle.std.proofs.Common.{◌≡◌, ◌∙◌, inl, inr, ℕ, zero, suc, ◌+◌, ◌≤◌, ◌<◌, ◌==◌, nat_lt, Bool, true, false, List, [], ◌∷◌, ◌++◌, map, length, Option, Some, None, slice_get, if◌then◌else◌, arith, refl, ap, subst}
 use Rattle.std.proofs.lemmas.Bool.{ltb-false, ltb-true}
-use Rattle.std.specs.Prelude.{⊤}
 use Rattle.std.specs.List.{filter}
 use Rattle.reloop.proofs.Sets.{same_number, equal_itself, not_both}
 use Rattle.flow.specs.Flows.{FlowTree, targets_of}
@@ -12,7 +11,7 @@ use Rattle.emit.specs.Sorting.{Inner, Sibling, Sort, Sorted, first_from, nothing
 use Rattle.emit_laws.specs.Covers.{Nodes, nowhere, with_nodes, either_of, all_entries_in, CoversNest, CoversChain}
 use Rattle.emit_laws.proofs.Arms.{IsPlain, ChainPlain, OwnPlain, IsLater, ListPlain, IsListed, SortsWell, arm_listed}
 use Rattle.emit_laws.proofs.Behind.{times_in}
-use Rattle.emit_laws.proofs.Filling.{behind_weighs, loop_listed, IsPut, listed_put}
+use Rattle.emit_laws.proofs.Filling.{behind_weighs, loop_listed, listed_put}
 use Rattle.emit_laws.proofs.Kept.{AllNests, AllInners, AllSiblings, nests_weigh, inners_weigh, siblings_weigh, all_weigh}
 use Rattle.emit_laws.proofs.Leveling.{sorts_well}
 use Rattle.emit_laws.proofs.Placing.{inner_entries, around_of, seen_from, IsFine, AllFine}
@@ -222,7 +221,7 @@ module _ (of_node : ℕ → ℕ) (of_choice : List ℕ → ℕ) (of_loop : ℕ) 
         arms_keep node targets ways_are arm zero = refl
         arms_keep node targets ways_are arm (suc left) =
             let one = weighs.keeps true (around_of flow all_entries_in true ahead known [] sees) known after (at_arm arm sibling.inside)
-              (arm_listed flow sort sorts true ahead known sees after table number sibling fine inners (λ one. let both = once one in omega (arith, both)) node targets ways_are arm) in
+            (arm_listed flow sort sorts true ahead known sees after table number sibling fine inners (λ one. let both = once one in omega (arith, both)) node targets ways_are arm) in
             let rest = arms_keep node targets ways_are (suc arm) left in omega (arith, one, rest)
 
         arms_filled : (node : ℕ) (targets : List ℕ) → leavings flow sibling.nest ≡ leavings_from true node 0 targets →
@@ -241,7 +240,7 @@ module _ (of_node : ℕ → ℕ) (of_choice : List ℕ → ℕ) (of_loop : ℕ) 
             chain_weight (sort [] (behind_nodes (listed body) sibling.inside)) ≡ chain_weight body + inners_weigh nest_weight sibling.inside
         loop_filled heads body test ways_are nodes_are plain covers =
             let all = weighs.keeps true nowhere (with_nodes heads (either_of (either_of sees ahead) known)) [] (behind_nodes (listed body) sibling.inside)
-              (loop_listed flow sort sorts ahead known sees after table number sibling fine inners once heads body test ways_are nodes_are plain covers) in
+            (loop_listed flow sort sorts ahead known sees after table number sibling fine inners once heads body test ways_are nodes_are plain covers) in
             let both = behind_weighs nest_weight (listed body) sibling.inside in
             let own = weigh_list body in omega (arith, all, both, own)
 

@@ -1,6 +1,5 @@
 -- The text that is written from a flow and its shape is owed to any source that goes along the flow.
-use Rattle.std.proofs.Common.{◌≡◌, ◌∙◌, ℕ, Bool, true, false, List, [], ◌∷◌, Option, Some, None, refl, sym, ap, subst}
-use Rattle.std.proofs.Math.Path.{fun_ext}
+use Rattle.std.proofs.Common.{◌≡◌, ◌∙◌, ℕ, Bool, true, false, [], Option, Some, None, refl, sym, ap, subst}
 use Rattle.std.specs.Prelude.{⊤, IsTrue}
 use Rattle.cr_runs.specs.Laws.{Passes}
 use Rattle.cr_runs.specs.Owes.{Owes}
@@ -12,7 +11,7 @@ use Rattle.rs_mean.specs.Run.{Frame, Flow, normal, breaks, continues, returned, 
 use Rattle.rs_mean.specs.Values.{Typed}
 use Rattle.rs_mean.specs.World.{Run, pure, seq}
 use Rattle.rs_mean_ends.specs.Ways.{by_break, by_continue, stmts_end}
-use Rattle.flow.specs.Flows.{NodeTree, FlowTree, node_at}
+use Rattle.flow.specs.Flows.{FlowTree}
 use Rattle.flow.specs.Sources.{Source}
 use Rattle.emit.specs.Bodies.{draft_of, emitted, without_return, without_last_return}
 use Rattle.emit.specs.Labels.{numbered}
@@ -20,14 +19,14 @@ use Rattle.emit.specs.Nests.{Nest, single, choice, group, repeated, dispatched, 
 use Rattle.emit.specs.Sorting.{nests_of}
 use Rattle.emit.specs.Texts.{one_stmt}
 use Rattle.emit_laws.specs.Closed.{stmts_closed}
-use Rattle.emit_laws.specs.LawsText.{NodesClosed, IsBehindText, IsWritten, TextIsOwed, TextOwes}
+use Rattle.emit_laws.specs.LawsText.{NodesClosed, IsWritten, TextIsOwed, TextOwes}
 use Rattle.emit_laws.proofs.Branches.{StaysWithin}
 use Rattle.emit_laws.proofs.Closing.{stmts_break, stmts_continue}
 use Rattle.emit_laws.proofs.Drafting.{Closed, closed_kept}
 use Rattle.emit_laws.proofs.Every.{EveryNest, EveryChain, EveryChains, chain_choice_gives}
 use Rattle.emit_laws.proofs.Fitting.{nests_cover, nests_enter}
 use Rattle.emit_laws.proofs.Ifs.{run_one}
-use Rattle.emit_laws.proofs.Keeping.{ChainAsked, draft_good}
+use Rattle.emit_laws.proofs.Keeping.{draft_good}
 use Rattle.emit_laws.proofs.Numbering.{by_name, stmts_named}
 use Rattle.emit_laws.proofs.Owing.{draft_owed}
 use Rattle.emit_laws.proofs.Runs.{seq_seq, seq_with, pure_seq, seq_pure}
@@ -121,10 +120,10 @@ module _ {F S A B P : Type 0} (source : Source F S A P) (frame : Frame) (flow : 
   text_is_owed written position world at =
       subst (λ (run : Run B). Owes source.events events_of Good most_units most_steps (source.runs position) (run world)) (sym (emitted_runs frame flow shape written.closed next written.behind.at_end))
       (draft_owed source frame written.bodies flow At Back Good most_units most_steps (λ number node is. closed_within node.body (written.closed number node is)) written.along
-        (nests_of flow shape) (nests_cover flow shape written.fits)
-        (λ chooses. written.tells (chain_choice_gives (λ node. ⊤) (OfChoiceIn flow shape written.fits) (goes_round shape ≡ true) (has_dispatch shape ≡ true) (λ heads asked. asked.0) (nests_of flow shape)
-          (nests_asked flow shape written.fits) chooses))
-        (nests_enter flow shape written.fits) next written.behind.silent written.behind.returns position world at)
+      (nests_of flow shape) (nests_cover flow shape written.fits)
+      (λ chooses. written.tells (chain_choice_gives (λ node. ⊤) (OfChoiceIn flow shape written.fits) (goes_round shape ≡ true) (has_dispatch shape ≡ true) (λ heads asked. asked.0) (nests_of flow shape)
+      (nests_asked flow shape written.fits) chooses))
+      (nests_enter flow shape written.fits) next written.behind.silent written.behind.returns position world at)
 
 pub text_owes : (F S A B P : Type 0) → TextOwes F S A B P
 text_owes F S A B P source frame flow shape at back good most_units most_steps next =

@@ -1,9 +1,9 @@
 -- Laws of the text that is written from a flow and its shape: which statements stand in it.
-use Rattle.std.specs.Prelude.{◌≡◌, ℕ, ◌+◌, ◌<◌, Bool, true, false, List, [], ◌∷◌, codes, Option, Some, None}
+use Rattle.std.specs.Prelude.{◌≡◌, ℕ, ◌+◌, ◌<◌, Bool, true, false, List, [], ◌∷◌, codes, Some, None}
 use Rattle.reloop.specs.Fits.{IsFit}
 use Rattle.reloop.specs.Shapes.{ShapeTree, simple, blocks, loop, dispatch, ShapeTrees, no_shapes, more_shapes, has_dispatch, goes_round}
 use Rattle.rs_text.specs.Tree.{Stmt}
-use Rattle.flow.specs.Flows.{SwitchTree, BranchTree, go, if_test, switch, gives, NodeTree, FlowTree, node_at, graph_of}
+use Rattle.flow.specs.Flows.{BranchTree, go, if_test, switch, gives, NodeTree, FlowTree, node_at, graph_of}
 use Rattle.emit.specs.Bodies.{emitted}
 use Rattle.emit_laws.specs.Counts.{count_of, is_loop, is_match, expr_uses, stmt_uses}
 

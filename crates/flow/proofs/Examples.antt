@@ -1,9 +1,8 @@
 -- Worked examples: graphs of flows, and runs of their machine.
-use Rattle.std.specs.Prelude.{◌≡◌, ℕ, true, false, pos, List, [], ◌∷◌, Option, Some, None, refl}
+use Rattle.std.specs.Prelude.{◌≡◌, ℕ, true, false, pos, [], ◌∷◌, Some, None, refl}
 use Rattle.cr_runs.specs.Runs.{came, bad, out}
 use Rattle.cr_world.specs.World.{World, wrong}
 use Rattle.mem_bytes.specs.declared.value.Value.TheVariants.{Whole}
-use Rattle.reloop.specs.Graphs.{FlowGraph}
 use Rattle.rs_mean.specs.declared.cause.Cause.TheVariants.{WrongCall}
 use Rattle.rs_mean.specs.Run.{Frame}
 use Rattle.rs_mean.specs.Values.{typed}
@@ -11,7 +10,7 @@ use Rattle.rs_mean.specs.World.{pure, fails, seq, takes_unit, rounds}
 use Rattle.rs_text.specs.declared.integer.IntegerTy.TheVariants.{I32}
 use Rattle.rs_text.specs.Tree.{Integer, Expr, Literal, Truth, no_stmts}
 use Rattle.flow.specs.Flows.{CaseTree, BranchTree, go, if_test, switch, gives, NodeTree, FlowTree, graph_of}
-use Rattle.flow.specs.Machine.{Onto, to_node, gives_back, run_branch, run_flow}
+use Rattle.flow.specs.Machine.{to_node, run_branch, run_flow}
 
 abbrev node : BranchTree → NodeTree
 node last = record { body = no_stmts; last = last }
