@@ -1,5 +1,5 @@
 -- The statements that are written from a flow and its shape.
-use Rattle.std.specs.Prelude.{ℕ, suc, true, List, [], ◌∷◌, map, Option, Some, None, if◌then◌else◌}
+use Rattle.std.specs.Prelude.{ℕ, suc, List, [], ◌∷◌, map, Option, Some, None, if◌then◌else◌}
 use Rattle.reloop.specs.Graphs.{is_in}
 use Rattle.reloop.specs.Shapes.{ShapeTree}
 use Rattle.rs_mean.specs.Laws.{behind}

@@ -1,19 +1,19 @@
 -- What goes into the arms of a branch covers there.
-use Rattle.std.proofs.Common.{◌≡◌, ◌∙◌, ◌⊎◌, inl, inr, ℕ, zero, suc, ◌+◌, ◌≤◌, ◌<◌, ◌==◌, Bool, true, false, ◌&&◌, ◌||◌, List, [], ◌∷◌, ◌++◌, map, length, Option, Some, None, slice_get, if◌then◌else◌, arith, refl, sym, ap, subst}
+use Rattle.std.proofs.Common.{◌≡◌, ◌∙◌, ◌⊎◌, inl, inr, ℕ, zero, suc, ◌+◌, ◌≤◌, ◌==◌, Bool, true, false, ◌&&◌, List, [], ◌∷◌, ◌++◌, map, length, Some, slice_get, if◌then◌else◌, arith, refl, sym, ap, subst}
 use Rattle.std.specs.Prelude.{⊤}
 use Rattle.std.specs.List.{filter}
 use Rattle.reloop.specs.Graphs.{is_in, IsIn}
-use Rattle.reloop.proofs.Sets.{either, or_left, or_right, in_append, same_number, equal_itself, not_both, decide}
+use Rattle.reloop.proofs.Sets.{either, or_left, or_right, in_append, same_number, equal_itself, not_both}
 use Rattle.flow.specs.Flows.{FlowTree}
-use Rattle.emit.specs.Nests.{Nest, single, choice, group, repeated, dispatched, Chain, no_nests, more_nests, Chains, no_chains, more_chains, nest_entries, chain_entries}
+use Rattle.emit.specs.Nests.{Nest, single, choice, group, repeated, dispatched, Chain, no_nests, more_nests, no_chains, more_chains, nest_entries, chain_entries}
 use Rattle.emit.specs.Places.{Leaving, leavings_from, leavings, Table}
 use Rattle.emit.specs.Sorting.{Inner, Sibling, Sort, all_entries, nest_of, at_arm, arms_from}
-use Rattle.emit_laws.specs.Covers.{Nodes, with_nodes, either_of, all_entries_in, held_targets, AreApart, CoversChain, CoverArms}
+use Rattle.emit_laws.specs.Covers.{Nodes, with_nodes, all_entries_in, held_targets, AreApart, CoversChain, CoverArms}
 use Rattle.emit_laws.proofs.Behind.{IsOwn, times_in, AreOnce}
-use Rattle.emit_laws.proofs.Closing.{and_left, and_right, and_both}
+use Rattle.emit_laws.proofs.Closing.{and_right}
 use Rattle.emit_laws.proofs.Covering.{either_by, in_left, in_right, in_first, nest_more}
 use Rattle.emit_laws.proofs.Kept.{AllNests, AllInners, nests_weigh, inners_weigh, all_at_arm}
-use Rattle.emit_laws.proofs.Placing.{inner_entries, is_at, entries_at, first_at, HasArm, LeadsTo, around_of, InnersCover, IsFine, ListCovers}
+use Rattle.emit_laws.proofs.Placing.{inner_entries, is_at, entries_at, first_at, around_of, InnersCover, IsFine, ListCovers}
 use Rattle.emit_laws.proofs.Seeing.{IsAmong}
 use Rattle.emit_laws.proofs.Ways.{is_arm, got_in}
 
@@ -50,12 +50,17 @@ pub later_plain : (nests : List Nest) → AllNests IsLater nests → ListPlain n
 later_plain [] all = tt
 later_plain (nest ∷ others) all = ((all.0).1, all.1)
 
+-- a list that is covered
+pub record IsListed (flow : FlowTree) (may : Bool) (ahead known : Nodes) (nests : List Nest) : Type 0 where
+  pub plain : ListPlain nests
+  pub covers : ListCovers flow all_entries_in may ahead known nests
+  pub once : AreOnce nests
+
 -- lists are sorted well
 pub record SortsWell (flow : FlowTree) (sort : Sort) : Type 0 where
-  pub covers : (may : Bool) (ahead known : Nodes) (after : List ℕ) (nests : List Nest) → ListPlain nests → ListCovers flow all_entries_in may ahead known nests → AreOnce nests →
-      CoversChain flow chain_entries ahead known (sort after nests)
+  pub covers : (may : Bool) (ahead known : Nodes) (after : List ℕ) (nests : List Nest) → IsListed flow may ahead known nests → CoversChain flow chain_entries ahead known (sort after nests)
   pub entries : (after : List ℕ) (first : Nest) (others : List Nest) → ListPlain (first ∷ others) → chain_entries (sort after (first ∷ others)) ≡ nest_entries first
-  pub nothing : (after : List ℕ) → chain_entries (sort after []) ≡ []
+  pub nothing : (after : List ℕ) → sort after [] ≡ no_nests
 
 -- ---- what goes into an arm
 
@@ -222,10 +227,26 @@ module _ (flow : FlowTree) (sort : Sort) (sorts : SortsWell flow sort) (may : Bo
             subst (λ (entries : List ℕ). IsIn to entries) (ap (λ (nests : List Nest). chain_entries (sort after nests)) first.list ∙ sorts.entries after first.one.nest first.others plain) held,
           )
       by_side (inr none) =
-          absurd (in_nothing to (subst (λ (entries : List ℕ). IsIn to entries) (ap (λ (nests : List Nest). chain_entries (sort after nests)) none ∙ sorts.nothing after) held))
+          absurd (in_nothing to (subst (λ (entries : List ℕ). IsIn to entries) (ap (λ (nests : List Nest). chain_entries (sort after nests)) none ∙ ap chain_entries (sorts.nothing after)) held))
         where
           in_nothing : (to : ℕ) → IsIn to [] → ⊥
           in_nothing to there = cc
+
+  -- the first in an arm is entered at its target
+  first_entered : (arm to : ℕ) → slice_get targets arm ≡ Some to → IsFirst node arm sibling.inside → IsIn to (chain_entries (held_chain arm))
+  first_entered arm to is first =
+      let plain : ListPlain (first.one.nest ∷ first.others) = subst ListPlain first.list (later_plain (at_arm arm sibling.inside) (all_at_arm IsLater arm sibling.inside inners)) in
+      let leads = fine.first node arm first.one first.first in
+      let out = is_arm true node 0 targets leads.out.way (subst (λ (ways : List Leaving). IsAmong leads.out.way ways) ways_are leads.out.among) in
+      let index : out.after ≡ arm = (let first_is = out.arm_is in let other = leads.out.arm_is in omega (arith, first_is, other)) in
+      let target : leads.out.way.to ≡ to = some_number leads.out.way.to to (sym out.target ∙ ap (slice_get targets) index ∙ is) in
+      let entries : chain_entries (held_chain arm) ≡ leads.out.way.to ∷ [] =
+      ap (λ (nests : List Nest). chain_entries (sort after nests)) first.list ∙ sorts.entries after first.one.nest first.others plain ∙ leads.enters in
+      subst (λ (list : List ℕ). IsIn to list) (sym entries) (subst (λ (one : ℕ). IsIn one (leads.out.way.to ∷ [])) target (in_first leads.out.way.to []))
+
+  nothing_held : (arm to : ℕ) → slice_get targets arm ≡ Some to → is_in to (chain_entries (held_chain arm)) ≡ false → IsFirst node arm sibling.inside ⊎ (at_arm arm sibling.inside ≡ []) → held_chain arm ≡ no_nests
+  nothing_held arm to is none (inl first) = not_both (is_in to (chain_entries (held_chain arm))) (first_entered arm to is first) none
+  nothing_held arm to is none (inr nothing) = ap (sort after) nothing ∙ sorts.nothing after
 
   -- what isn't held at a target of an arm doesn't go inside
   not_inside : (arm to : ℕ) → slice_get targets arm ≡ Some to → is_in to (chain_entries (held_chain arm)) ≡ false → IsIn to (inner_entries sibling.inside) → ⊥
@@ -234,16 +255,7 @@ module _ (flow : FlowTree) (sort : Sort) (sorts : SortsWell flow sort) (may : Bo
       by_side found.0 found.1 (at_its_arm found.0 found.1 arm to is found.2) (first_or_none node arm sibling.inside at_node)
     where
       by_side : (one : Inner) → IsAmong one sibling.inside → one.arm ≡ arm → IsFirst node arm sibling.inside ⊎ (at_arm arm sibling.inside ≡ []) → ⊥
-      by_side one among at (inl first) =
-          let plain : ListPlain (first.one.nest ∷ first.others) = subst ListPlain first.list (later_plain (at_arm arm sibling.inside) (all_at_arm IsLater arm sibling.inside inners)) in
-          let leads = fine.first node arm first.one first.first in
-          let out = is_arm true node 0 targets leads.out.way (subst (λ (ways : List Leaving). IsAmong leads.out.way ways) ways_are leads.out.among) in
-          let index : out.after ≡ arm = (let first_is = out.arm_is in let other = leads.out.arm_is in omega (arith, first_is, other)) in
-          let target : leads.out.way.to ≡ to = some_number leads.out.way.to to (sym out.target ∙ ap (slice_get targets) index ∙ is) in
-          let entries : chain_entries (held_chain arm) ≡ leads.out.way.to ∷ [] =
-          ap (λ (nests : List Nest). chain_entries (sort after nests)) first.list ∙ sorts.entries after first.one.nest first.others plain ∙ leads.enters in
-          not_both (is_in to (chain_entries (held_chain arm)))
-          (subst (λ (list : List ℕ). IsIn to list) (sym entries) (subst (λ (one : ℕ). IsIn one (leads.out.way.to ∷ [])) target (in_first leads.out.way.to []))) none
+      by_side one among at (inl first) = not_both (is_in to (chain_entries (held_chain arm))) (first_entered arm to is first) none
       by_side one among at (inr nothing) = none_at arm sibling.inside one among at nothing
 
   arm_target : (arm target : ℕ) (rest : List ℕ) → ((later to : ℕ) → slice_get (target ∷ rest) later ≡ Some to → slice_get targets (arm + later) ≡ Some to) → slice_get targets arm ≡ Some target
@@ -253,17 +265,25 @@ module _ (flow : FlowTree) (sort : Sort) (sorts : SortsWell flow sort) (may : Bo
       (later to : ℕ) → slice_get rest later ≡ Some to → slice_get targets (suc arm + later) ≡ Some to
   later_targets arm target rest at later to is = subst (λ (one : ℕ). slice_get targets one ≡ Some to) (let e : arm + suc later ≡ suc arm + later = omega arith in e) (at (suc later) to is)
 
+  -- what goes into an arm is a covered list
+  pub arm_listed : (arm : ℕ) → IsListed flow may around known (at_arm arm sibling.inside)
+  arm_listed arm = record {
+    plain = later_plain (at_arm arm sibling.inside) (all_at_arm IsLater arm sibling.inside inners);
+    covers = at_arm_covers flow may ahead known around arm sibling.inside fine.inner;
+    once = λ one. let less = at_arm_less (times_in one) arm sibling.inside in let most = once one in omega (arith, less, most);
+  }
+
   module _ (ways : Nodes) (own : (to : ℕ) → IsIn to targets → with_nodes (inner_entries sibling.inside) ways to ≡ true) where
     arms_cover_from : (arm : ℕ) (rest : List ℕ) → ((later to : ℕ) → slice_get rest later ≡ Some to → slice_get targets (arm + later) ≡ Some to) →
         CoverArms flow chain_entries ways around known (arms_from sort after sibling.inside arm (length rest)) rest
     arms_cover_from arm [] at = λ to none. absurd cc
     arms_cover_from arm (target ∷ rest) at = (
-      λ held. sorts.covers may around known after (at_arm arm sibling.inside) (later_plain (at_arm arm sibling.inside) (all_at_arm IsLater arm sibling.inside inners))
-          (at_arm_covers flow may ahead known around arm sibling.inside fine.inner)
-          (λ one. let less = at_arm_less (times_in one) arm sibling.inside in let most = once one in omega (arith, less, most)),
+      λ held. sorts.covers may around known after (at_arm arm sibling.inside) (arm_listed arm),
       λ none.
-          let here = arm_target arm target rest at in
-          either_by (is_in target (inner_entries sibling.inside)) (ways target) (λ there. absurd (not_inside arm target here none there)) (λ there. there) (own target (got_in targets arm target here)),
+          let here = arm_target arm target rest at in (
+            nothing_held arm target here none (first_or_none node arm sibling.inside at_node),
+            either_by (is_in target (inner_entries sibling.inside)) (ways target) (λ there. absurd (not_inside arm target here none there)) (λ there. there) (own target (got_in targets arm target here)),
+          ),
       arms_cover_from (suc arm) rest (later_targets arm target rest at),
     )
 

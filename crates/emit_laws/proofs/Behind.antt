@@ -1,17 +1,17 @@
 -- What goes behind the nodes of a loop covers there.
-use Rattle.std.proofs.Common.{◌≡◌, ◌∙◌, ◌⊎◌, inl, inr, ℕ, ◌+◌, ◌≤◌, ◌<◌, ◌==◌, Bool, true, false, ◌&&◌, ◌||◌, not, List, [], ◌∷◌, ◌++◌, map, if◌then◌else◌, arith, refl, sym, ap, subst}
+use Rattle.std.proofs.Common.{◌≡◌, ◌∙◌, inl, inr, ℕ, ◌≤◌, ◌<◌, ◌==◌, Bool, true, false, ◌||◌, not, List, [], ◌∷◌, ◌++◌, map, if◌then◌else◌, arith, refl, sym, ap, subst}
 use Rattle.std.specs.Prelude.{⊤}
 use Rattle.std.specs.List.{filter}
 use Rattle.reloop.specs.Fits.{times}
 use Rattle.reloop.specs.Graphs.{is_in, IsIn}
 use Rattle.reloop.proofs.Sets.{or_left, or_right, in_append, in_some, same_number, not_both}
 use Rattle.flow.specs.Flows.{FlowTree, targets_of}
-use Rattle.emit.specs.Nests.{Nest, single, choice, group, repeated, dispatched, Chain, no_nests, more_nests, Chains, no_chains, more_chains, nest_nodes, nest_entries}
+use Rattle.emit.specs.Nests.{Nest, single, choice, group, repeated, dispatched, Chain, no_chains, more_chains, nest_nodes, nest_entries}
 use Rattle.emit.specs.Sorting.{Inner, all_entries, nest_of, behind_nodes}
-use Rattle.emit_laws.specs.Covers.{Nodes, nowhere, with_nodes, either_of, all_entries_in, CoversNest}
-use Rattle.emit_laws.proofs.Closing.{and_left, and_right}
+use Rattle.emit_laws.specs.Covers.{Nodes, nowhere, with_nodes, either_of, all_entries_in}
+use Rattle.emit_laws.proofs.Closing.{and_left}
 use Rattle.emit_laws.proofs.Covering.{GoTo, either_by, in_left, in_right, nest_heads, nest_grows, nest_more}
-use Rattle.emit_laws.proofs.Kept.{AllNests, AllInners, nests_weigh}
+use Rattle.emit_laws.proofs.Kept.{AllInners, nests_weigh}
 use Rattle.emit_laws.proofs.Placing.{is_at, entries_at, InnersCover, ListCovers}
 use Rattle.emit_laws.proofs.Seeing.{IsAmong}
 use Rattle.emit_laws.proofs.Ways.{IsFlat}

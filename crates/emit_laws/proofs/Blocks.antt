@@ -1,7 +1,6 @@
 -- Blocks and loops whose labels nothing names run as those that are written.
-use Rattle.std.proofs.Common.{◌≡◌, ◌∙◌, ℕ, Bool, true, false, List, Option, Some, None, if◌then◌else◌, refl, sym, ap}
-use Rattle.cr_world.specs.World.{World}
-use Rattle.rs_text.specs.Tree.{Stmt, Loop, Block, Stmts, no_stmts, more_stmts}
+use Rattle.std.proofs.Common.{◌≡◌, ◌∙◌, ℕ, Bool, true, false, Some, None, if◌then◌else◌, refl, sym, ap}
+use Rattle.rs_text.specs.Tree.{Loop, Block, Stmts, more_stmts}
 use Rattle.rs_mean.specs.Laws.{behind}
 use Rattle.rs_mean.specs.Run.{Frame, Flow, run_stmt, run_stmts, then_on}
 use Rattle.rs_mean.specs.World.{Run, seq}
@@ -11,7 +10,7 @@ use Rattle.rs_mean_ends.proofs.Labels.{block_goes, loop_goes}
 use Rattle.emit.specs.Jumps.{label_of}
 use Rattle.emit.specs.Texts.{one_stmt, block_then, loop_of}
 use Rattle.emit_laws.proofs.Ifs.{run_one}
-use Rattle.emit_laws.proofs.Runs.{same_runs, seq_with}
+use Rattle.emit_laws.proofs.Runs.{same_runs}
 
 pub run_behind : (frame : Frame) (first others : Stmts) → run_stmts frame (behind first others) ≡ seq (run_stmts frame first) (then_on (run_stmts frame others))
 run_behind frame first others = same_runs _ _ (λ world units. lists_follow frame first others world units)

@@ -1,22 +1,21 @@
 -- A node with the statements that stand at its targets runs as the node, and then as those.
-use Rattle.std.proofs.Common.{◌≡◌, ◌∙◌, ℕ, Bool, true, false, ℤ, List, [], ◌∷◌, ◌++◌, Option, Some, None, if◌then◌else◌, refl, sym, ap}
+use Rattle.std.proofs.Common.{◌≡◌, ◌∙◌, ℕ, Bool, true, false, List, [], ◌∷◌, ◌++◌, Some, None, if◌then◌else◌, refl, sym, ap}
 use Rattle.std.specs.Prelude.{⊤}
 use Rattle.cr_runs.specs.Runs.{Ran, came, halted, bad, out, bind}
 use Rattle.cr_world.specs.World.{World, Stop}
 use Rattle.rs_text.specs.declared.integer.IntegerTy.{IntegerTy}
-use Rattle.rs_text.specs.Tree.{Expr, Stmt, Match, Return, Stmts, no_stmts, more_stmts, LiteralArm, Arms, no_arms, more_arms}
+use Rattle.rs_text.specs.Tree.{Match, Return, Stmts}
 use Rattle.rs_mean.specs.declared.cause.Cause.{Cause}
 use Rattle.rs_mean.specs.Laws.{behind}
-use Rattle.rs_mean.specs.Run.{Frame, Flow, normal, breaks, continues, returned, run_expr, run_stmt, run_stmts, run_arms, then_on, tests, is_arm}
+use Rattle.rs_mean.specs.Run.{Frame, Flow, normal, breaks, continues, returned, run_expr, run_stmts, run_arms, then_on, tests, is_arm}
 use Rattle.rs_mean.specs.Values.{Typed}
 use Rattle.rs_mean.specs.World.{Run, pure, seq, either}
 use Rattle.rs_mean_ends.specs.Ways.{Way, by_break, by_continue, stmts_end}
 use Rattle.rs_mean_ends.proofs.Ending.{ComesBy, stmts_come}
-use Rattle.flow.specs.Flows.{CaseTree, SwitchTree, BranchTree, go, if_test, switch, gives, NodeTree, case_targets, targets}
+use Rattle.flow.specs.Flows.{CaseTree, BranchTree, go, if_test, switch, gives, NodeTree, case_targets, targets}
 use Rattle.flow.specs.Machine.{Onto, to_node, gives_back, chosen, run_branch, then_branch, run_node}
-use Rattle.emit.specs.Texts.{one_stmt, if_of, case_arms, first_text, other_text, branch_stmts}
+use Rattle.emit.specs.Texts.{case_arms, other_text, branch_stmts}
 use Rattle.emit_laws.proofs.Blocks.{run_behind}
-use Rattle.emit_laws.proofs.Conditions.{by_test}
 use Rattle.emit_laws.proofs.Ifs.{run_one, if_runs}
 use Rattle.emit_laws.proofs.Runs.{same_runs, seq_seq, seq_with, pure_seq}
 

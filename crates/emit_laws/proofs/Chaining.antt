@@ -1,8 +1,8 @@
 -- A list of nests as a chain covers where each nest is left for later ones alone that say so.
-use Rattle.std.proofs.Common.{◌≡◌, ◌∙◌, ℕ, suc, ◌+◌, ◌<◌, ◌≤◌, nat_lt, Bool, true, false, ◌&&◌, ◌||◌, List, [], ◌∷◌, if◌then◌else◌, arith, refl, sym, ap}
+use Rattle.std.proofs.Common.{◌≡◌, ◌∙◌, ℕ, suc, ◌≤◌, nat_lt, Bool, true, false, ◌&&◌, ◌||◌, List, [], ◌∷◌, if◌then◌else◌, arith, refl, sym, ap}
 use Rattle.std.proofs.lemmas.Bool.{le-ltb, ltb-false, ltb-true, lt-ltb}
 use Rattle.std.specs.Prelude.{⊤}
-use Rattle.reloop.specs.Graphs.{is_in, IsIn}
+use Rattle.reloop.specs.Graphs.{is_in}
 use Rattle.reloop.proofs.Sets.{or_left, or_right}
 use Rattle.flow.specs.Flows.{FlowTree}
 use Rattle.emit.specs.Chains.{Ranked, Piece, gathered, joined, in_front, chained_from, chained}

@@ -1,8 +1,7 @@
 -- The condition that holds where another doesn't.
 use Rattle.std.proofs.Common.{◌≡◌, ◌∙◌, ℕ, zero, suc, Bool, true, false, not, ℤ, pos, negsuc, int_le, int_lt, arith, tests as of_tests, Option, Some, None, Result, Ok, Err, refl, sym, ap}
-use Rattle.std.proofs.Math.Path.{fun_ext}
 use Rattle.cr_world.specs.Held.{Held}
-use Rattle.cr_runs.specs.Runs.{Ran, bad, bind}
+use Rattle.cr_runs.specs.Runs.{bad, bind}
 use Rattle.cr_world.specs.World.{World, wrong, with_held}
 use Rattle.std.specs.Ordering.{int_eq}
 use Rattle.mem_bytes.specs.Memory.{Blocks}
@@ -10,10 +9,10 @@ use Rattle.mem_bytes.specs.Pointers.{distance, are_equal}
 use Rattle.mem_bytes.specs.declared.value.Value.{Value}
 use Rattle.mem_bytes.specs.declared.value.Value.TheVariants.{Whole, Null, Object, Code as Function}
 use Rattle.rs_text.specs.declared.operator.Operator.{Operator}
-use Rattle.rs_text.specs.declared.operator.Operator.TheVariants.{Add, Sub, Mul, Div, Rem, BitAnd, BitOr, BitXor, Shl, Shr, Equal, NotEqual, Less, LessEqual, Greater, GreaterEqual}
-use Rattle.rs_text.specs.Tree.{Ty, Integer, Boolean, Void, Pointer, Array, Code, Record, Expr, Literal, Truth, NoFunction, Read, Call, CallBy, Wrapped, WrappingNeg, Offset, OffsetFrom, IsNull, IsNone, AddressOf, NullPointer, SomeFunction, Transmute, Neg, Not, Cast, Binary, And, Or, Choose}
+use Rattle.rs_text.specs.declared.operator.Operator.TheVariants.{Equal, NotEqual, Less, LessEqual, Greater, GreaterEqual}
+use Rattle.rs_text.specs.Tree.{Ty, Integer, Boolean, Void, Pointer, Array, Code, Record, Expr, Not, Binary}
 use Rattle.rs_mean.specs.declared.cause.Cause.{Cause}
-use Rattle.rs_mean.specs.Run.{Frame, Flow, run_expr, tests}
+use Rattle.rs_mean.specs.Run.{Frame, run_expr, tests}
 use Rattle.rs_mean.specs.Numbers.{compared}
 use Rattle.rs_mean.specs.Values.{Typed, typed, truth, not_of, ordered, by_type, binary_of}
 use Rattle.rs_mean.specs.World.{Run, pure, fails, seq, either, local, looks, kept, after_step, or_fails, cause_of_pointer, or_cause}

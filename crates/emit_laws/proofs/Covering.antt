@@ -1,11 +1,10 @@
 -- Nests cover with other nodes ahead and known, as far as they go to these.
-use Rattle.std.proofs.Common.{◌≡◌, ◌∙◌, ◌⊎◌, inl, inr, ℕ, ◌==◌, Bool, true, false, ◌||◌, List, [], ◌∷◌, ◌++◌, is_some, refl}
-use Rattle.std.specs.Prelude.{⊤}
+use Rattle.std.proofs.Common.{◌≡◌, ◌∙◌, ℕ, ◌==◌, Bool, true, false, ◌||◌, List, [], ◌∷◌, ◌++◌, refl}
 use Rattle.reloop.specs.Graphs.{is_in, IsIn}
-use Rattle.reloop.proofs.Sets.{either, or_left, or_right, decide, in_append, equal_itself}
-use Rattle.flow.specs.Flows.{FlowTree, node_at, targets_of}
-use Rattle.emit.specs.Nests.{Nest, single, choice, group, repeated, dispatched, Chain, no_nests, more_nests, Chains, no_chains, more_chains, nest_entries, chain_entries, nest_nodes, chain_nodes, chains_nodes}
-use Rattle.emit_laws.specs.Covers.{Nodes, nowhere, with_nodes, either_of, AreApart, CoversNest, CoversChain, CoverArms}
+use Rattle.reloop.proofs.Sets.{or_left, or_right, in_append, equal_itself}
+use Rattle.flow.specs.Flows.{FlowTree, targets_of}
+use Rattle.emit.specs.Nests.{Nest, single, choice, group, repeated, dispatched, Chain, no_nests, more_nests, Chains, no_chains, more_chains, nest_nodes, chain_nodes, chains_nodes}
+use Rattle.emit_laws.specs.Covers.{Nodes, nowhere, with_nodes, either_of, CoversNest, CoversChain, CoverArms}
 
 -- one set of nodes is in another, as far as they are of a kind
 abbrev pub IsWithin : (ℕ → Type 0) → Nodes → Nodes → Type 0
@@ -128,10 +127,10 @@ module _ (flow : FlowTree) where
       arms_grow : (arms : Chains) (targets : List ℕ) (ways others ahead known more further : Nodes) → IsWithin (λ to. IsIn to targets) ways others →
           Grows (chains_nodes arms) (chains_heads arms) ahead known more further → CoverArms flow behind ways ahead known arms targets → CoverArms flow behind others more further arms targets
       arms_grow no_chains targets ways others ahead known more further within grows covers = λ to there. within to there (covers to there)
-      arms_grow (more_chains inner rest) [] ways others ahead known more further within grows covers = tt
+      arms_grow (more_chains inner rest) [] ways others ahead known more further within grows covers = covers
       arms_grow (more_chains inner rest) (target ∷ targets) ways others ahead known more further within grows covers = (
         λ held. chain_grows inner ahead known more further (grows_left (chain_nodes inner) (chains_nodes rest) (chain_heads inner) (chains_heads rest) ahead known more further grows) (covers.0 held),
-        λ none. within target (in_first target targets) (covers.1 none),
+        λ none. let without = covers.1 none in (without.0, within target (in_first target targets) without.1),
         arms_grow rest targets ways others ahead known more further (λ to there. within to (or_right (to == target) (is_in to targets) there))
             (grows_right (chain_nodes inner) (chains_nodes rest) (chain_heads inner) (chains_heads rest) ahead known more further grows) covers.2,
       )

@@ -10,7 +10,7 @@ use Rattle.rs_text.specs.Tree.{Expr, Read, Stmt, Assign, Eval, CopyBytes, If, Lo
 use Rattle.rs_mean.specs.Laws.{behind}
 use Rattle.rs_mean.specs.Typing.{LabelScope}
 use Rattle.rs_mean_ends.specs.Ways.{goes, stmts_end, stmt_names, stmts_name, arms_name}
-use Rattle.flow.specs.Flows.{CaseTree, SwitchTree, BranchTree, go, if_test, switch, gives, NodeTree, FlowTree, node_at}
+use Rattle.flow.specs.Flows.{CaseTree, BranchTree, go, if_test, switch, gives, NodeTree, FlowTree, node_at}
 use Rattle.emit.specs.Bodies.{node_stmts}
 use Rattle.emit.specs.Jumps.{label_of, current_block}
 use Rattle.emit.specs.Texts.{one_stmt, negated, if_of, case_arms, first_text, other_text, head_arms, branch_stmts}
@@ -165,7 +165,7 @@ module _ (flow : FlowTree) (nodes : (number : ℕ) (node : NodeTree) → node_at
   abbrev Any : ℕ → Type 0
   Any node = ⊤
 
-  all_closed : (around : List LabelScope) (texts : List Stmts) → AllGood flow Closed Any around texts → AllClosed around texts
+  all_closed : (around : List LabelScope) (texts : List Stmts) → AllGood flow Closed Any ⊤ ⊤ around texts → AllClosed around texts
   all_closed around [] all = tt
   all_closed around (text ∷ texts) all = (all.0, all_closed around texts all.1)
 
@@ -190,14 +190,14 @@ module _ (flow : FlowTree) (nodes : (number : ℕ) (node : NodeTree) → node_at
   loop_closed around label body closed true is = one_closed around (Loop (Some label) body) closed
   loop_closed around label body closed false is = one_closed around (Loop None body) (closed_unnamed around (of_loop label) body is closed)
 
-  pub closed_kept : IsKept flow Closed Any
+  pub closed_kept : IsKept flow Closed Any ⊤ ⊤
   closed_kept = record {
     nothing = λ around. refl;
     node = λ around number texts all. node_closed around (node_at flow number) (nodes number) texts (all_closed around texts all);
-    choice = λ around heads texts may all.
+    choice = λ around heads texts asked all.
         one_closed around (Match (Read current_block) (head_arms [] heads texts) no_stmts) (and_both (arms_closed around (head_arms [] heads texts)) true (heads_closed around [] heads texts (all_closed around texts all)) refl);
-    tells = λ around node text may closed. closed;
+    tells = λ around node text tells may closed. closed;
     jumps = λ around jump is. jump_closed around (label_of jump.label) jump.turns is;
     block = λ around label body rest one other. block_closed around (label_of label) body rest one other (stmts_name (label_of label) body) refl;
-    loop = λ around label body closed. loop_closed around (label_of label) body closed (stmts_name (label_of label) body) refl;
+    loop = λ around label body rounds closed. loop_closed around (label_of label) body closed (stmts_name (label_of label) body) refl;
   }

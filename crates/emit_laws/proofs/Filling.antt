@@ -1,22 +1,21 @@
 -- Lists are sorted well where the lists inside of their nests are.
-use Rattle.std.proofs.Common.{◌≡◌, ◌∙◌, ◌⊎◌, inl, inr, ℕ, zero, suc, ◌+◌, ◌≤◌, ◌<◌, ◌==◌, nat_lt, Bool, true, false, ◌&&◌, ◌||◌, not, List, [], ◌∷◌, ◌++◌, map, length, Option, Some, None, if◌then◌else◌, arith, refl, sym, ap, subst}
+use Rattle.std.proofs.Common.{◌≡◌, ◌∙◌, ℕ, suc, ◌+◌, ◌≤◌, nat_lt, Bool, true, false, ◌&&◌, ◌||◌, not, List, [], ◌∷◌, ◌++◌, map, Some, if◌then◌else◌, arith, refl, sym, ap, subst}
 use Rattle.std.proofs.Math.Path.{fun_ext}
-use Rattle.std.specs.Prelude.{⊤}
 use Rattle.std.specs.List.{filter}
 use Rattle.reloop.specs.Fits.{times}
 use Rattle.reloop.specs.Graphs.{is_in, IsIn}
-use Rattle.reloop.proofs.Sets.{or_left, or_right, in_append, times_append}
+use Rattle.reloop.proofs.Sets.{times_append}
 use Rattle.flow.specs.Flows.{FlowTree, targets_of}
-use Rattle.emit.specs.Chains.{Ranked, chained}
-use Rattle.emit.specs.Nests.{Nest, single, choice, group, repeated, dispatched, Chain, no_nests, more_nests, Chains, no_chains, more_chains, listed, nest_nodes, chain_nodes, nest_entries, chain_entries}
-use Rattle.emit.specs.Places.{Leaving, Table, leavings_from, node_leavings, is_inner, leavings}
-use Rattle.emit.specs.Sorting.{Inner, Sibling, Sort, nothing_sorted, all_entries, put_all, nest_of, at_arm, behind_nodes, filled, entries_behind, all_filled}
+use Rattle.emit.specs.Chains.{chained}
+use Rattle.emit.specs.Nests.{Nest, single, choice, group, repeated, dispatched, Chain, no_nests, more_nests, no_chains, more_chains, listed, nest_nodes, chain_nodes, nest_entries, chain_entries}
+use Rattle.emit.specs.Places.{Leaving, Table, node_leavings, is_inner, leavings}
+use Rattle.emit.specs.Sorting.{Inner, Sibling, Sort, nothing_sorted, all_entries, put_all, nest_of, behind_nodes, filled, entries_behind, all_filled}
 use Rattle.emit_laws.specs.Covers.{Nodes, nowhere, with_nodes, either_of, all_entries_in, CoversNest, CoversChain}
-use Rattle.emit_laws.proofs.Arms.{IsPlain, ChainPlain, OwnPlain, IsLater, ListPlain, later_plain, SortsWell, in_inners, arms_cover, arms_are_apart}
+use Rattle.emit_laws.proofs.Arms.{IsPlain, ChainPlain, OwnPlain, IsLater, ListPlain, IsListed, SortsWell, in_inners, arms_cover, arms_are_apart}
 use Rattle.emit_laws.proofs.Behind.{IsOwn, times_in, AreOnce, all_nodes, AreHeld, behind_covers}
 use Rattle.emit_laws.proofs.Chaining.{entered_from, RankedCover, chained_covers, chained_entries}
 use Rattle.emit_laws.proofs.Kept.{AllNests, AllInners, AllSiblings, nests_weigh, inners_weigh, siblings_weigh, list_keeps, all_weigh, head_nest, list_head}
-use Rattle.emit_laws.proofs.Placing.{inner_entries, seen_from, around_of, InnersCover, IsFine, AllFine, ListCovers, Comes, list_comes}
+use Rattle.emit_laws.proofs.Placing.{inner_entries, seen_from, IsFine, AllFine, ListCovers, list_comes}
 use Rattle.emit_laws.proofs.Seeing.{IsAmong}
 use Rattle.emit_laws.proofs.Ways.{IsFlat, node_way}
 
@@ -164,23 +163,23 @@ module _ (flow : FlowTree) (sort : Sort) (sorts : SortsWell flow sort) where
     once_inside : (node : ℕ) → inners_weigh (times_in node) sibling.inside ≤ 1
     once_inside node = let both = once node in omega (arith, both)
 
-    -- what goes inside of a loop, whose body is covered with that ahead
-    loop_filled : (heads : List ℕ) (body : Chain) (test : ℕ → Bool) → leavings flow sibling.nest ≡ node_leavings flow test (chain_nodes body) → nest_nodes sibling.nest ≡ chain_nodes body →
+    -- what goes inside of a loop, whose body is covered with that ahead, is a covered list with the body
+    pub loop_listed : (heads : List ℕ) (body : Chain) (test : ℕ → Bool) → leavings flow sibling.nest ≡ node_leavings flow test (chain_nodes body) → nest_nodes sibling.nest ≡ chain_nodes body →
         ChainPlain body → CoversChain flow all_entries_in nowhere (with_nodes heads (either_of (with_nodes (inner_entries sibling.inside) there) known)) body →
-        CoversChain flow chain_entries nowhere (with_nodes heads (either_of there known)) (sort [] (behind_nodes (listed body) sibling.inside))
-    loop_filled heads no_nests test ways_are nodes_are plain covers = elim plain [ ]
-    loop_filled heads (more_nests first others) test ways_are nodes_are plain covers =
-        sorts.covers true nowhere (with_nodes heads (either_of there known)) [] (behind_nodes (listed (more_nests first others)) sibling.inside)
-        (behind_plain first (listed others) sibling.inside plain.0 (own_listed others plain.1) inners)
-        (behind_covers flow true ahead known there heads (inner_entries sibling.inside) (listed (more_nests first others)) sibling.inside
-        (listed_covers flow true nowhere (with_nodes heads (either_of (with_nodes (inner_entries sibling.inside) there) known)) (more_nests first others) plain covers)
-        once_listed (only_own sibling.inside inners) fine.inner held)
-        (λ node.
-        let weight = behind_weighs (times_in node) (listed (more_nests first others)) sibling.inside in
-        let body = weigh_listed node (more_nests first others) in
-        let both = once node in
-        let same : times_in node sibling.nest ≡ times node (chain_nodes (more_nests first others)) = ap (times node) nodes_are in
-        omega (arith, weight, body, both, same))
+        IsListed flow true nowhere (with_nodes heads (either_of there known)) (behind_nodes (listed body) sibling.inside)
+    loop_listed heads no_nests test ways_are nodes_are plain covers = elim plain [ ]
+    loop_listed heads (more_nests first others) test ways_are nodes_are plain covers = record {
+      plain = behind_plain first (listed others) sibling.inside plain.0 (own_listed others plain.1) inners;
+      covers = behind_covers flow true ahead known there heads (inner_entries sibling.inside) (listed (more_nests first others)) sibling.inside
+          (listed_covers flow true nowhere (with_nodes heads (either_of (with_nodes (inner_entries sibling.inside) there) known)) (more_nests first others) plain covers)
+          once_listed (only_own sibling.inside inners) fine.inner held;
+      once = λ node.
+          let weight = behind_weighs (times_in node) (listed (more_nests first others)) sibling.inside in
+          let body = weigh_listed node (more_nests first others) in
+          let both = once node in
+          let same : times_in node sibling.nest ≡ times node (chain_nodes (more_nests first others)) = ap (times node) nodes_are in
+          omega (arith, weight, body, both, same);
+    }
       where
         once_listed : AreOnce (listed (more_nests first others))
         once_listed node =
@@ -196,6 +195,12 @@ module _ (flow : FlowTree) (sort : Sort) (sorts : SortsWell flow sort) where
             let placed = fine.placed found.0 found.1 way.0 (subst (λ (ways : List Leaving). IsAmong way.0 ways) (sym ways_are) way.1)
             (subst (λ (one : ℕ). IsIn one (nest_entries (found.0).nest)) (sym way.2) found.2) in
             (found.0, found.1, found.2, sym placed.0 ∙ way.3)
+
+    loop_filled : (heads : List ℕ) (body : Chain) (test : ℕ → Bool) → leavings flow sibling.nest ≡ node_leavings flow test (chain_nodes body) → nest_nodes sibling.nest ≡ chain_nodes body →
+        ChainPlain body → CoversChain flow all_entries_in nowhere (with_nodes heads (either_of (with_nodes (inner_entries sibling.inside) there) known)) body →
+        CoversChain flow chain_entries nowhere (with_nodes heads (either_of there known)) (sort [] (behind_nodes (listed body) sibling.inside))
+    loop_filled heads body test ways_are nodes_are plain covers =
+        sorts.covers true nowhere (with_nodes heads (either_of there known)) [] (behind_nodes (listed body) sibling.inside) (loop_listed heads body test ways_are nodes_are plain covers)
 
     -- which is entered where the body is
     loop_entries : (body : Chain) → ChainPlain body → chain_entries (sort [] (behind_nodes (listed body) sibling.inside)) ≡ chain_entries body
@@ -248,17 +253,33 @@ module _ (flow : FlowTree) (sort : Sort) (sorts : SortsWell flow sort) where
   later_all [] all = tt
   later_all (nest ∷ others) all = ((all.0).1, later_all others all.1)
 
-  sorted_covers : (may : Bool) (ahead known : Nodes) (after : List ℕ) (nests : List Nest) → ListPlain nests → ListCovers flow all_entries_in may ahead known nests → AreOnce nests →
+  all_plain : (after : List ℕ) (nests : List Nest) → ListPlain nests → AllSiblings IsPlain IsLater (put_all flow true after nothing_sorted nests)
+  all_plain after [] plain = tt
+  all_plain after (first ∷ others) plain = list_keeps IsPlain IsLater flow true after first others plain.0 (later_all others plain.1) plain.1
+
+  -- what comes of a covered list
+  pub record IsPut (ahead known : Nodes) (siblings : List Sibling) : Type 0 where
+    pub table : Table
+    pub fine : AllFine flow all_entries_in true ahead known [] table 0 siblings
+    pub plain : AllSiblings IsPlain IsLater siblings
+    pub once : (node : ℕ) → siblings_weigh (times_in node) siblings ≤ 1
+
+  pub listed_put : (may : Bool) (ahead known : Nodes) (after : List ℕ) (nests : List Nest) → IsListed flow may ahead known nests → IsPut ahead known (put_all flow true after nothing_sorted nests)
+  listed_put may ahead known after nests is =
+      let comes = list_comes flow all_entries_in true ahead known after nests (of_any flow true ahead known may nests is.covers) in
+      record {
+        table = comes.table;
+        fine = comes.fine;
+        plain = all_plain after nests is.plain;
+        once = λ node. let all = all_weigh (times_in node) flow true after nothing_sorted nests in let most = is.once node in omega (arith, all, most);
+      }
+
+  sorted_covers : (may : Bool) (ahead known : Nodes) (after : List ℕ) (nests : List Nest) → IsListed flow may ahead known nests →
       CoversChain flow chain_entries ahead known (chained (all_filled flow sort after (put_all flow true after nothing_sorted nests)))
-  sorted_covers may ahead known after nests plain covers once =
-      let comes = list_comes flow all_entries_in true ahead known after nests (of_any flow true ahead known may nests covers) in
+  sorted_covers may ahead known after nests is =
+      let comes = listed_put may ahead known after nests is in
       chained_covers flow ahead known (all_filled flow sort after (put_all flow true after nothing_sorted nests))
-      (siblings_filled ahead known after comes.table 0 (put_all flow true after nothing_sorted nests) comes.fine (all_plain nests plain)
-      (λ node. let all = all_weigh (times_in node) flow true after nothing_sorted nests in let most = once node in omega (arith, all, most)))
-    where
-      all_plain : (nests : List Nest) → ListPlain nests → AllSiblings IsPlain IsLater (put_all flow true after nothing_sorted nests)
-      all_plain [] plain = tt
-      all_plain (first ∷ others) plain = list_keeps IsPlain IsLater flow true after first others plain.0 (later_all others plain.1) plain.1
+      (siblings_filled ahead known after comes.table 0 (put_all flow true after nothing_sorted nests) comes.fine comes.plain comes.once)
 
   -- a list is entered where its first nest is
   filled_first : (after : List ℕ) (siblings : List Sibling) (first : Nest) → head_nest siblings ≡ Some first → IsPlain first → chain_entries (chained (all_filled flow sort after siblings)) ≡ nest_entries first

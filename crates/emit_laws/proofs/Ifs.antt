@@ -1,5 +1,5 @@
 -- An `if` as it is written runs as one with both sides.
-use Rattle.std.proofs.Common.{◌≡◌, ◌∙◌, ℕ, Bool, true, false, if◌then◌else◌, refl}
+use Rattle.std.proofs.Common.{◌≡◌, ◌∙◌, Bool, true, false, if◌then◌else◌, refl}
 use Rattle.cr_runs.specs.Runs.{Ran, came, halted, bad, out, bind}
 use Rattle.cr_world.specs.World.{World, Stop}
 use Rattle.rs_text.specs.Tree.{Expr, Stmt, If, Stmts, no_stmts, more_stmts}

@@ -1,12 +1,12 @@
 -- What sorting keeps: every nest of a list is in it, or inside of one of its nests, and no other.
-use Rattle.std.proofs.Common.{◌≡◌, ◌∙◌, ◌⊎◌, inl, inr, ℕ, zero, suc, ◌+◌, ◌<◌, ◌==◌, Bool, true, false, ◌&&◌, not, List, [], ◌∷◌, ◌++◌, length, map, Option, Some, None, slice_get, if◌then◌else◌, arith, refl, sym, ap, subst}
+use Rattle.std.proofs.Common.{◌≡◌, ℕ, zero, suc, ◌+◌, ◌<◌, ◌==◌, Bool, true, false, ◌&&◌, not, List, [], ◌∷◌, ◌++◌, length, map, Option, Some, None, slice_get, if◌then◌else◌, arith, refl, sym, subst}
 use Rattle.std.specs.Prelude.{⊤}
 use Rattle.std.specs.List.{filter}
 use Rattle.flow.specs.Flows.{FlowTree}
 use Rattle.emit.specs.Nests.{Nest, nest_entries}
-use Rattle.emit.specs.Places.{Seen, Table}
+use Rattle.emit.specs.Places.{Seen}
 use Rattle.emit.specs.Sorting.{Inner, Sibling, Sorted, nothing_sorted, only_entry, seen_at, stays, sibling_holds, goes_inside, with_inner, put_inside, first_from, put_behind, put_seen, put, all_entries, put_all, nest_of, at_arm}
-use Rattle.emit_laws.proofs.Closing.{and_left, and_right}
+use Rattle.emit_laws.proofs.Closing.{and_right}
 
 -- ---- what holds of each
 

@@ -1,20 +1,18 @@
 -- Lists in which no nest goes into an arm are sorted well, and so are all lists.
-use Rattle.std.proofs.Common.{◌≡◌, ◌∙◌, ℕ, zero, suc, ◌≤◌, ◌==◌, nat_lt, Bool, true, false, ◌&&◌, ◌||◌, List, [], ◌∷◌, ◌++◌, map, length, Option, Some, None, arith, refl, sym, ap, subst}
+use Rattle.std.proofs.Common.{◌≡◌, ◌∙◌, ℕ, zero, suc, nat_lt, Bool, false, ◌&&◌, ◌||◌, List, [], ◌∷◌, ◌++◌, map, Some, refl, sym, ap, subst}
 use Rattle.std.proofs.Math.Path.{fun_ext}
-use Rattle.std.specs.Prelude.{⊤}
 use Rattle.reloop.specs.Graphs.{is_in, IsIn}
 use Rattle.flow.specs.Flows.{FlowTree}
-use Rattle.emit.specs.Chains.{Ranked, chained}
-use Rattle.emit.specs.Nests.{Nest, single, choice, group, repeated, dispatched, Chain, no_nests, more_nests, Chains, no_chains, more_chains, listed, nest_entries, chain_entries}
+use Rattle.emit.specs.Chains.{chained}
+use Rattle.emit.specs.Nests.{Nest, single, choice, group, repeated, dispatched, Chain, no_nests, more_nests, no_chains, more_chains, nest_entries, chain_entries}
 use Rattle.emit.specs.Places.{Table}
 use Rattle.emit.specs.Sorting.{Sibling, nothing_sorted, all_entries, put_all, unfilled, arranged, level, all_level, sorted_within}
 use Rattle.emit_laws.specs.Covers.{Nodes, nowhere, with_nodes, either_of, all_entries_in, CoversNest, CoversChain}
 use Rattle.emit_laws.proofs.Arms.{IsPlain, ChainPlain, OwnPlain, IsLater, ListPlain, SortsWell}
-use Rattle.emit_laws.proofs.Behind.{IsOwn, AreOnce}
 use Rattle.emit_laws.proofs.Chaining.{entered_from, RankedCover, chained_covers, chained_entries}
-use Rattle.emit_laws.proofs.Filling.{entries_listed, plain_flat, sorts_deeper}
+use Rattle.emit_laws.proofs.Filling.{sorts_deeper}
 use Rattle.emit_laws.proofs.Kept.{AllNests, head_nest, list_head}
-use Rattle.emit_laws.proofs.Placing.{inner_entries, seen_from, IsFine, AllFine, ListCovers, list_comes}
+use Rattle.emit_laws.proofs.Placing.{inner_entries, seen_from, AllFine, ListCovers, list_comes}
 use Rattle.emit_laws.proofs.Ways.{IsFlat}
 
 -- ---- lists in which nothing goes inside
@@ -135,7 +133,7 @@ module _ (flow : FlowTree) where
 
   pub sorts_well : (depth : ℕ) → SortsWell flow (sorted_within flow depth)
   sorts_well zero = record {
-    covers = λ may ahead known after nests plain covers once. arranged_covers ahead known after (map (level flow) nests) (list_covers may ahead known nests plain covers);
+    covers = λ may ahead known after nests is. arranged_covers ahead known after (map (level flow) nests) (list_covers may ahead known nests is.plain is.covers);
     entries = λ after first others plain. arranged_entries after (level flow first) (map (level flow) others) ∙ level_entries first plain.0;
     nothing = λ after. refl;
   }

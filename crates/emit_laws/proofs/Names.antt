@@ -1,5 +1,5 @@
 -- Labels of different numbers differ.
-use Rattle.std.proofs.Common.{◌≡◌, ◌≢◌, ◌∙◌, ℕ, zero, suc, ◌^◌, ◌<◌, ◌≤◌, ◌==◌, nat_lt, Bool, true, false, IsTrue, List, [], ◌∷◌, ◌++◌, codes, bytes_eq, length, replicate, if◌then◌else◌, arith, tests, refl, sym, ap, subst}
+use Rattle.std.proofs.Common.{◌≡◌, ◌≢◌, ◌∙◌, ℕ, ◌^◌, ◌<◌, ◌≤◌, nat_lt, Bool, true, false, bytes_eq, length, replicate, if◌then◌else◌, arith, tests, refl, sym, ap}
 use Rattle.std.proofs.lemmas.Fmt.{decimal_injective, length-decimal-le}
 use Rattle.std.proofs.lemmas.List.{length-replicate}
 use Rattle.std.specs.Cmp.Lexicographic.{same_text}

@@ -1,14 +1,14 @@
 -- Statements with labels by depth run as those without.
-use Rattle.std.proofs.Common.{◌≡◌, ◌∙◌, ℕ, zero, suc, ◌<◌, Bool, true, false, ◌&&◌, List, [], ◌∷◌, map, length, Option, Some, None, bytes_eq, if◌then◌else◌, arith, refl, sym, ap, subst}
+use Rattle.std.proofs.Common.{◌≡◌, ◌∙◌, ℕ, zero, suc, ◌<◌, Bool, true, false, List, [], ◌∷◌, map, length, Some, None, bytes_eq, if◌then◌else◌, arith, refl, sym, ap}
 use Rattle.cr_runs.specs.Runs.{Ran, came, halted, bad, out, bind}
 use Rattle.cr_world.specs.World.{World, Stop}
-use Rattle.rs_text.specs.Tree.{Expr, Stmt, Assign, Eval, CopyBytes, If, Loop, Block, Break, Continue, Match, Return, Stmts, no_stmts, more_stmts, LiteralArm, Arms, no_arms, more_arms}
+use Rattle.rs_text.specs.Tree.{Stmt, Assign, Eval, CopyBytes, If, Loop, Block, Break, Continue, Match, Return, Stmts, no_stmts, more_stmts, LiteralArm, Arms, no_arms, more_arms}
 use Rattle.rs_mean.specs.declared.cause.Cause.{Cause}
-use Rattle.rs_mean.specs.Run.{Frame, Flow, normal, breaks, continues, returned, run_expr, run_stmt, run_stmts, run_arms, run_dropped, then_on, after_block, after_turn, tests, is_arm}
+use Rattle.rs_mean.specs.Run.{Frame, Flow, normal, breaks, continues, returned, run_expr, run_stmt, run_stmts, run_arms, then_on, after_block, after_turn, tests, is_arm}
 use Rattle.rs_mean.specs.Typing.{LabelScope}
 use Rattle.rs_mean.specs.Values.{Typed}
 use Rattle.rs_mean.specs.World.{Run, pure, seq, takes_unit, either, Round, again, done, next_turn, turns_within, rounds}
-use Rattle.rs_mean_ends.specs.Ways.{Way, way_of, goes, is_goes, by_break, by_continue, stmt_ends, stmts_end}
+use Rattle.rs_mean_ends.specs.Ways.{Way, way_of, is_goes, by_break, by_continue, stmt_ends, stmts_end}
 use Rattle.rs_mean_ends.proofs.Ending.{ComesBy, stmt_comes, stmts_come}
 use Rattle.emit.specs.Jumps.{label_of}
 use Rattle.emit.specs.Labels.{numbered_label, numbered_stmt, numbered, numbered_arms}
@@ -38,12 +38,12 @@ by_name around flow = pure (renamed around flow)
 -- ---- labels around
 
 -- a label around is one of a number that is less than theirs
-record IsNumbered (around : List LabelScope) (label : List ℕ) : Type 0 where
-  number : ℕ
-  less : number < length (names around)
-  is : numbered_label (names around) label ≡ label_of number
+pub record IsNumbered (around : List LabelScope) (label : List ℕ) : Type 0 where
+  pub number : ℕ
+  pub less : number < length (names around)
+  pub is : numbered_label (names around) label ≡ label_of number
 
-bound_number : (around : List LabelScope) (label : List ℕ) → is_bound around label ≡ true → IsNumbered around label
+pub bound_number : (around : List LabelScope) (label : List ℕ) → is_bound around label ≡ true → IsNumbered around label
 bound_number [] label is = absurd cc
 bound_number (one ∷ others) label is = by_test (bytes_eq one.name label) refl is (bound_number others label)
   where
@@ -67,7 +67,7 @@ apart_inside around label is =
     let found = bound_number around label is in
     ap (bytes_eq (label_of (length (names around)))) found.is ∙ told_apart (length (names around)) found.number (let less = found.less in λ same. absurd (omega (arith, less, same)))
 
-loop_bound : (around : List LabelScope) (label : List ℕ) → is_loop_label around label ≡ true → is_bound around label ≡ true
+pub loop_bound : (around : List LabelScope) (label : List ℕ) → is_loop_label around label ≡ true → is_bound around label ≡ true
 loop_bound [] label is = absurd cc
 loop_bound (one ∷ others) label is = by_test (bytes_eq one.name label) is (loop_bound others label)
   where

@@ -1,31 +1,31 @@
 -- The statements of nests that cover a flow are owed to any source that goes along it.
-use Rattle.std.proofs.Common.{◌≡◌, ◌≢◌, ◌∙◌, ◌⊎◌, inl, inr, ℕ, zero, suc, pred, ◌+◌, ◌<◌, ◌≤◌, ◌==◌, Bool, true, false, ◌||◌, List, [], ◌∷◌, Option, Some, None, is_some, bytes_eq, if◌then◌else◌, arith, refl, sym, ap, subst}
+use Rattle.std.proofs.Common.{◌≡◌, ◌∙◌, ◌⊎◌, inl, inr, ℕ, zero, suc, pred, ◌+◌, ◌<◌, ◌≤◌, ◌==◌, Bool, true, false, ◌||◌, List, [], ◌∷◌, Option, Some, None, is_some, if◌then◌else◌, arith, refl, sym, ap, subst}
 use Rattle.cr_runs.specs.Owes.{Owes}
 use Rattle.cr_runs_rules.proofs.Rules.{tick_waits}
 use Rattle.cr_world.specs.World.{World, events_of}
 use Rattle.reloop.specs.Graphs.{is_in, IsIn}
-use Rattle.reloop.proofs.Sets.{either, or_left, or_right, decide, not_both, same_number}
-use Rattle.rs_text.specs.Tree.{Stmts, Block}
-use Rattle.rs_mean.specs.Run.{Frame, Flow, normal, breaks, continues, returned, run_stmt, run_stmts, then_on}
+use Rattle.reloop.proofs.Sets.{either, or_left, or_right, not_both, same_number}
+use Rattle.rs_text.specs.Tree.{Stmts}
+use Rattle.rs_mean.specs.Run.{Frame, Flow, normal, breaks, continues, returned, run_stmts}
 use Rattle.rs_mean.specs.Values.{Typed}
 use Rattle.rs_mean.specs.World.{Run, seq, takes_unit}
 use Rattle.rs_mean_frames.specs.Behave.{BodiesBehave}
 use Rattle.rs_mean_frames.proofs.Framed.{pieces_behave}
 use Rattle.flow.specs.Flows.{NodeTree, FlowTree, node_at, targets_in, targets_of}
-use Rattle.flow.specs.Machine.{Onto, to_node, gives_back, run_found}
-use Rattle.flow.specs.Sources.{Source, IsBehind, nothing_left, within_less, weighs_less, IsQuiet, FollowsAfter, StepsAlong}
+use Rattle.flow.specs.Machine.{to_node, gives_back, run_found}
+use Rattle.flow.specs.Sources.{Source, IsBehind, IsQuiet, FollowsAfter, StepsAlong}
 use Rattle.emit.specs.Bodies.{node_stmts, nest_stmts, chain_stmts, arms_stmts, draft_of}
 use Rattle.emit.specs.Jumps.{Jump, Jumps, no_jumps, label_of, goes_to, told, by_own_label, jumps_before, jumps_within}
 use Rattle.emit.specs.Nests.{Nest, single, choice, group, repeated, dispatched, Chain, no_nests, more_nests, Chains, no_chains, more_chains, nest_entries, chain_entries, nest_is_told, chain_is_told}
-use Rattle.emit.specs.Texts.{one_stmt, choice_stmts, loop_of}
+use Rattle.emit.specs.Texts.{one_stmt, loop_of}
 use Rattle.emit_laws.specs.Covers.{Nodes, nowhere, with_nodes, either_of, CoversNest, CoversChain, CoverArms, Covers}
-use Rattle.emit_laws.specs.Tells.{Reads, CanTell, nest_chooses, chain_chooses, chains_choose}
+use Rattle.emit_laws.specs.Tells.{CanTell, nest_chooses, chain_chooses, chains_choose}
 use Rattle.emit_laws.proofs.Blocks.{block_runs, loop_runs}
 use Rattle.emit_laws.proofs.Branches.{StaysWithin, AllAt, after, node_runs}
 use Rattle.emit_laws.proofs.Measure.{rank, gets_less}
 use Rattle.emit_laws.proofs.Names.{told_apart}
 use Rattle.emit_laws.proofs.Picks.{pick, arms_at, choice_runs}
-use Rattle.emit_laws.proofs.Serving.{flow_of, IsFrom, no_more, behind_behind, from_behind, from_from, behind_from, Owed, owed_by, owed_from, Ready, Served, Serves, Returns, IsSilent, owed_less, served_less, told_owed, goes_owed}
+use Rattle.emit_laws.proofs.Serving.{flow_of, IsFrom, no_more, from_behind, from_from, behind_from, Owed, owed_by, owed_from, Ready, Served, Serves, Returns, IsSilent, owed_less, served_less, told_owed, goes_owed}
 use Rattle.emit_laws.proofs.Turns.{silent_seq, looped, after_body, loop_is, round_normal, round_continues, round_breaks, round_returned, round_breaks_other, round_continues_other, round_silent, after_inside, block_is, inside_normal, inside_breaks, inside_returned, inside_continues, inside_breaks_other, inside_silent}
 
 -- what one or the other needs, the one needs
@@ -247,7 +247,7 @@ module _ {F S A B P : Type 0} (source : Source F S A P) (frame : Frame) (behave 
   no_arms_owed around ways served targets covers can to world there at = way_owed around ways served to world (covers to there) at
 
   more_arms_owed : (inner : Chain) (others : Chains) → ChainOwed inner → ArmsOwed others → ArmsOwed (more_chains inner others)
-  more_arms_owed inner others first rest around ways served [] covers can to world there at = absurd cc
+  more_arms_owed inner others first rest around ways served [] covers can to world there at = elim covers [ ]
   more_arms_owed inner others first rest around ways served (target ∷ targets) covers can to world there at = by_target (to == target) refl
     where
       inside : (held : Bool) → is_in target (chain_entries inner) ≡ held → At around.position target world →
@@ -257,7 +257,7 @@ module _ {F S A B P : Type 0} (source : Source F S A P) (frame : Frame) (behave 
           told_owed source frame At Back Good most_units most_steps around.next around.n around.m around.position target world (chain_is_told inner) (chain_stmts flow inner around.label around.jumps)
           (λ tells. can (or_left (chain_chooses inner) (chains_choose others) (chain_told_chooses inner tells))) here
           (λ start ready. first around (covers.0 is) (of_left (chain_chooses inner) (chains_choose others) can) target start is ready)
-      inside false is here = way_owed around ways served target world (covers.1 is) here
+      inside false is here = way_owed around ways served target world (covers.1 is).1 here
 
       by_target : (here : Bool) → (to == target) ≡ here →
           OwedAt around.n around.m around.position

@@ -1,17 +1,16 @@
 -- What stands at a target is told by the target.
-use Rattle.std.proofs.Common.{◌≡◌, ◌∙◌, ◌⊎◌, inl, inr, ℕ, ◌==◌, Bool, true, false, ◌||◌, ℤ, pos, negsuc, List, [], ◌∷◌, map, if◌then◌else◌, refl, sym, ap, subst}
-use Rattle.std.specs.Prelude.{⊤}
+use Rattle.std.proofs.Common.{◌≡◌, ◌∙◌, ℕ, ◌==◌, Bool, true, false, ◌||◌, ℤ, pos, negsuc, List, [], ◌∷◌, map, if◌then◌else◌, refl, sym, ap, subst}
 use Rattle.std.specs.Ordering.{int_eq}
 use Rattle.std.proofs.lemmas.Bool.Decides.{Decides-int_eq}
-use Rattle.cr_runs.specs.Runs.{Ran, came, bind}
+use Rattle.cr_runs.specs.Runs.{Ran, bind}
 use Rattle.cr_world.specs.World.{World, Stop}
 use Rattle.rs_mean.specs.declared.cause.Cause.{Cause}
 use Rattle.mem_bytes.specs.declared.value.Value.TheVariants.{Whole}
 use Rattle.reloop.specs.Graphs.{is_in, IsIn}
-use Rattle.reloop.proofs.Sets.{either, or_left, or_right, both_false, decide, not_both, same_number, equal_itself}
+use Rattle.reloop.proofs.Sets.{or_left, or_right, both_false, not_both, same_number, equal_itself}
 use Rattle.rs_text.specs.declared.integer.IntegerTy.TheVariants.{U32}
 use Rattle.rs_text.specs.Tree.{Integer, Read, Match, Stmts, no_stmts, LiteralArm, Arms, more_arms}
-use Rattle.rs_mean.specs.Run.{Frame, Flow, run_arms, run_stmts, run_expr, is_arm}
+use Rattle.rs_mean.specs.Run.{Frame, Flow, run_arms, run_stmts, run_expr}
 use Rattle.rs_mean.specs.Values.{Typed, typed}
 use Rattle.rs_mean.specs.World.{Run, seq, either as one_of}
 use Rattle.flow.specs.Flows.{FlowTree}

@@ -1,18 +1,18 @@
 -- Where each nest of a list goes: from each of its nodes there is a way to each of its targets, in the list or in an arm.
-use Rattle.std.proofs.Common.{◌≡◌, ◌≢◌, ◌∙◌, ◌⊎◌, inl, inr, ℕ, zero, suc, ◌+◌, ◌<◌, ◌≤◌, ◌==◌, nat_lt, Bool, true, false, ◌&&◌, ◌||◌, not, List, [], ◌∷◌, ◌++◌, length, map, Option, Some, None, slice_get, if◌then◌else◌, arith, refl, sym, ap, subst}
-use Rattle.std.specs.Prelude.{⊤, flat_map}
-use Rattle.std.proofs.lemmas.Bool.{le-ltb, ltb-false, ltb-true, lt-ltb}
+use Rattle.std.proofs.Common.{◌≡◌, ◌≢◌, ◌∙◌, ◌⊎◌, inl, inr, ℕ, zero, suc, ◌+◌, ◌<◌, ◌≤◌, ◌==◌, nat_lt, Bool, true, false, ◌&&◌, ◌||◌, not, List, [], ◌∷◌, ◌++◌, length, Option, Some, None, slice_get, if◌then◌else◌, arith, refl, sym, ap, subst}
+use Rattle.std.specs.Prelude.{⊤}
+use Rattle.std.proofs.lemmas.Bool.{lt-ltb}
 use Rattle.reloop.specs.Graphs.{is_in, IsIn}
 use Rattle.reloop.proofs.Sets.{either, or_left, or_right, in_append, same_number, equal_itself}
-use Rattle.flow.specs.Flows.{FlowTree, targets_of}
+use Rattle.flow.specs.Flows.{FlowTree}
 use Rattle.emit.specs.Nests.{Nest, Chain, nest_entries}
-use Rattle.emit.specs.Places.{Leaving, leavings, Seen, least, first_of, Table, see_all}
-use Rattle.emit.specs.Sorting.{Inner, Sibling, Sorted, nothing_sorted, count_to, only_entry, seen_at, stays, sibling_holds, goes_inside, out_of_arm, with_inner, ahead_with, put_inside, first_from, put_behind, put_seen, put, all_entries, put_all}
+use Rattle.emit.specs.Places.{Leaving, leavings, Seen, first_of, Table, see_all}
+use Rattle.emit.specs.Sorting.{Inner, Sibling, Sorted, nothing_sorted, only_entry, seen_at, stays, sibling_holds, goes_inside, out_of_arm, with_inner, put_inside, first_from, put_behind, put_seen, put, all_entries, put_all}
 use Rattle.emit_laws.specs.Covers.{Nodes, nowhere, with_nodes, either_of, CoversNest}
 use Rattle.emit_laws.proofs.Closing.{and_left, and_right, and_both}
-use Rattle.emit_laws.proofs.Covering.{either_by, in_left, in_right, in_first, nest_more}
+use Rattle.emit_laws.proofs.Covering.{either_by, in_left, in_right, nest_more}
 use Rattle.emit_laws.proofs.Seeing.{IsAmong, least_left, least_right, IsSeen, AreTold, AreBefore, all_keep, all_seen, all_told, all_before}
-use Rattle.emit_laws.proofs.Ways.{IsFlat, among_append, among_left, among_right, alone, flat_grows}
+use Rattle.emit_laws.proofs.Ways.{IsFlat, among_append, alone, flat_grows}
 
 -- ---- what goes inside
 

@@ -1,5 +1,5 @@
 -- Pieces of runs one behind another.
-use Rattle.std.proofs.Common.{◌≡◌, ◌∙◌, ℕ, refl, sym, ap}
+use Rattle.std.proofs.Common.{◌≡◌, ℕ, refl, ap}
 use Rattle.std.proofs.Math.Path.{fun_ext}
 use Rattle.cr_runs.proofs.Rules.{bind_bind, bind_came}
 use Rattle.cr_world.specs.World.{World}

@@ -1,5 +1,5 @@
 -- What is seen of the ways to a node: they come out of a nest of the list with this number or an earlier one, and where they all come out of one arm, which it is.
-use Rattle.std.proofs.Common.{◌≡◌, ◌≢◌, ◌∙◌, ◌⊎◌, inl, inr, ℕ, suc, ◌<◌, ◌≤◌, ◌==◌, nat_lt, Bool, true, false, ◌&&◌, List, [], ◌∷◌, Option, Some, None, if◌then◌else◌, arith, refl, sym, ap, subst}
+use Rattle.std.proofs.Common.{◌≡◌, ◌∙◌, ◌⊎◌, inl, inr, ℕ, ◌<◌, ◌≤◌, ◌==◌, nat_lt, Bool, true, false, ◌&&◌, List, [], ◌∷◌, Option, Some, None, if◌then◌else◌, arith, refl, sym, ap, subst}
 use Rattle.std.proofs.lemmas.Bool.{ltb-false, ltb-true}
 use Rattle.reloop.proofs.Sets.{same_number, equal_itself}
 use Rattle.emit.specs.Places.{Leaving, Seen, least, see, Table, with_seen, see_all}

@@ -1,22 +1,22 @@
 -- What follows a text serves the nodes to which it goes: at each of them it is owed to the source.
-use Rattle.std.proofs.Common.{◌≡◌, ◌≢◌, ◌∙◌, ◌⊎◌, inl, inr, ℕ, zero, suc, pred, ◌+◌, ◌*◌, ◌<◌, ◌≤◌, Bool, true, false, List, [], ◌∷◌, Option, Some, None, arith, refl, sym, ap, subst, if◌then◌else◌}
+use Rattle.std.proofs.Common.{◌≡◌, ◌∙◌, ◌⊎◌, inl, inr, ℕ, ◌<◌, ◌≤◌, Bool, true, false, List, Option, Some, arith, refl, sym, ap, subst, if◌then◌else◌}
 use Rattle.std.proofs.Math.Path.{fun_ext}
 use Rattle.cr_runs.specs.Runs.{Ran, came, bind}
 use Rattle.cr_runs.specs.Owes.{Owes, Rests}
 use Rattle.cr_runs.proofs.Rules.{below}
 use Rattle.cr_world.specs.World.{World, Stop, events_of}
 use Rattle.rs_mean.specs.declared.cause.Cause.{Cause}
-use Rattle.rs_text.specs.Tree.{Stmt, Break, Continue, Stmts, no_stmts, more_stmts}
+use Rattle.rs_text.specs.Tree.{Break, Continue, Stmts}
 use Rattle.rs_mean.specs.Run.{Frame, Flow, normal, breaks, continues, returned, run_stmt, run_stmts, then_on}
 use Rattle.rs_mean.specs.Values.{Typed}
 use Rattle.rs_mean.specs.World.{Run, pure, seq}
 use Rattle.flow.specs.Sources.{Source, IsBehind, nothing_left, within_less, weighs_less}
-use Rattle.emit.specs.Jumps.{Jump, Jumps, label_of, tells, told, by_label, leaves, jump_stmts, goes_to}
+use Rattle.emit.specs.Jumps.{Jump, Jumps, label_of, tells, told, leaves, jump_stmts, goes_to}
 use Rattle.emit.specs.Texts.{one_stmt}
 use Rattle.emit_laws.specs.Covers.{Nodes}
-use Rattle.emit_laws.specs.Tells.{Reads, IsTold, CanTell}
+use Rattle.emit_laws.specs.Tells.{Reads, CanTell}
 use Rattle.emit_laws.proofs.Ifs.{run_one}
-use Rattle.emit_laws.proofs.Runs.{seq_seq, pure_seq}
+use Rattle.emit_laws.proofs.Runs.{pure_seq}
 
 -- the flow of a jump by its label
 abbrev pub flow_of : Jump → Flow

@@ -1,5 +1,5 @@
 -- What follows the body of a loop, and statements in a block.
-use Rattle.std.proofs.Common.{◌≡◌, ◌∙◌, ℕ, Bool, true, false, List, Option, Some, None, bytes_eq, refl, sym, ap, subst}
+use Rattle.std.proofs.Common.{◌≡◌, ◌∙◌, ℕ, Bool, true, false, List, Option, Some, bytes_eq, refl, sym, ap, subst}
 use Rattle.std.proofs.lemmas.Slice.Eq.{bytes_eq-Decides}
 use Rattle.cr_runs.specs.Owes.{Rests}
 use Rattle.cr_runs.specs.Runs.{Ran, came, halted, bad, out, bind}
@@ -13,7 +13,7 @@ use Rattle.rs_mean_frames.specs.Behave.{Behaves, BodiesBehave}
 use Rattle.rs_mean_frames.proofs.Behaving.{behaves_pure}
 use Rattle.rs_mean_frames.proofs.Framed.{pieces_behave, loops_unfold, after_behaves}
 use Rattle.rs_text.specs.Tree.{Loop, Block, Stmts}
-use Rattle.emit_laws.proofs.Runs.{same_runs, seq_seq, seq_with, pure_seq}
+use Rattle.emit_laws.proofs.Runs.{same_runs, seq_seq, pure_seq}
 
 pub same_label : (label : List ℕ) → bytes_eq label label ≡ true
 same_label label = (bytes_eq-Decides label label).1 refl

@@ -1,6 +1,6 @@
 -- Statements that break and continue to labels around them alone (the Rust Reference, "Loop labels" and "Labelled block expressions"). A label is that of the innermost loop or block
 -- which has it.
-use Rattle.std.specs.Prelude.{ℕ, Bool, true, false, ◌&&◌, List, [], ◌∷◌, Option, Some, None, bytes_eq, if◌then◌else◌}
+use Rattle.std.specs.Prelude.{ℕ, Bool, true, false, ◌&&◌, List, [], ◌∷◌, Some, None, bytes_eq, if◌then◌else◌}
 use Rattle.rs_text.specs.Tree.{Stmt, Assign, Eval, CopyBytes, If, Loop, Block, Break, Continue, Match, Return, Stmts, no_stmts, more_stmts, LiteralArm, Arms, no_arms, more_arms}
 use Rattle.rs_mean.specs.Typing.{LabelScope}
 

@@ -1,5 +1,5 @@
 -- Nests that cover a flow: from where each node stands there is a way to each of its targets.
-use Rattle.std.specs.Prelude.{◌≡◌, ⊤, ℕ, Bool, true, false, ◌||◌, List, [], ◌∷◌, ◌++◌, Option, Some, None, is_some, if◌then◌else◌}
+use Rattle.std.specs.Prelude.{◌≡◌, ⊤, ℕ, Bool, true, false, ◌||◌, List, [], ◌∷◌, ◌++◌, is_some, if◌then◌else◌}
 use Rattle.reloop.specs.Graphs.{is_in, IsIn}
 use Rattle.flow.specs.Flows.{FlowTree, node_at, targets_of}
 use Rattle.emit.specs.Nests.{Nest, single, choice, group, repeated, dispatched, Chain, no_nests, more_nests, Chains, no_chains, more_chains, nest_entries, chain_entries}
@@ -58,12 +58,12 @@ module _ (flow : FlowTree) (behind : Chain → List ℕ) where
     CoversChain ahead known no_nests = ⊤
     CoversChain ahead known (more_nests first others) = CoversNest (with_nodes (behind others) ahead) known first × CoversChain ahead known others
 
-    -- each arm holds nests that are entered at its target and cover, or there is a way to this
+    -- each arm holds nests that are entered at its target and cover, or it holds none and there is a way to this
     pub CoverArms : (ways ahead known : Nodes) → Chains → List ℕ → Type 0
     CoverArms ways ahead known no_chains targets = (target : ℕ) → IsIn target targets → ways target ≡ true
-    CoverArms ways ahead known (more_chains inner others) [] = ⊤
+    CoverArms ways ahead known (more_chains inner others) [] = ⊥
     CoverArms ways ahead known (more_chains inner others) (target ∷ targets) =
-        (is_in target (chain_entries inner) ≡ true → CoversChain ahead known inner) × (is_in target (chain_entries inner) ≡ false → ways target ≡ true)
+        (is_in target (chain_entries inner) ≡ true → CoversChain ahead known inner) × (is_in target (chain_entries inner) ≡ false → (inner ≡ no_nests) × (ways target ≡ true))
         × CoverArms ways ahead known others targets
 
 -- nests that are written as they stand cover: each can be left for the beginning of the next one

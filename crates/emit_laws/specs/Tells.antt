@@ -1,5 +1,5 @@
 -- Worlds in which `current_block` says at which node a dispatch is entered.
-use Rattle.std.specs.Prelude.{◌≡◌, ℕ, Bool, true, false, ◌||◌, pos, List}
+use Rattle.std.specs.Prelude.{◌≡◌, ℕ, Bool, true, false, ◌||◌, pos}
 use Rattle.cr_runs.specs.Runs.{came}
 use Rattle.cr_world.specs.World.{World}
 use Rattle.mem_bytes.specs.declared.value.Value.TheVariants.{Whole}
