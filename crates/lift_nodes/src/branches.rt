@@ -188,9 +188,9 @@ fn decided_unused(
     second: Written,
 ) -> Result<Written, Memory>
     ensures { IfOk result (λ made. text_view made ≡ record {
-        body = (text_view first).body ++ spec.decides (deciding_view which) (operand_view test_ty.now first.given) (text_view second).body [];
-        given = given.nothing;
-        next = second.next;
+      body = (text_view first).body ++ spec.decides (deciding_view which) (operand_view test_ty.now first.given) (text_view second).body [];
+      given = given.nothing;
+      next = second.next;
     }) }
 {
     let next = second.next;
@@ -243,7 +243,15 @@ pub fn decided_node(
     if !acts(true, right) {
         decided_plainly(alloc, which, test_ty.get(), other_ty.get(), first, second)
     } else if used {
-        decided_held(alloc, names, which, test_ty.get(), other_ty.get(), first, second)
+        decided_held(
+            alloc,
+            names,
+            which,
+            test_ty.get(),
+            other_ty.get(),
+            first,
+            second,
+        )
     } else {
         decided_unused(alloc, which, test_ty.get(), first, second)
     }

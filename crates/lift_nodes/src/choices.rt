@@ -74,12 +74,7 @@ fn part_taken(
 }
 
 // What the temporary of a number gives.
-fn temporary_given(
-    alloc: Global,
-    names: &NameMap,
-    ty: &Ty,
-    number: u32,
-) -> Result<RGiven, Memory>
+fn temporary_given(alloc: Global, names: &NameMap, ty: &Ty, number: u32) -> Result<RGiven, Memory>
     ensures { IfOk result (λ made. given_view made ≡
         text.temporary_given (view_type ty.now) (temporary_place (lift_names (view_names names.now)) number)) }
 {
@@ -102,7 +97,11 @@ fn chosen_held(
     ensures { IfOk result (λ made. text_view made ≡
         text.chosen_by_branch (lift_names (view_names names.now)) true (view_type ty.now) (operand_view test_ty.now three.test.given) (choice_view three)) }
 {
-    let Choice { test, first, second } = three;
+    let Choice {
+        test,
+        first,
+        second,
+    } = three;
     let number = second.next;
     let next = number_behind(number)?;
     let first = part_taken(alloc, names, ty, number, first)?;
@@ -117,12 +116,16 @@ fn chosen_held(
 // Its value isn't used.
 fn chosen_unused(alloc: Global, test_ty: &RTy, three: Choice) -> Result<Written, Memory>
     ensures { IfOk result (λ made. text_view made ≡ record {
-        body = (choice_view three).test.body ++ spec.branch (operand_view test_ty.now three.test.given) (choice_view three).first.body (choice_view three).second.body;
-        given = given.nothing;
-        next = three.second.next;
+      body = (choice_view three).test.body ++ spec.branch (operand_view test_ty.now three.test.given) (choice_view three).first.body (choice_view three).second.body;
+      given = given.nothing;
+      next = three.second.next;
     }) }
 {
-    let Choice { test, first, second } = three;
+    let Choice {
+        test,
+        first,
+        second,
+    } = three;
     let next = second.next;
     let choice = branch(alloc, test_ty, test.given, first.body, second.body)?;
     let mut body = test.body;
@@ -144,7 +147,11 @@ fn chosen_plainly(
     ensures { IfOk result (λ made. text_view made ≡ text.chosen_plainly used (operand_view test_ty.now three.test.given)
         (record { ty = tree.Void; given = given_view three.first.given }) (record { ty = tree.Void; given = given_view three.second.given }) (choice_view three)) }
 {
-    let Choice { test, first, second } = three;
+    let Choice {
+        test,
+        first,
+        second,
+    } = three;
     let next = second.next;
     let body = test.body;
     if !used {

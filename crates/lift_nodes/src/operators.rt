@@ -59,7 +59,14 @@ pub fn binary_node(
     let right_ty = type_in(alloc, names, &right.ty)?;
     let first_given = first.given;
     let second_given = second.given;
-    let given = binary_form(alloc, op, left_ty.get(), first_given, right_ty.get(), second_given)?;
+    let given = binary_form(
+        alloc,
+        op,
+        left_ty.get(),
+        first_given,
+        right_ty.get(),
+        second_given,
+    )?;
     let before = Written {
         body: first.body,
         given: RGiven::Nothing,
