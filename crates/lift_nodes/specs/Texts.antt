@@ -1,5 +1,5 @@
 -- What is written for nodes, by itself: the types of its temporaries are kept with their names.
-use Rattle.std.specs.Prelude.{ℕ, suc, ◌&&◌, ◌||◌, Bool, true, false, not, if◌then◌else◌, List, [], ◌∷◌, ◌++◌}
+use Rattle.std.specs.Prelude.{ℕ, suc, ◌&&◌, ◌||◌, Bool, true, false, if◌then◌else◌, List, [], ◌∷◌, ◌++◌}
 use Rattle.cx_core.specs.Trees.{CTy, CExpr, CPuts}
 use Rattle.cx_core.specs.declared.expr.Op2.{Op2}
 use Rattle.lift_exprs.specs.Lifted.{operand_of, branch, Deciding, decided, decides, decided_form}
