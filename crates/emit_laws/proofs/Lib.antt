@@ -9,6 +9,7 @@ pub mod Counting
 pub mod Covering
 pub mod Drafting
 pub mod Every
+pub mod Example
 pub mod Filling
 pub mod Fits
 pub mod Fitting
