@@ -1,14 +1,17 @@
 -- What is written for nodes, by itself: the types of its temporaries are kept with their names.
 use Rattle.std.specs.Prelude.{ℕ, suc, ◌&&◌, ◌||◌, Bool, true, false, if◌then◌else◌, List, [], ◌∷◌, ◌++◌}
-use Rattle.cx_core.specs.Trees.{CTy, CExpr, CPuts}
+use Rattle.cx_core.specs.Trees.{CTy, CExpr, CPuts, type_of}
+use Rattle.cx_core.specs.Typing.{width_of}
 use Rattle.cx_core.specs.declared.expr.Op2.{Op2}
 use Rattle.lift_exprs.specs.Lifted.{operand_of, branch, Deciding, decided, decides, decided_form}
 use Rattle.lift_exprs.specs.Names.{Names, type_in}
 use Rattle.lift_exprs.specs.Objects.{object_at, is_zeroed, zeroed_where}
+use Rattle.lift_exprs.specs.Stores.{Target, Change, target_of, target_type, stored_value, old_value, changed, step_by_one, promoted_type}
 use Rattle.lift_exprs.specs.Written.{temporary_place, address_of_given, copied}
 use Rattle.lift_forms.specs.Given.{Given, nothing, value, number_of}
 use Rattle.lift_forms.specs.Operators.{Operand, given_value, test_of, binary_form, choice_form, converted}
 use Rattle.lift_held.specs.Held.{is_void, is_record, acts}
+use Rattle.lift_stores.specs.Texts.{stored, changed_behind}
 use Rattle.lift_stores.specs.Views.{Text}
 use Rattle.rs_text.specs.Tree.{Place, Read, AddressOf, Stmt, Assign}
 
@@ -101,3 +104,31 @@ chosen_node names used type test first second three =
 abbrev pub literal_begun : Names → CTy → ℕ → CPuts → ℕ → Text
 literal_begun names type number puts next =
     record { body = zeroed_where (is_zeroed names type puts) names type (object_at names type number); given = nothing; next = next }
+
+-- ---- stores
+
+-- a simple assignment
+abbrev pub assigned : Names → (used : Bool) → CTy → CExpr → Text → Text → Text
+assigned names used type to first second =
+    let target = target_of names type to first.given in
+    stored names used target (stored_value target second.given) (in_turn first second nothing)
+
+abbrev pub changed_first : Names → (used : Bool) → Target → Change → Text → Text
+changed_first names used target change one = stored names used target (changed change (target_type target) (old_value target)) one
+
+-- a compound assignment
+abbrev pub assigned_by : Names → (used : Bool) → CTy → Op2 → (computes : CTy) → CExpr → CExpr → Text → Text → Text
+assigned_by names used type op computes to from first second =
+    changed_first names used (target_of names type to first.given)
+    (record { op = op; computes = type_in names computes; right = record { ty = type_in names (type_of from); given = second.given } })
+    (in_turn first second nothing)
+
+abbrev pub stepped : Names → (used post : Bool) → Target → Change → Text → Text
+stepped names true true target change one = changed_behind names target change one
+stepped names used post target change one = changed_first names used target change one
+
+-- one more, or one less
+abbrev pub stepped_by_one : Names → CTy → (used up post : Bool) → CExpr → Text → Text
+stepped_by_one names type used up post on one =
+    let target = target_of names type on one.given in
+    stepped names used post target (step_by_one up (promoted_type (target_type target) (width_of on))) one
