@@ -6,7 +6,6 @@ parameters and locals of its functions, and of the fields of its records. The na
 have a meaning for, and names with suffixes like those that are given. Where rustc isn't there it says so, and ends with 0.
 """
 
-import argparse
 import shutil
 import subprocess
 import sys
@@ -14,6 +13,10 @@ import tempfile
 from concurrent.futures import ThreadPoolExecutor
 from pathlib import Path
 from random import Random
+
+sys.dont_write_bytecode = True
+
+from random_texts import options_of_rows
 
 KEYWORDS = """
 abstract as async await become box break const continue crate do dyn else enum extern false final fn for gen if impl in let loop macro match mod move
@@ -111,11 +114,7 @@ def refusal(folder):
 
 
 def main():
-    parser = argparse.ArgumentParser(description="Random crates of names alone, by rustc.")
-    parser.add_argument("--rows", required=True, help="the program of the rows of crates")
-    parser.add_argument("--count", type=int, default=40, help="how many crates")
-    parser.add_argument("--seed", type=int, default=18)
-    options = parser.parse_args()
+    options = options_of_rows("Random crates of names alone, by rustc.", "crates", "crates", 40, 18)
     if shutil.which("rustc") is None:
         print("skipped: rustc isn't there")
         return 0

@@ -39,6 +39,15 @@ def options(count):
     return given.c2rs.resolve(), range(given.seed, given.seed + given.count)
 
 
+def options_of_rows(description, group, what, count, seed):
+    """The program of a group of rows, how many things are made, and the seed, as the command line says."""
+    parser = argparse.ArgumentParser(description=description)
+    parser.add_argument("--rows", required=True, help=f"the program of the rows of {group}")
+    parser.add_argument("--count", type=int, default=count, help=f"how many {what}")
+    parser.add_argument("--seed", type=int, default=seed)
+    return parser.parse_args()
+
+
 def tell(what, seeds, outcome):
     """Says what came of each seed, and how the first ones differ; the status of a script that ends so."""
     counts, differences = Counter(), []

@@ -7,7 +7,6 @@ field each member is. rustc tells sizes, alignments and the places of fields. Th
 and ends with 0.
 """
 
-import argparse
 import re
 import shutil
 import subprocess
@@ -20,6 +19,7 @@ from random import Random
 sys.dont_write_bytecode = True
 
 from layout_records import WORKED, answers_by_gcc, random_rows, record_of
+from random_texts import options_of_rows
 
 # names of members: keywords of Rust, words that it has or that the crates have a meaning for, and names like those that fields of bytes get
 NAMES = """
@@ -150,11 +150,7 @@ def faults(modules, answers, laid):
 
 
 def main():
-    parser = argparse.ArgumentParser(description="Random records of C, as they are written in Rust.")
-    parser.add_argument("--rows", required=True, help="the program of the rows of records")
-    parser.add_argument("--count", type=int, default=60, help="how many random records")
-    parser.add_argument("--seed", type=int, default=17)
-    options = parser.parse_args()
+    options = options_of_rows("Random records of C, as they are written in Rust.", "records", "random records", 60, 17)
     for tool in ("gcc", "rustc"):
         if shutil.which(tool) is None:
             print(f"skipped: {tool} isn't there")

@@ -94,6 +94,22 @@ fn read_of(alloc: Global, ty: &Ty, place: Boxed<RPlace>) -> Result<RGiven, Memor
     Ok(RGiven::Place(place))
 }
 
+// The value of a bit-field.
+fn load_field(
+    alloc: Global,
+    names: &NameMap,
+    ty: &Ty,
+    spot: Spot,
+    given: RGiven,
+) -> Result<RGiven, Memory>
+    requires { IsFieldPlace spot.bit spot.width }
+    ensures { IfOk result (λ made. given_view made ≡ stores_spec.field_form (address_of_given (given_view given)) spot (type_in (lift_names (view_names names.now)) (view_type ty.now))) }
+{
+    let base = address_of_given(alloc, given)?;
+    let here = type_in(alloc, names, ty)?;
+    field_form(alloc, base.get(), spot, here.get())
+}
+
 // A bit-field: of an lvalue the base from which it is read or stored, of a value what it holds.
 fn bits_of(
     alloc: Global,
@@ -106,12 +122,10 @@ fn bits_of(
     requires { IsFieldPlace spot.bit spot.width }
     ensures { IfOk result (λ made. given_view made ≡ spec.bits_of (lift_names (view_names names.now)) (view_type ty.now) (view_expr of.now) spot (given_view given)) }
 {
-    let base = address_of_given(alloc, given)?;
     if is_lvalue(of) {
-        return Ok(RGiven::Value(base));
+        return Ok(RGiven::Value(address_of_given(alloc, given)?));
     }
-    let here = type_in(alloc, names, ty)?;
-    field_form(alloc, base.get(), spot, here.get())
+    load_field(alloc, names, ty, spot, given)
 }
 
 /// A member of what is given.
@@ -134,22 +148,6 @@ pub fn member_given(
         return Ok(RGiven::Place(place));
     }
     read_of(alloc, ty, place)
-}
-
-// The value of a bit-field.
-fn load_field(
-    alloc: Global,
-    names: &NameMap,
-    ty: &Ty,
-    spot: Spot,
-    given: RGiven,
-) -> Result<RGiven, Memory>
-    requires { IsFieldPlace spot.bit spot.width }
-    ensures { IfOk result (λ made. given_view made ≡ stores_spec.field_form (address_of_given (given_view given)) spot (type_in (lift_names (view_names names.now)) (view_type ty.now))) }
-{
-    let base = address_of_given(alloc, given)?;
-    let here = type_in(alloc, names, ty)?;
-    field_form(alloc, base.get(), spot, here.get())
 }
 
 /// The value of an lvalue.

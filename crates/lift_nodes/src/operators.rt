@@ -20,7 +20,7 @@ use cx_core::{CoreExpr, Op1, Op2, Put, Ty};
 use lift_forms_code::{RGiven, binary_form, converted, unary_form};
 use lift_held::is_void;
 use lift_objects::{is_zeroed, zeroed};
-use lift_stores::{Written, in_turn, object_at, type_in};
+use lift_stores::{Written, object_at, type_in};
 use rs_items::NameMap;
 use rs_tree::RStmt;
 use std::alloc::Global;
@@ -57,27 +57,18 @@ pub fn binary_node(
 {
     let left_ty = type_in(alloc, names, &left.ty)?;
     let right_ty = type_in(alloc, names, &right.ty)?;
-    let first_given = first.given;
-    let second_given = second.given;
+    let next = second.next;
+    let mut body = first.body;
+    body.append(second.body)?;
     let given = binary_form(
         alloc,
         op,
         left_ty.get(),
-        first_given,
+        first.given,
         right_ty.get(),
-        second_given,
+        second.given,
     )?;
-    let before = Written {
-        body: first.body,
-        given: RGiven::Nothing,
-        next: first.next,
-    };
-    let behind = Written {
-        body: second.body,
-        given: RGiven::Nothing,
-        next: second.next,
-    };
-    in_turn(before, behind, given)
+    Ok(Written { body, given, next })
 }
 
 // What is given as a value of a type, or nothing in the type `void`.

@@ -1,23 +1,39 @@
 //! Assignments, `op=`, `++` and `--` (ISO C99, 6.5.2.4, 6.5.3.1 and 6.5.16). Each maker is refused only for want of memory.
 
-ghost use Rattle.std.specs.Prelude.{◌≡◌, IfOk};
+ghost use Rattle.std.specs.Prelude.{◌≡◌, ◌++◌, map, IfOk};
 ghost use Rattle.cx_core.specs.Views.{view_expr, view_type};
 ghost use Rattle.lift_nodes.specs.Texts as text;
 ghost use Rattle.cx_core.specs.Typing.{width_of};
+ghost use Rattle.lift_forms.specs.Given.{nothing};
 ghost use Rattle.lift_stores.specs.Fits.{LvalueFits};
 ghost use Rattle.lift_stores.specs.Names.{lift_names};
 ghost use Rattle.lift_stores.specs.Views.{text_view};
 ghost use Rattle.rs_items.specs.Known.{view_names};
+ghost use Rattle.rs_tree.specs.Views.{stmt_view};
 
-use cr_base::Memory;
+use cr_base::{Items, Memory};
 use cx_core::{CoreExpr, Form, Op2, Ty};
 use lift_forms_code::RGiven;
 use lift_stores::{
-    Change, Written, changed_behind, changed_first, in_turn, promoted_type, step_by_one, stored,
+    Change, Written, changed_behind, changed_first, promoted_type, step_by_one, stored,
     stored_value, target_of, target_type, type_in,
 };
 use rs_items::NameMap;
+use rs_tree::RStmt;
 use std::alloc::Global;
+
+// The statements of both operands, whose values are told.
+fn bodies(first: Items<RStmt>, second: Items<RStmt>, next: u32) -> Result<Written, Memory>
+    ensures { IfOk result (λ made. text_view made ≡ record { body = map stmt_view first ++ map stmt_view second; given = nothing; next = next }) }
+{
+    let mut body = first;
+    body.append(second)?;
+    Ok(Written {
+        body,
+        given: RGiven::Nothing,
+        next,
+    })
+}
 
 /// A simple assignment.
 pub fn assigned(
@@ -35,17 +51,7 @@ pub fn assigned(
 {
     let target = target_of(alloc, names, ty, to, first.given)?;
     let value = stored_value(alloc, &target, second.given)?;
-    let before = Written {
-        body: first.body,
-        given: RGiven::Nothing,
-        next: first.next,
-    };
-    let behind = Written {
-        body: second.body,
-        given: RGiven::Nothing,
-        next: second.next,
-    };
-    let both = in_turn(before, behind, RGiven::Nothing)?;
+    let both = bodies(first.body, second.body, second.next)?;
     stored(alloc, names, used, target, value, both)
 }
 
@@ -73,17 +79,7 @@ pub fn assigned_by(
         right_ty: type_in(alloc, names, &from.ty)?,
         right: second.given,
     };
-    let before = Written {
-        body: first.body,
-        given: RGiven::Nothing,
-        next: first.next,
-    };
-    let behind = Written {
-        body: second.body,
-        given: RGiven::Nothing,
-        next: second.next,
-    };
-    let both = in_turn(before, behind, RGiven::Nothing)?;
+    let both = bodies(first.body, second.body, second.next)?;
     changed_first(alloc, names, used, target, change, both)
 }
 
