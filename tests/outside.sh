@@ -51,6 +51,8 @@ group forms
 form_rows=$rows
 group records
 record_rows=$rows
+group flows
+flow_rows=$rows
 built c2rs || exit 1
 
 # The exit status of a unit, as gcc builds it.
@@ -308,6 +310,11 @@ relooper_graphs() {
   compared 'shapes of random graphs' relooper_graphs.py --rows "$text_rows"
 }
 
+# Random flows: their bodies do what walks along them do, and long ones are written in proportion.
+random_flows() {
+  compared 'bodies of random flows' random_flows.py --rows "$flow_rows" rustc
+}
+
 # Random records of C: a model of the ABI and gcc lay them out alike. The model's answers are rows of the gate.
 random_records() {
   local said
@@ -414,6 +421,7 @@ random_expressions
 random_initialisers
 unit_mutants
 relooper_graphs
+random_flows
 random_records
 record_items
 crate_names

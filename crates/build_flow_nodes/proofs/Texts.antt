@@ -5,7 +5,7 @@ use Rattle.build_flow_nodes.specs.Example.{giving_int, giving_nothing, giving_re
 use Rattle.build_flow_nodes.specs.Flows.{flow_of}
 use Rattle.build_flow_nodes.proofs.Worked.{again, counted, default_between, done_once, duff, early, entered, entered_inside, fall_through, given_record, jumping, left_by_return, left_far, maybe, own_counter, record_declared, record_filled, second_test, sides, straight, turn_end, unused_label}
 use Rattle.cx_core.specs.Trees.{CStmt}
-use Rattle.emit.specs.Bodies.{emitted}
+use Rattle.emit_rules.specs.Bodies.{emitted}
 use Rattle.reloop.specs.Shapes.{ShapeTree, simple, blocks, loop, dispatch, shapes}
 use Rattle.rs_text.specs.declared.line.Line.{Line}
 use Rattle.rs_text.specs.Lines.{line, stmts_lines, address_of as begins_address}

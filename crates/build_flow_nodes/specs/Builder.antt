@@ -65,6 +65,15 @@ abbrev pub turn_place : Option CExpr → FlowPlace → CPath → FlowPlace
 turn_place None head path = head
 turn_place (Some next) head path = at_part (at_third path)
 
+-- in the first part of a `for`, behind which its head follows; the loop is open there, so that a `break` or a `continue` would be its own
+abbrev pub in_firsts : CStmts → Option CExpr → Option CExpr → CPath → Context → Context
+in_firsts first test next path ctx = record ctx {
+  next = jump (head_of test first path);
+  place = head_of test first path;
+  breaks = ctx.place;
+  continues = turn_place next (head_of test first path) path;
+}
+
 -- ---- points
 
 abbrev pub test_point : Condition → (if_true if_false : FlowPlace) → Point
@@ -139,7 +148,7 @@ abbrev mutual
   form_point of ctx path number (while test body) = jump (at_part (at_test path))
   form_point of ctx path number (do_while body test) = jump (statement_at (0 ∷ path))
   form_point of ctx path number (for_loop first test next body) =
-      list_point of (before (jump (head_of test first path)) (head_of test first path) ctx) path 0 number first
+      list_point of (in_firsts first test next path ctx) path 0 number first
   form_point of ctx path number (goto name) = goto_point of (label_where (is_named name) ctx.labels) ctx.place
   form_point of ctx path number continue = jump ctx.continues
   form_point of ctx path number break = jump ctx.breaks
@@ -215,7 +224,7 @@ abbrev mutual
       (at_part (at_test path)) ctx) (0 ∷ path) number body
       ++ test_at of (Some test) (number + count_in_stmt of.names body) path (statement_at (0 ∷ path)) ctx.place
   points_in of ctx path number (for_loop first test next body) =
-      points_among of (before (jump (head_of test first path)) (head_of test first path) ctx) path 0 number first
+      points_among of (in_firsts first test next path ctx) path 0 number first
       ++ for_points of ctx path (number + count_in_stmts of.names first) first test next body
       (λ around from. points_of of around (body_path first path) from body)
   points_in of ctx path number (goto name) = []

@@ -28,7 +28,7 @@ use Rattle.cx_mean_lives.specs.Laws.{SameSizes, UnwrittenSizes, LivesOn, LivesFr
 
 -- ---- steps of memory
 
-abbrev DoneSizes : Blocks → CDone → Type 0
+abbrev pub DoneSizes : Blocks → CDone → Type 0
 DoneSizes blocks one = SameSizes blocks one.blocks
 
 value_sizes : (blocks : Blocks) (marks : Marks) (outcome : Result CValue CWhy) → IfGiven (DoneSizes blocks) (gives_value marks blocks outcome)
@@ -60,14 +60,14 @@ count_sizes setting type form frame marks blocks (one ∷ []) = unary_sizes sett
 count_sizes setting type form frame marks blocks (one ∷ other ∷ []) = binary_sizes setting type form frame marks blocks one other
 count_sizes setting type form frame marks blocks (one ∷ other ∷ third ∷ more) = tt
 
-node_sizes : (setting : CSetting) (type : CTy) (form : CForm) (frame : Frame) (blocks : Blocks) (operands : List COperand) → IfGiven (DoneSizes blocks) (node_done setting type form frame blocks operands)
+pub node_sizes : (setting : CSetting) (type : CTy) (form : CForm) (frame : Frame) (blocks : Blocks) (operands : List COperand) → IfGiven (DoneSizes blocks) (node_done setting type form frame blocks operands)
 node_sizes setting type form frame blocks operands = given_then (DoneSizes blocks) (united_operands operands) _ (λ marks. count_sizes setting type form frame marks blocks operands)
 
-update_sizes : (setting : CSetting) (frame : Frame) (blocks : Blocks) (update : CUpdate) (marks : Marks) (new : Value) → IfGiven (DoneSizes blocks) (update_stored setting frame blocks update marks new)
+pub update_sizes : (setting : CSetting) (frame : Frame) (blocks : Blocks) (update : CUpdate) (marks : Marks) (new : Value) → IfGiven (DoneSizes blocks) (update_stored setting frame blocks update marks new)
 update_sizes setting frame blocks update marks new =
     given_and (StoreSizes blocks) (DoneSizes blocks) _ _ (store_sizes setting frame blocks update.target_type update.target (scalar new) marks) (λ one sizes. sizes)
 
-literal_sizes : (setting : CSetting) (frame : Frame) (blocks : Blocks) (number : ℕ) (puts : CPuts) → IfGiven (DoneSizes blocks) (literal_cleared setting frame blocks number puts)
+pub literal_sizes : (setting : CSetting) (frame : Frame) (blocks : Blocks) (number : ℕ) (puts : CPuts) → IfGiven (DoneSizes blocks) (literal_cleared setting frame blocks number puts)
 literal_sizes setting frame blocks number puts =
     given_and (ClearSizes blocks) (DoneSizes blocks) (object_cleared setting frame number (Some puts) blocks) _ (clear_sizes setting frame number (Some puts) blocks) (λ one sizes. sizes)
 

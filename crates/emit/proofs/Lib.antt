@@ -1,2 +1,0 @@
-mod ExampleRows
-pub mod Examples

@@ -5,9 +5,9 @@ use Rattle.std.specs.List.{filter}
 use Rattle.reloop.specs.Graphs.{is_in, IsIn}
 use Rattle.reloop.proofs.Sets.{either, or_left, or_right, in_append, same_number, equal_itself, not_both}
 use Rattle.flow.specs.Flows.{FlowTree}
-use Rattle.emit.specs.Nests.{Nest, single, choice, group, repeated, dispatched, Chain, no_nests, more_nests, no_chains, more_chains, nest_entries, chain_entries}
-use Rattle.emit.specs.Places.{Leaving, leavings_from, leavings, Table}
-use Rattle.emit.specs.Sorting.{Inner, Sibling, Sort, all_entries, nest_of, at_arm, arms_from}
+use Rattle.emit_rules.specs.Nests.{Nest, single, choice, group, repeated, dispatched, Chain, no_nests, more_nests, no_chains, more_chains, nest_entries, chain_entries}
+use Rattle.emit_rules.specs.Places.{Leaving, leavings_from, leavings, Table}
+use Rattle.emit_rules.specs.Sorting.{Inner, Sibling, Sort, all_entries, nest_of, at_arm, arms_from}
 use Rattle.emit_laws.specs.Covers.{Nodes, with_nodes, all_entries_in, held_targets, AreApart, CoversChain, CoverArms}
 use Rattle.emit_laws.proofs.Behind.{IsOwn, times_in, AreOnce}
 use Rattle.emit_laws.proofs.Closing.{and_right}

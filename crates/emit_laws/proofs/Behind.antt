@@ -6,8 +6,8 @@ use Rattle.reloop.specs.Fits.{times}
 use Rattle.reloop.specs.Graphs.{is_in, IsIn}
 use Rattle.reloop.proofs.Sets.{or_left, or_right, in_append, in_some, same_number, not_both}
 use Rattle.flow.specs.Flows.{FlowTree, targets_of}
-use Rattle.emit.specs.Nests.{Nest, single, choice, group, repeated, dispatched, Chain, no_chains, more_chains, nest_nodes, nest_entries}
-use Rattle.emit.specs.Sorting.{Inner, all_entries, nest_of, behind_nodes}
+use Rattle.emit_rules.specs.Nests.{Nest, single, choice, group, repeated, dispatched, Chain, no_chains, more_chains, nest_nodes, nest_entries}
+use Rattle.emit_rules.specs.Sorting.{Inner, all_entries, nest_of, behind_nodes}
 use Rattle.emit_laws.specs.Covers.{Nodes, nowhere, with_nodes, either_of, all_entries_in}
 use Rattle.emit_laws.proofs.Closing.{and_left}
 use Rattle.emit_laws.proofs.Covering.{GoTo, either_by, in_left, in_right, nest_heads, nest_grows, nest_more}

@@ -7,8 +7,8 @@ use Rattle.rs_mean.specs.World.{Run, seq}
 use Rattle.rs_mean.proofs.Unfolded.{lists_follow}
 use Rattle.rs_mean_ends.specs.Ways.{stmts_name}
 use Rattle.rs_mean_ends.proofs.Labels.{block_goes, loop_goes}
-use Rattle.emit.specs.Jumps.{label_of}
-use Rattle.emit.specs.Texts.{one_stmt, block_then, loop_of}
+use Rattle.emit_rules.specs.Jumps.{label_of}
+use Rattle.emit_rules.specs.Texts.{one_stmt, block_then, loop_of}
 use Rattle.emit_laws.proofs.Ifs.{run_one}
 use Rattle.emit_laws.proofs.Runs.{same_runs}
 

@@ -14,7 +14,7 @@ use Rattle.rs_mean_ends.specs.Ways.{Way, by_break, by_continue, stmts_end}
 use Rattle.rs_mean_ends.proofs.Ending.{ComesBy, stmts_come}
 use Rattle.flow.specs.Flows.{CaseTree, BranchTree, go, if_test, switch, gives, NodeTree, case_targets, targets}
 use Rattle.flow.specs.Machine.{Onto, to_node, gives_back, chosen, run_branch, then_branch, run_node}
-use Rattle.emit.specs.Texts.{case_arms, other_text, branch_stmts}
+use Rattle.emit_rules.specs.Texts.{case_arms, other_text, branch_stmts}
 use Rattle.emit_laws.proofs.Blocks.{run_behind}
 use Rattle.emit_laws.proofs.Ifs.{run_one, if_runs}
 use Rattle.emit_laws.proofs.Runs.{same_runs, seq_seq, seq_with, pure_seq}

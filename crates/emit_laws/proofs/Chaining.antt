@@ -5,8 +5,8 @@ use Rattle.std.specs.Prelude.{⊤}
 use Rattle.reloop.specs.Graphs.{is_in}
 use Rattle.reloop.proofs.Sets.{or_left, or_right}
 use Rattle.flow.specs.Flows.{FlowTree}
-use Rattle.emit.specs.Chains.{Ranked, Piece, gathered, joined, in_front, chained_from, chained}
-use Rattle.emit.specs.Nests.{Nest, group, Chain, no_nests, more_nests, chain, nest_entries, chain_entries}
+use Rattle.emit_rules.specs.Chains.{Ranked, Piece, gathered, joined, in_front, chained_from, chained}
+use Rattle.emit_rules.specs.Nests.{Nest, group, Chain, no_nests, more_nests, chain, nest_entries, chain_entries}
 use Rattle.emit_laws.specs.Covers.{Nodes, with_nodes, either_of, CoversNest, CoversChain}
 use Rattle.emit_laws.proofs.Closing.{and_left, and_right, and_both}
 use Rattle.emit_laws.proofs.Covering.{either_by, nest_more}

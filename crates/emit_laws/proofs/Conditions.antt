@@ -16,7 +16,7 @@ use Rattle.rs_mean.specs.Run.{Frame, run_expr, tests}
 use Rattle.rs_mean.specs.Numbers.{compared}
 use Rattle.rs_mean.specs.Values.{Typed, typed, truth, not_of, ordered, by_type, binary_of}
 use Rattle.rs_mean.specs.World.{Run, pure, fails, seq, either, local, looks, kept, after_step, or_fails, cause_of_pointer, or_cause}
-use Rattle.emit.specs.Texts.{opposite, compared_by, negated}
+use Rattle.emit_rules.specs.Texts.{opposite, compared_by, negated}
 use Rattle.emit_laws.proofs.Runs.{same_runs, seq_seq, seq_with}
 
 -- one of two runs by what a value says

@@ -7,11 +7,11 @@ use Rattle.rs_text.specs.Tree.{Expr, Stmt, Assign, Eval, CopyBytes, If, Loop, Bl
 use Rattle.rs_mean.specs.Laws.{behind}
 use Rattle.rs_mean_ends.specs.Ways.{goes, stmts_end, stmts_name}
 use Rattle.flow.specs.Flows.{CaseTree, BranchTree, go, if_test, switch, gives, NodeTree, FlowTree, node_at, case_targets, targets, targets_in, targets_of}
-use Rattle.emit.specs.Bodies.{node_stmts, arm_stmts, nest_stmts, chain_stmts, arms_stmts, draft_of, without_return, without_last_return}
-use Rattle.emit.specs.Jumps.{Jump, Jumps, no_jumps, label_of, told, leaves, jump_stmts, goes_to, jumps_before, jumps_within}
-use Rattle.emit.specs.Labels.{numbered_stmt, numbered, numbered_arms}
-use Rattle.emit.specs.Nests.{Nest, single, choice, group, repeated, dispatched, Chain, no_nests, more_nests, Chains, no_chains, more_chains, chain_entries, chain_is_told}
-use Rattle.emit.specs.Texts.{one_stmt, negated, if_of, case_arms, other_text, branch_stmts, block_then, loop_of}
+use Rattle.emit_rules.specs.Bodies.{node_stmts, arm_stmts, nest_stmts, chain_stmts, arms_stmts, draft_of, without_return, without_last_return}
+use Rattle.emit_rules.specs.Jumps.{Jump, Jumps, no_jumps, label_of, told, leaves, jump_stmts, goes_to, jumps_before, jumps_within}
+use Rattle.emit_rules.specs.Labels.{numbered_stmt, numbered, numbered_arms}
+use Rattle.emit_rules.specs.Nests.{Nest, single, choice, group, repeated, dispatched, Chain, no_nests, more_nests, Chains, no_chains, more_chains, chain_entries, chain_is_told}
+use Rattle.emit_rules.specs.Texts.{one_stmt, negated, if_of, case_arms, other_text, branch_stmts, block_then, loop_of}
 use Rattle.emit_laws.specs.Counts.{one_if, stmt_count, count_of, arms_count}
 use Rattle.emit_laws.specs.Covers.{Nodes, nowhere, with_nodes, either_of, CoversNest, CoversChain, CoverArms}
 use Rattle.emit_laws.proofs.Keeping.{NestAsked, ChainAsked, ChainsAsked, JumpsTell, chain_tells, tell_before, tell_within}

@@ -11,9 +11,9 @@ use Rattle.rs_mean.specs.Laws.{behind}
 use Rattle.rs_mean.specs.Typing.{LabelScope}
 use Rattle.rs_mean_ends.specs.Ways.{goes, stmts_end, stmt_names, stmts_name, arms_name}
 use Rattle.flow.specs.Flows.{CaseTree, BranchTree, go, if_test, switch, gives, NodeTree, FlowTree, node_at}
-use Rattle.emit.specs.Bodies.{node_stmts}
-use Rattle.emit.specs.Jumps.{label_of, current_block}
-use Rattle.emit.specs.Texts.{one_stmt, negated, if_of, case_arms, first_text, other_text, head_arms, branch_stmts}
+use Rattle.emit_rules.specs.Bodies.{node_stmts}
+use Rattle.emit_rules.specs.Jumps.{label_of, current_block}
+use Rattle.emit_rules.specs.Texts.{one_stmt, negated, if_of, case_arms, first_text, other_text, head_arms, branch_stmts}
 use Rattle.emit_laws.specs.Closed.{is_bound, is_loop_label, of_loop, of_block, stmt_closed, stmts_closed, arms_closed}
 use Rattle.emit_laws.proofs.Closing.{and_left, and_right, and_both}
 use Rattle.emit_laws.proofs.Keeping.{AllGood, IsKept}

@@ -1,7 +1,7 @@
 -- What holds of every node in nests, of every choice of a head, and of loops where there are some.
 use Rattle.std.proofs.Common.{◌≡◌, ℕ, Bool, true, false, ◌||◌, List, refl}
 use Rattle.std.specs.Prelude.{⊤}
-use Rattle.emit.specs.Nests.{Nest, single, choice, group, repeated, dispatched, Chain, no_nests, more_nests, Chains, no_chains, more_chains, nest_is_told, chain_is_told}
+use Rattle.emit_rules.specs.Nests.{Nest, single, choice, group, repeated, dispatched, Chain, no_nests, more_nests, Chains, no_chains, more_chains, nest_is_told, chain_is_told}
 use Rattle.emit_laws.specs.Tells.{nest_chooses, chain_chooses, chains_choose}
 
 module _ (OfNode : ℕ → Type 0) (OfChoice : List ℕ → Type 0) (OfLoop : Type 0) where

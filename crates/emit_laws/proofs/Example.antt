@@ -20,7 +20,7 @@ use Rattle.rs_mean_frames.proofs.Behaving.{behaves_fails}
 use Rattle.flow.specs.Flows.{go, NodeTree, FlowTree, node_at, graph_of, targets_of}
 use Rattle.flow.specs.Machine.{Onto, to_node, run_at}
 use Rattle.flow.specs.Sources.{Source, nothing_left, within_less, IsBehind, StepsAlong}
-use Rattle.emit.specs.Bodies.{emitted}
+use Rattle.emit_rules.specs.Bodies.{emitted}
 use Rattle.emit_laws.specs.Closed.{stmts_closed}
 use Rattle.emit_laws.specs.LawsText.{IsWritten}
 use Rattle.emit_laws.proofs.Written.{text_is_owed}

@@ -6,10 +6,10 @@ use Rattle.reloop.specs.Fits.{times}
 use Rattle.reloop.specs.Graphs.{is_in, IsIn}
 use Rattle.reloop.proofs.Sets.{times_append}
 use Rattle.flow.specs.Flows.{FlowTree, targets_of}
-use Rattle.emit.specs.Chains.{chained}
-use Rattle.emit.specs.Nests.{Nest, single, choice, group, repeated, dispatched, Chain, no_nests, more_nests, no_chains, more_chains, listed, nest_nodes, chain_nodes, nest_entries, chain_entries}
-use Rattle.emit.specs.Places.{Leaving, Table, node_leavings, is_inner, leavings}
-use Rattle.emit.specs.Sorting.{Inner, Sibling, Sort, nothing_sorted, all_entries, put_all, nest_of, behind_nodes, filled, entries_behind, all_filled}
+use Rattle.emit_rules.specs.Chains.{chained}
+use Rattle.emit_rules.specs.Nests.{Nest, single, choice, group, repeated, dispatched, Chain, no_nests, more_nests, no_chains, more_chains, listed, nest_nodes, chain_nodes, nest_entries, chain_entries}
+use Rattle.emit_rules.specs.Places.{Leaving, Table, node_leavings, is_inner, leavings}
+use Rattle.emit_rules.specs.Sorting.{Inner, Sibling, Sort, nothing_sorted, all_entries, put_all, nest_of, behind_nodes, filled, entries_behind, all_filled}
 use Rattle.emit_laws.specs.Covers.{Nodes, nowhere, with_nodes, either_of, all_entries_in, CoversNest, CoversChain}
 use Rattle.emit_laws.proofs.Arms.{IsPlain, ChainPlain, OwnPlain, IsLater, ListPlain, IsListed, SortsWell, in_inners, arms_cover, arms_are_apart}
 use Rattle.emit_laws.proofs.Behind.{IsOwn, times_in, AreOnce, all_nodes, AreHeld, behind_covers}

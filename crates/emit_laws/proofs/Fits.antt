@@ -7,8 +7,8 @@ use Rattle.std.specs.Prelude.{⊤}
 use Rattle.rs_text.specs.Tree.{Ty, Boolean, Pointer, Integer, Stmt, Assign, Eval, CopyBytes, If, Loop, Block, Break, Continue, Match, Return, Stmts, no_stmts, more_stmts, LiteralArm, Arms, no_arms, more_arms}
 use Rattle.rs_text.specs.declared.integer.IntegerTy.TheVariants.{U8}
 use Rattle.rs_mean.specs.Typing.{Scope, BodyScope, LabelScope, own_type, is_of_type, place_type, kind_of, gives_type, is_scalar_of, drops_call, usize_type, is_new_label, arm_differs, matches, is_matched, stmt_typed, stmts_typed, arms_typed}
-use Rattle.emit.specs.Jumps.{label_of}
-use Rattle.emit.specs.Labels.{numbered_label, numbered_stmt, numbered, numbered_arms}
+use Rattle.emit_rules.specs.Jumps.{label_of}
+use Rattle.emit_rules.specs.Labels.{numbered_label, numbered_stmt, numbered, numbered_arms}
 use Rattle.emit_laws.specs.Closed.{is_bound, is_loop_label, of_loop, of_block, stmt_closed, stmts_closed, arms_closed}
 use Rattle.emit_laws.proofs.Closing.{and_left, and_right, and_both}
 use Rattle.emit_laws.proofs.Names.{told_apart}

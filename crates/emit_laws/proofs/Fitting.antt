@@ -6,8 +6,8 @@ use Rattle.reloop.specs.Graphs.{FlowGraph, is_in, IsIn, IsNode, HasEdge}
 use Rattle.reloop.specs.Shapes.{ShapeTree, simple, blocks, loop, dispatch, ShapeTrees, no_shapes, more_shapes, nodes_in, nodes_among, entries_of, first_entries}
 use Rattle.reloop.proofs.Sets.{or_left, or_right, times_append, in_some, in_none}
 use Rattle.flow.specs.Flows.{NodeTree, FlowTree, node_targets, node_at, targets_in, targets_of, graph_of}
-use Rattle.emit.specs.Nests.{Nest, single, choice, repeated, dispatched, more_nests, no_chains, chain, flat, all_flat, nest_nodes, chain_nodes, nest_entries, chain_entries}
-use Rattle.emit.specs.Sorting.{all_entries, most_depth, sorted_within, nests_of}
+use Rattle.emit_rules.specs.Nests.{Nest, single, choice, repeated, dispatched, more_nests, no_chains, chain, flat, all_flat, nest_nodes, chain_nodes, nest_entries, chain_entries}
+use Rattle.emit_rules.specs.Sorting.{all_entries, most_depth, sorted_within, nests_of}
 use Rattle.emit_laws.specs.Covers.{Nodes, nowhere, with_nodes, either_of, all_entries_in, CoversNest, CoversChain, Covers}
 use Rattle.emit_laws.proofs.Arms.{ChainPlain, OwnPlain, IsLater, later_plain, IsListed}
 use Rattle.emit_laws.proofs.Behind.{times_in, AreOnce, all_nodes, entries_append, entries_front}

@@ -8,7 +8,7 @@ use Rattle.rs_mean.specs.Run.{Frame, Flow, normal, breaks, continues, returned, 
 use Rattle.rs_mean.specs.World.{Run, pure, seq, either}
 use Rattle.rs_mean_ends.specs.Ways.{Way, goes, stmts_end}
 use Rattle.rs_mean_ends.proofs.Ending.{ComesBy, stmts_come}
-use Rattle.emit.specs.Texts.{one_stmt, negated, if_of}
+use Rattle.emit_rules.specs.Texts.{one_stmt, negated, if_of}
 use Rattle.emit_laws.proofs.Conditions.{by_test, by_negated}
 use Rattle.emit_laws.proofs.Runs.{same_runs, seq_seq, seq_with, seq_pure, pure_seq}
 

@@ -6,10 +6,10 @@ use Rattle.reloop.proofs.Sets.{or_left, or_right, equal_itself}
 use Rattle.rs_text.specs.Tree.{Stmts, no_stmts}
 use Rattle.rs_mean.specs.Typing.{LabelScope}
 use Rattle.flow.specs.Flows.{FlowTree, node_at, targets_of}
-use Rattle.emit.specs.Bodies.{node_stmts, arm_stmts, nest_stmts, chain_stmts, arms_stmts, draft_of}
-use Rattle.emit.specs.Jumps.{Jump, Jumps, no_jumps, label_of, told, by_label, leaves, jump_stmts, goes_to, by_own_label, jumps_before, jumps_within}
-use Rattle.emit.specs.Nests.{Nest, single, choice, group, repeated, dispatched, Chain, no_nests, more_nests, Chains, no_chains, more_chains, chain_entries, chain_is_told, nest_entries, nest_is_told}
-use Rattle.emit.specs.Texts.{one_stmt, choice_stmts, block_then, loop_of}
+use Rattle.emit_rules.specs.Bodies.{node_stmts, arm_stmts, nest_stmts, chain_stmts, arms_stmts, draft_of}
+use Rattle.emit_rules.specs.Jumps.{Jump, Jumps, no_jumps, label_of, told, by_label, leaves, jump_stmts, goes_to, by_own_label, jumps_before, jumps_within}
+use Rattle.emit_rules.specs.Nests.{Nest, single, choice, group, repeated, dispatched, Chain, no_nests, more_nests, Chains, no_chains, more_chains, chain_entries, chain_is_told, nest_entries, nest_is_told}
+use Rattle.emit_rules.specs.Texts.{one_stmt, choice_stmts, block_then, loop_of}
 use Rattle.emit_laws.specs.Closed.{is_bound, is_loop_label, of_loop, of_block}
 use Rattle.emit_laws.proofs.Every.{EveryNest, EveryChain, EveryChains, nest_told_gives, chain_told_gives}
 use Rattle.emit_laws.proofs.Names.{told_apart}

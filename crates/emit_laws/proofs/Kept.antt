@@ -3,9 +3,9 @@ use Rattle.std.proofs.Common.{◌≡◌, ℕ, zero, suc, ◌+◌, ◌<◌, ◌==
 use Rattle.std.specs.Prelude.{⊤}
 use Rattle.std.specs.List.{filter}
 use Rattle.flow.specs.Flows.{FlowTree}
-use Rattle.emit.specs.Nests.{Nest, nest_entries}
-use Rattle.emit.specs.Places.{Seen}
-use Rattle.emit.specs.Sorting.{Inner, Sibling, Sorted, nothing_sorted, only_entry, seen_at, stays, sibling_holds, goes_inside, with_inner, put_inside, first_from, put_behind, put_seen, put, all_entries, put_all, nest_of, at_arm}
+use Rattle.emit_rules.specs.Nests.{Nest, nest_entries}
+use Rattle.emit_rules.specs.Places.{Seen}
+use Rattle.emit_rules.specs.Sorting.{Inner, Sibling, Sorted, nothing_sorted, only_entry, seen_at, stays, sibling_holds, goes_inside, with_inner, put_inside, first_from, put_behind, put_seen, put, all_entries, put_all, nest_of, at_arm}
 use Rattle.emit_laws.proofs.Closing.{and_right}
 
 -- ---- what holds of each

@@ -8,7 +8,7 @@ use Rattle.std.specs.Fmt.{decimal}
 use Rattle.std.specs.List.{list_all}
 use Rattle.std.specs.Str.Parse.{AllDigits}
 use Rattle.rs_text.specs.Names.{is_digit, is_word_byte, is_word, is_among, path_words, keywords, is_label}
-use Rattle.emit.specs.Jumps.{numeral, label_of}
+use Rattle.emit_rules.specs.Jumps.{numeral, label_of}
 use Rattle.emit_laws.proofs.Closing.{and_left, and_right, and_both}
 
 -- a word that begins as a label of a number does: with an `l`, and a digit or `_` behind it

@@ -3,10 +3,10 @@ use Rattle.std.proofs.Common.{◌≡◌, ◌∙◌, ℕ, zero, suc, nat_lt, Bool
 use Rattle.std.proofs.Math.Path.{fun_ext}
 use Rattle.reloop.specs.Graphs.{is_in, IsIn}
 use Rattle.flow.specs.Flows.{FlowTree}
-use Rattle.emit.specs.Chains.{chained}
-use Rattle.emit.specs.Nests.{Nest, single, choice, group, repeated, dispatched, Chain, no_nests, more_nests, no_chains, more_chains, nest_entries, chain_entries}
-use Rattle.emit.specs.Places.{Table}
-use Rattle.emit.specs.Sorting.{Sibling, nothing_sorted, all_entries, put_all, unfilled, arranged, level, all_level, sorted_within}
+use Rattle.emit_rules.specs.Chains.{chained}
+use Rattle.emit_rules.specs.Nests.{Nest, single, choice, group, repeated, dispatched, Chain, no_nests, more_nests, no_chains, more_chains, nest_entries, chain_entries}
+use Rattle.emit_rules.specs.Places.{Table}
+use Rattle.emit_rules.specs.Sorting.{Sibling, nothing_sorted, all_entries, put_all, unfilled, arranged, level, all_level, sorted_within}
 use Rattle.emit_laws.specs.Covers.{Nodes, nowhere, with_nodes, either_of, all_entries_in, CoversNest, CoversChain}
 use Rattle.emit_laws.proofs.Arms.{IsPlain, ChainPlain, OwnPlain, IsLater, ListPlain, SortsWell}
 use Rattle.emit_laws.proofs.Chaining.{entered_from, RankedCover, chained_covers, chained_entries}

@@ -4,7 +4,7 @@ use Rattle.std.proofs.lemmas.Fmt.{decimal_injective, length-decimal-le}
 use Rattle.std.proofs.lemmas.List.{length-replicate}
 use Rattle.std.specs.Cmp.Lexicographic.{same_text}
 use Rattle.std.specs.Fmt.{decimal}
-use Rattle.emit.specs.Jumps.{numeral, label_of}
+use Rattle.emit_rules.specs.Jumps.{numeral, label_of}
 
 -- a number of a machine
 is_small : (a : ℕ) → nat_lt a (2 ^ 64) ≡ true → a < 2 ^ 64

@@ -10,8 +10,8 @@ use Rattle.rs_mean.specs.Values.{Typed}
 use Rattle.rs_mean.specs.World.{Run, pure, seq, takes_unit, either, Round, again, done, next_turn, turns_within, rounds}
 use Rattle.rs_mean_ends.specs.Ways.{Way, way_of, is_goes, by_break, by_continue, stmt_ends, stmts_end}
 use Rattle.rs_mean_ends.proofs.Ending.{ComesBy, stmt_comes, stmts_come}
-use Rattle.emit.specs.Jumps.{label_of}
-use Rattle.emit.specs.Labels.{numbered_label, numbered_stmt, numbered, numbered_arms}
+use Rattle.emit_rules.specs.Jumps.{label_of}
+use Rattle.emit_rules.specs.Labels.{numbered_label, numbered_stmt, numbered, numbered_arms}
 use Rattle.emit_laws.specs.Closed.{is_bound, is_loop_label, of_loop, of_block, stmt_closed, stmts_closed, arms_closed}
 use Rattle.emit_laws.proofs.Closing.{and_left, and_right, stmts_break, stmts_continue}
 use Rattle.emit_laws.proofs.Names.{told_apart}

@@ -14,10 +14,10 @@ use Rattle.rs_mean_frames.proofs.Framed.{pieces_behave}
 use Rattle.flow.specs.Flows.{NodeTree, FlowTree, node_at, targets_in, targets_of}
 use Rattle.flow.specs.Machine.{to_node, gives_back, run_found}
 use Rattle.flow.specs.Sources.{Source, IsBehind, IsQuiet, FollowsAfter, StepsAlong}
-use Rattle.emit.specs.Bodies.{node_stmts, nest_stmts, chain_stmts, arms_stmts, draft_of}
-use Rattle.emit.specs.Jumps.{Jump, Jumps, no_jumps, label_of, goes_to, told, by_own_label, jumps_before, jumps_within}
-use Rattle.emit.specs.Nests.{Nest, single, choice, group, repeated, dispatched, Chain, no_nests, more_nests, Chains, no_chains, more_chains, nest_entries, chain_entries, nest_is_told, chain_is_told}
-use Rattle.emit.specs.Texts.{one_stmt, loop_of}
+use Rattle.emit_rules.specs.Bodies.{node_stmts, nest_stmts, chain_stmts, arms_stmts, draft_of}
+use Rattle.emit_rules.specs.Jumps.{Jump, Jumps, no_jumps, label_of, goes_to, told, by_own_label, jumps_before, jumps_within}
+use Rattle.emit_rules.specs.Nests.{Nest, single, choice, group, repeated, dispatched, Chain, no_nests, more_nests, Chains, no_chains, more_chains, nest_entries, chain_entries, nest_is_told, chain_is_told}
+use Rattle.emit_rules.specs.Texts.{one_stmt, loop_of}
 use Rattle.emit_laws.specs.Covers.{Nodes, nowhere, with_nodes, either_of, CoversNest, CoversChain, CoverArms, Covers}
 use Rattle.emit_laws.specs.Tells.{CanTell, nest_chooses, chain_chooses, chains_choose}
 use Rattle.emit_laws.proofs.Blocks.{block_runs, loop_runs}

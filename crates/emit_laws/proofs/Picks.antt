@@ -14,10 +14,10 @@ use Rattle.rs_mean.specs.Run.{Frame, Flow, run_arms, run_stmts, run_expr}
 use Rattle.rs_mean.specs.Values.{Typed, typed}
 use Rattle.rs_mean.specs.World.{Run, seq, either as one_of}
 use Rattle.flow.specs.Flows.{FlowTree}
-use Rattle.emit.specs.Bodies.{arm_stmts, chain_stmts, arms_stmts}
-use Rattle.emit.specs.Jumps.{Jumps, told, goes_to, current_block}
-use Rattle.emit.specs.Nests.{Chain, Chains, no_chains, more_chains, chain_entries, chain_is_told}
-use Rattle.emit.specs.Texts.{head_arms, choice_stmts}
+use Rattle.emit_rules.specs.Bodies.{arm_stmts, chain_stmts, arms_stmts}
+use Rattle.emit_rules.specs.Jumps.{Jumps, told, goes_to, current_block}
+use Rattle.emit_rules.specs.Nests.{Chain, Chains, no_chains, more_chains, chain_entries, chain_is_told}
+use Rattle.emit_rules.specs.Texts.{head_arms, choice_stmts}
 use Rattle.emit_laws.specs.Covers.{held_targets, AreApart}
 use Rattle.emit_laws.specs.Tells.{Reads}
 use Rattle.emit_laws.proofs.Branches.{AllAt}

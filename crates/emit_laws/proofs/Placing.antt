@@ -5,9 +5,9 @@ use Rattle.std.proofs.lemmas.Bool.{lt-ltb}
 use Rattle.reloop.specs.Graphs.{is_in, IsIn}
 use Rattle.reloop.proofs.Sets.{either, or_left, or_right, in_append, same_number, equal_itself}
 use Rattle.flow.specs.Flows.{FlowTree}
-use Rattle.emit.specs.Nests.{Nest, Chain, nest_entries}
-use Rattle.emit.specs.Places.{Leaving, leavings, Seen, first_of, Table, see_all}
-use Rattle.emit.specs.Sorting.{Inner, Sibling, Sorted, nothing_sorted, only_entry, seen_at, stays, sibling_holds, goes_inside, out_of_arm, with_inner, put_inside, first_from, put_behind, put_seen, put, all_entries, put_all}
+use Rattle.emit_rules.specs.Nests.{Nest, Chain, nest_entries}
+use Rattle.emit_rules.specs.Places.{Leaving, leavings, Seen, first_of, Table, see_all}
+use Rattle.emit_rules.specs.Sorting.{Inner, Sibling, Sorted, nothing_sorted, only_entry, seen_at, stays, sibling_holds, goes_inside, out_of_arm, with_inner, put_inside, first_from, put_behind, put_seen, put, all_entries, put_all}
 use Rattle.emit_laws.specs.Covers.{Nodes, nowhere, with_nodes, either_of, CoversNest}
 use Rattle.emit_laws.proofs.Closing.{and_left, and_right, and_both}
 use Rattle.emit_laws.proofs.Covering.{either_by, in_left, in_right, nest_more}

@@ -2,7 +2,7 @@
 use Rattle.std.proofs.Common.{◌≡◌, ◌∙◌, ◌⊎◌, inl, inr, ℕ, ◌<◌, ◌≤◌, ◌==◌, nat_lt, Bool, true, false, ◌&&◌, List, [], ◌∷◌, Option, Some, None, if◌then◌else◌, arith, refl, sym, ap, subst}
 use Rattle.std.proofs.lemmas.Bool.{ltb-false, ltb-true}
 use Rattle.reloop.proofs.Sets.{same_number, equal_itself}
-use Rattle.emit.specs.Places.{Leaving, Seen, least, see, Table, with_seen, see_all}
+use Rattle.emit_rules.specs.Places.{Leaving, Seen, least, see, Table, with_seen, see_all}
 use Rattle.emit_laws.proofs.Closing.{and_left, and_right}
 
 -- an element of a list

@@ -11,8 +11,8 @@ use Rattle.rs_mean.specs.Run.{Frame, Flow, normal, breaks, continues, returned, 
 use Rattle.rs_mean.specs.Values.{Typed}
 use Rattle.rs_mean.specs.World.{Run, pure, seq}
 use Rattle.flow.specs.Sources.{Source, IsBehind, nothing_left, within_less, weighs_less}
-use Rattle.emit.specs.Jumps.{Jump, Jumps, label_of, tells, told, leaves, jump_stmts, goes_to}
-use Rattle.emit.specs.Texts.{one_stmt}
+use Rattle.emit_rules.specs.Jumps.{Jump, Jumps, label_of, tells, told, leaves, jump_stmts, goes_to}
+use Rattle.emit_rules.specs.Texts.{one_stmt}
 use Rattle.emit_laws.specs.Covers.{Nodes}
 use Rattle.emit_laws.specs.Tells.{Reads, CanTell}
 use Rattle.emit_laws.proofs.Ifs.{run_one}

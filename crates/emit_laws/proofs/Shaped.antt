@@ -7,8 +7,8 @@ use Rattle.reloop.specs.Graphs.{FlowGraph, is_in, IsIn}
 use Rattle.reloop.specs.Shapes.{ShapeTree, simple, blocks, loop, dispatch, ShapeTrees, no_shapes, more_shapes, nodes_in, nodes_among, entries_of, has_dispatch, have_dispatch, goes_round, go_round}
 use Rattle.reloop.proofs.Sets.{either, or_left, or_right, same_number}
 use Rattle.flow.specs.Flows.{NodeTree, FlowTree, node_targets, targets_of, graph_of}
-use Rattle.emit.specs.Nests.{Nest, single, choice, group, repeated, dispatched, Chain, no_nests, more_nests, Chains, no_chains, more_chains, flat, all_flat}
-use Rattle.emit.specs.Sorting.{most_depth, nests_of}
+use Rattle.emit_rules.specs.Nests.{Nest, single, choice, group, repeated, dispatched, Chain, no_nests, more_nests, Chains, no_chains, more_chains, flat, all_flat}
+use Rattle.emit_rules.specs.Sorting.{most_depth, nests_of}
 use Rattle.emit_laws.proofs.Closing.{and_left, and_right, and_both}
 use Rattle.emit_laws.proofs.Covering.{in_left, in_right, in_first}
 use Rattle.emit_laws.proofs.Every.{EveryNest, EveryChain, EveryChains}

@@ -10,10 +10,10 @@ use Rattle.rs_text.specs.declared.operator.Operator.{Operator}
 use Rattle.rs_text.specs.declared.operator.Operator.TheVariants.{Add, Sub, Mul, Div, Rem, BitAnd, BitOr, BitXor, Shl, Shr, Equal, NotEqual, Less, LessEqual, Greater, GreaterEqual}
 use Rattle.rs_text.specs.Tree.{Expr, Literal, Truth, NoFunction, Read, Call, CallBy, Wrapped, WrappingNeg, Offset, OffsetFrom, IsNull, IsNone, AddressOf, NullPointer, SomeFunction, Transmute, Neg, Not, Cast, Binary, And, Or, Choose, Stmt, Assign, Eval, CopyBytes, If, Loop, Block, Break, Continue, Match, Return}
 use Rattle.flow.specs.Flows.{BranchTree, go, if_test, switch, gives, NodeTree, FlowTree, node_targets, node_at, graph_of}
-use Rattle.emit.specs.Bodies.{draft_of, emitted}
-use Rattle.emit.specs.Labels.{numbered_stmt, numbered}
-use Rattle.emit.specs.Sorting.{nests_of}
-use Rattle.emit.specs.Texts.{opposite, compared_by, negated}
+use Rattle.emit_rules.specs.Bodies.{draft_of, emitted}
+use Rattle.emit_rules.specs.Labels.{numbered_stmt, numbered}
+use Rattle.emit_rules.specs.Sorting.{nests_of}
+use Rattle.emit_rules.specs.Texts.{opposite, compared_by, negated}
 use Rattle.emit_laws.specs.Counts.{one_if, count_of, is_loop, is_match, expr_uses, stmt_uses}
 use Rattle.emit_laws.specs.LawsShape.{BodiesWithout, rounds_of, rounds_among, branch_switches, switches, block_name, branch_uses, IsUnused, TextShaped}
 use Rattle.emit_laws.proofs.Counting.{BranchIs, FoundIs, found_count, KindOf, count_numbered, count_last, draft_counts, of_number}

@@ -3,10 +3,10 @@ use Rattle.std.proofs.Common.{◌≡◌, ◌⊎◌, inl, inr, ℕ, zero, suc, �
 use Rattle.reloop.specs.Graphs.{is_in}
 use Rattle.rs_text.specs.Tree.{Stmt, Stmts}
 use Rattle.flow.specs.Flows.{FlowTree, node_at, targets_of}
-use Rattle.emit.specs.Bodies.{arm_stmts, nest_stmts, chain_stmts, arms_stmts, draft_of}
-use Rattle.emit.specs.Jumps.{Jumps, no_jumps, told, goes_to, jumps_before, jumps_within}
-use Rattle.emit.specs.Nests.{Nest, single, choice, group, repeated, dispatched, Chain, no_nests, more_nests, Chains, no_chains, more_chains, chain_entries, chain_is_told}
-use Rattle.emit.specs.Texts.{one_stmt, choice_stmts, loop_of}
+use Rattle.emit_rules.specs.Bodies.{arm_stmts, nest_stmts, chain_stmts, arms_stmts, draft_of}
+use Rattle.emit_rules.specs.Jumps.{Jumps, no_jumps, told, goes_to, jumps_before, jumps_within}
+use Rattle.emit_rules.specs.Nests.{Nest, single, choice, group, repeated, dispatched, Chain, no_nests, more_nests, Chains, no_chains, more_chains, chain_entries, chain_is_told}
+use Rattle.emit_rules.specs.Texts.{one_stmt, choice_stmts, loop_of}
 use Rattle.emit_laws.specs.Counts.{one_if, count_of, stmt_uses}
 use Rattle.emit_laws.specs.Covers.{Nodes, nowhere, with_nodes, either_of, CoversNest, CoversChain, CoverArms}
 use Rattle.emit_laws.specs.LawsShape.{block_name}

@@ -17,11 +17,11 @@ use Rattle.rs_mean.specs.Scalars.{is_scalar, fits_integer}
 use Rattle.rs_mean.specs.Typing.{Scope, BodyScope, LabelScope, Kind, of, of_none, is_of_type, own_type, where_is, is_bits, only_if, place_type, kind_of, is_scalar_of, arm_differs, matches, is_matched, stmt_typed, stmts_typed}
 use Rattle.rs_mean_ends.specs.Ways.{goes, stmts_end, stmts_name}
 use Rattle.flow.specs.Flows.{CaseTree, BranchTree, go, if_test, switch, gives, NodeTree, FlowTree, node_at, graph_of}
-use Rattle.emit.specs.Bodies.{node_stmts, draft_of, emitted, without_return, without_last_return}
-use Rattle.emit.specs.Jumps.{label_of, current_block}
-use Rattle.emit.specs.Labels.{numbered}
-use Rattle.emit.specs.Sorting.{nests_of}
-use Rattle.emit.specs.Texts.{one_stmt, opposite, compared_by, negated, if_of, case_arms, first_text, other_text, head_arms, branch_stmts}
+use Rattle.emit_rules.specs.Bodies.{node_stmts, draft_of, emitted, without_return, without_last_return}
+use Rattle.emit_rules.specs.Jumps.{label_of, current_block}
+use Rattle.emit_rules.specs.Labels.{numbered}
+use Rattle.emit_rules.specs.Sorting.{nests_of}
+use Rattle.emit_rules.specs.Texts.{one_stmt, opposite, compared_by, negated, if_of, case_arms, first_text, other_text, head_arms, branch_stmts}
 use Rattle.emit_laws.specs.LawsText.{NodesClosed}
 use Rattle.emit_laws.specs.LawsTyping.{value_differs, cases_typed, branch_typed, whole_body, NodesTyped, TellsTyped, TextTyped}
 use Rattle.emit_laws.proofs.Closing.{and_left, and_right, and_both}

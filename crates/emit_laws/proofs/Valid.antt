@@ -18,11 +18,11 @@ use Rattle.rs_mean.specs.Laws.{behind}
 use Rattle.rs_mean.specs.Typing.{LabelScope}
 use Rattle.rs_mean_ends.specs.Ways.{goes, stmts_end, stmts_name}
 use Rattle.flow.specs.Flows.{CaseTree, BranchTree, go, if_test, switch, gives, NodeTree, FlowTree, node_at, graph_of}
-use Rattle.emit.specs.Bodies.{node_stmts, draft_of, emitted, without_return, without_last_return}
-use Rattle.emit.specs.Jumps.{label_of, current_block}
-use Rattle.emit.specs.Labels.{numbered_label, numbered_stmt, numbered, numbered_arms}
-use Rattle.emit.specs.Sorting.{nests_of}
-use Rattle.emit.specs.Texts.{one_stmt, opposite, compared_by, negated, if_of, case_arms, first_text, other_text, head_arms, branch_stmts}
+use Rattle.emit_rules.specs.Bodies.{node_stmts, draft_of, emitted, without_return, without_last_return}
+use Rattle.emit_rules.specs.Jumps.{label_of, current_block}
+use Rattle.emit_rules.specs.Labels.{numbered_label, numbered_stmt, numbered, numbered_arms}
+use Rattle.emit_rules.specs.Sorting.{nests_of}
+use Rattle.emit_rules.specs.Texts.{one_stmt, opposite, compared_by, negated, if_of, case_arms, first_text, other_text, head_arms, branch_stmts}
 use Rattle.emit_laws.specs.Closed.{is_bound, of_loop, of_block, stmt_closed, stmts_closed, arms_closed}
 use Rattle.emit_laws.specs.LawsText.{NodesClosed}
 use Rattle.emit_laws.specs.LawsValid.{cases_valid, branch_valid, NodesValid, TextValid}

@@ -4,8 +4,8 @@ use Rattle.std.specs.Prelude.{⊤}
 use Rattle.reloop.specs.Graphs.{is_in, IsIn}
 use Rattle.reloop.proofs.Sets.{either, or_left, or_right, in_append, same_number}
 use Rattle.flow.specs.Flows.{FlowTree, targets_of}
-use Rattle.emit.specs.Nests.{Nest, single, choice, group, repeated, dispatched, Chain, no_chains, more_chains, nest_nodes, chain_nodes}
-use Rattle.emit.specs.Places.{Leaving, leavings_from, node_leavings, is_inner, leavings}
+use Rattle.emit_rules.specs.Nests.{Nest, single, choice, group, repeated, dispatched, Chain, no_chains, more_chains, nest_nodes, chain_nodes}
+use Rattle.emit_rules.specs.Places.{Leaving, leavings_from, node_leavings, is_inner, leavings}
 use Rattle.emit_laws.specs.Covers.{Nodes, either_of, CoversNest}
 use Rattle.emit_laws.proofs.Covering.{GoTo, in_first, either_by, nest_heads, nest_grows}
 use Rattle.emit_laws.proofs.Seeing.{IsAmong}

@@ -4,10 +4,10 @@ use Rattle.std.proofs.lemmas.Bool.{ltb-false, ltb-true}
 use Rattle.std.specs.List.{filter}
 use Rattle.reloop.proofs.Sets.{same_number, equal_itself, not_both}
 use Rattle.flow.specs.Flows.{FlowTree, targets_of}
-use Rattle.emit.specs.Chains.{Ranked, Piece, gathered, joined, in_front, chained_from, chained}
-use Rattle.emit.specs.Nests.{Nest, single, choice, group, repeated, dispatched, Chain, no_nests, more_nests, Chains, no_chains, more_chains, chain, listed, nest_entries, nest_nodes, chain_nodes}
-use Rattle.emit.specs.Places.{Leaving, Seen, Table, leavings_from, is_inner, leavings, node_leavings}
-use Rattle.emit.specs.Sorting.{Inner, Sibling, Sort, Sorted, first_from, nothing_sorted, only_entry, seen_at, put_seen, put, all_entries, put_all, nest_of, at_arm, behind_nodes, arms_from, filled, entries_behind, all_filled, unfilled, arranged, level, all_level, sorted_within}
+use Rattle.emit_rules.specs.Chains.{Ranked, Piece, gathered, joined, in_front, chained_from, chained}
+use Rattle.emit_rules.specs.Nests.{Nest, single, choice, group, repeated, dispatched, Chain, no_nests, more_nests, Chains, no_chains, more_chains, chain, listed, nest_entries, nest_nodes, chain_nodes}
+use Rattle.emit_rules.specs.Places.{Leaving, Seen, Table, leavings_from, is_inner, leavings, node_leavings}
+use Rattle.emit_rules.specs.Sorting.{Inner, Sibling, Sort, Sorted, first_from, nothing_sorted, only_entry, seen_at, put_seen, put, all_entries, put_all, nest_of, at_arm, behind_nodes, arms_from, filled, entries_behind, all_filled, unfilled, arranged, level, all_level, sorted_within}
 use Rattle.emit_laws.specs.Covers.{Nodes, nowhere, with_nodes, either_of, all_entries_in, CoversNest, CoversChain}
 use Rattle.emit_laws.proofs.Arms.{IsPlain, ChainPlain, OwnPlain, IsLater, ListPlain, IsListed, SortsWell, arm_listed}
 use Rattle.emit_laws.proofs.Behind.{times_in}

@@ -13,11 +13,11 @@ use Rattle.rs_mean.specs.World.{Run, pure, seq}
 use Rattle.rs_mean_ends.specs.Ways.{by_break, by_continue, stmts_end}
 use Rattle.flow.specs.Flows.{FlowTree}
 use Rattle.flow.specs.Sources.{Source}
-use Rattle.emit.specs.Bodies.{draft_of, emitted, without_return, without_last_return}
-use Rattle.emit.specs.Labels.{numbered}
-use Rattle.emit.specs.Nests.{Nest, single, choice, group, repeated, dispatched, Chain, no_nests, more_nests, Chains, no_chains, more_chains}
-use Rattle.emit.specs.Sorting.{nests_of}
-use Rattle.emit.specs.Texts.{one_stmt}
+use Rattle.emit_rules.specs.Bodies.{draft_of, emitted, without_return, without_last_return}
+use Rattle.emit_rules.specs.Labels.{numbered}
+use Rattle.emit_rules.specs.Nests.{Nest, single, choice, group, repeated, dispatched, Chain, no_nests, more_nests, Chains, no_chains, more_chains}
+use Rattle.emit_rules.specs.Sorting.{nests_of}
+use Rattle.emit_rules.specs.Texts.{one_stmt}
 use Rattle.emit_laws.specs.Closed.{stmts_closed}
 use Rattle.emit_laws.specs.LawsText.{NodesClosed, IsWritten, TextIsOwed, TextOwes}
 use Rattle.emit_laws.proofs.Branches.{StaysWithin}

@@ -4,7 +4,7 @@ use Rattle.reloop.specs.Fits.{IsFit}
 use Rattle.reloop.specs.Shapes.{ShapeTree, simple, blocks, loop, dispatch, ShapeTrees, no_shapes, more_shapes, has_dispatch, goes_round}
 use Rattle.rs_text.specs.Tree.{Stmt}
 use Rattle.flow.specs.Flows.{BranchTree, go, if_test, switch, gives, NodeTree, FlowTree, node_at, graph_of}
-use Rattle.emit.specs.Bodies.{emitted}
+use Rattle.emit_rules.specs.Bodies.{emitted}
 use Rattle.emit_laws.specs.Counts.{count_of, is_loop, is_match, expr_uses, stmt_uses}
 
 -- the statements of nodes are without those of a kind

@@ -11,7 +11,7 @@ use Rattle.rs_mean.specs.World.{Run, seq}
 use Rattle.rs_mean_frames.specs.Behave.{BodiesBehave}
 use Rattle.flow.specs.Flows.{NodeTree, FlowTree, node_at, graph_of}
 use Rattle.flow.specs.Sources.{Source, StepsAlong}
-use Rattle.emit.specs.Bodies.{emitted}
+use Rattle.emit_rules.specs.Bodies.{emitted}
 use Rattle.emit_laws.specs.Closed.{stmts_closed}
 use Rattle.emit_laws.specs.Tells.{CanTell}
 

@@ -8,8 +8,8 @@ use Rattle.rs_text.specs.declared.integer.IntegerTy.TheVariants.{U32}
 use Rattle.rs_text.specs.Tree.{Ty, Integer, Boolean}
 use Rattle.rs_mean.specs.Typing.{Scope, BodyScope, own_type, is_of_type, place_type, kind_of, gives_type, matches, is_matched, stmts_typed}
 use Rattle.flow.specs.Flows.{CaseTree, BranchTree, go, if_test, switch, gives, NodeTree, FlowTree, node_at, graph_of}
-use Rattle.emit.specs.Bodies.{emitted}
-use Rattle.emit.specs.Jumps.{current_block}
+use Rattle.emit_rules.specs.Bodies.{emitted}
+use Rattle.emit_rules.specs.Jumps.{current_block}
 use Rattle.emit_laws.specs.LawsText.{NodesClosed}
 
 -- cases with this value aren't among others

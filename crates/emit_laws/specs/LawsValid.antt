@@ -4,7 +4,7 @@ use Rattle.reloop.specs.Fits.{IsFit}
 use Rattle.reloop.specs.Shapes.{ShapeTree, has_dispatch}
 use Rattle.rs_text.specs.Valid.{is_value, valid_expr, valid_returned, valid_stmts}
 use Rattle.flow.specs.Flows.{CaseTree, BranchTree, go, if_test, switch, gives, NodeTree, FlowTree, node_at, graph_of}
-use Rattle.emit.specs.Bodies.{emitted}
+use Rattle.emit_rules.specs.Bodies.{emitted}
 use Rattle.emit_laws.specs.LawsText.{NodesClosed}
 
 abbrev pub cases_valid : List CaseTree → Bool

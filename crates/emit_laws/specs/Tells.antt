@@ -7,8 +7,8 @@ use Rattle.rs_text.specs.declared.integer.IntegerTy.TheVariants.{U32}
 use Rattle.rs_text.specs.Tree.{Integer, Read}
 use Rattle.rs_mean.specs.Run.{Frame, normal, run_expr, run_stmt}
 use Rattle.rs_mean.specs.Values.{typed}
-use Rattle.emit.specs.Jumps.{current_block, tells}
-use Rattle.emit.specs.Nests.{Nest, single, choice, group, repeated, dispatched, Chain, no_nests, more_nests, Chains, no_chains, more_chains}
+use Rattle.emit_rules.specs.Jumps.{current_block, tells}
+use Rattle.emit_rules.specs.Nests.{Nest, single, choice, group, repeated, dispatched, Chain, no_nests, more_nests, Chains, no_chains, more_chains}
 
 -- `current_block` is read as this node, at every number of units
 abbrev pub Reads : Frame → World → ℕ → Type 0

@@ -1,7 +1,7 @@
 //! The graph of a flow.
 
 ghost use Rattle.std.specs.Prelude.{◌≡◌, map, IfOk};
-ghost use Rattle.flow.specs.Flows.{graph_of, node_targets, targets, case_targets, IsClosed};
+ghost use Rattle.flow.specs.Flows.{graph_of, node_targets, targets, targets_of, case_targets, IsClosed};
 ghost use Rattle.flow.specs.Views.{flow_view, node_view, branch_view, case_view};
 ghost use Rattle.reloop.specs.Graphs.{graph_view};
 ghost use Rattle.reloop.specs.Searches.{ends_of};
@@ -35,6 +35,21 @@ fn targets(alloc: Global, branch: &Branch) -> Result<Items<u32>, Memory>
             Ok(to)
         }
         Branch::Return(_) => Ok(Items::new(alloc)),
+    }
+}
+
+/// The nodes to which the node of a number goes.
+///
+/// # Errors
+///
+/// `Memory`: the allocator gave no memory.
+#[tactic(auto, using(crate::proofs::Got::got))]
+pub fn targets_of(alloc: Global, flow: &Flow, number: u32) -> Result<Items<u32>, Memory>
+    ensures { IfOk result (λ to. to ≡ targets_of (flow_view flow.now) number) }
+{
+    match flow.nodes.get(number as usize) {
+        Some(node) => targets(alloc, &node.last),
+        None => Ok(Items::new(alloc)),
     }
 }
 

@@ -7,4 +7,4 @@ mod flows;
 mod graphs;
 
 pub use flows::{Branch, Case, Flow, FlowNode};
-pub use graphs::graph_of;
+pub use graphs::{graph_of, targets_of};

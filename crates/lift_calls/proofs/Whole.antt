@@ -165,7 +165,7 @@ module _ (s : Setting) (one : CFun) (tree : FunctionTree) (meets : FunctionMeets
       (λ k. bind_came (at_body (c_goes s) one c_frame c_here k)) (λ k. refl)
       (pieces events_of events_of (Returned images place (align_or (result_laid s one)) tree.result c_world world (frame_in s locals)) Meets
       (at_body (c_goes s) one c_frame c_here) (run_stmts (frame_in s locals) meets.body here) (λ value after left. came value after left) (ends s tree meets.copies meets.body locals) units steps
-      (meets.owes units steps promise images entry.later place c_world world c_frame (frame_in s locals) c_here here entry.params_are entry.inside)
+      (meets.owes units steps promise images entry.later place c_world world c_frame (frame_in s locals) c_here here stands.worlds entry.params_are entry.inside)
       (λ flow after. (ends_behave s tree meets.copies meets.body locals flow).rests after)
       (λ value c_after flow after back. ended c_frame c_here locals here entry value c_after flow after back))
   body_meets c_frame c_here locals (breaks label) here is entry = cc

@@ -70,7 +70,7 @@ pub record Returned (images : Images) (place : Option Ptr) (align : ℕ) (result
 -- what the statements of a body owe below a bound of units and one of steps, from where the parameters have begun
 abbrev pub BodyOwes : Setting → CFun → FunctionTree → FunctionNames → Stmts → (units steps : ℕ) → Type 0
 BodyOwes s one tree names body units steps =
-    (images later : Images) (place : Option Ptr) (c_before before : World) (c_frame : CFrame) (frame : Frame) (c_world world : World) →
+    (images later : Images) (place : Option Ptr) (c_before before : World) (c_frame : CFrame) (frame : Frame) (c_world world : World) → WorldsStand images c_before before →
     map (λ slot. slot.object) c_frame ≡ one.params → Inside s one names images later place c_before before c_frame frame c_world world →
     Owes events_of events_of (Returned images place (align_or (result_laid s one)) tree.result c_before before frame) units steps
     (c_goes s (reaches one.body (site_at [] (bottom_of one c_frame))) c_world) (run_stmts frame body world)

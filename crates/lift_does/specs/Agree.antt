@@ -1,16 +1,15 @@
 -- When what the names of lifting say is so in a program and its crate (ISO C99, 6.2.1 and 6.2.5; the Rust Reference, "Paths" and "Type layout").
-use Rattle.std.specs.Prelude.{◌≡◌, ℕ, zero, suc, ◌+◌, List, [], ◌∷◌, map, Option, Some, None}
+use Rattle.std.specs.Prelude.{◌≡◌, ℕ, suc, List, [], ◌∷◌, map, Some, None}
 use Rattle.cr_base.specs.declared.layout.Laid.{Laid}
 use Rattle.cr_base.specs.declared.layout.Spot.{Spot}
 use Rattle.cr_base.specs.declared.scalar.Scalar.{Scalar}
 use Rattle.cx_core.specs.BitFields.{has_bit_fields}
-use Rattle.cx_core.specs.Trees.{CTy, CFun, COuter}
-use Rattle.cx_core.specs.Typing.{CHome, function_with as c_function_with, outer_with}
+use Rattle.cx_core.specs.Trees.{CTy, CFun}
+use Rattle.cx_core.specs.Typing.{CHome, function_with as c_function_with}
 use Rattle.cx_core.specs.ValidTypes.{IsMemberOf}
 use Rattle.cx_mean.specs.Settings.{scalar_in_type, extent_in}
 use Rattle.lift_calls.specs.Frames.{FunctionNames}
 use Rattle.lift_calls.specs.Programs.{Setting, setting_in}
-use Rattle.lift_exprs.specs.Calls.{is_malloc}
 use Rattle.lift_exprs.specs.Names.{Names, KeptFunction, type_in, field_in}
 use Rattle.rs_mean.specs.Layout.{laid_of, field_at}
 use Rattle.rs_mean.specs.Lookups.{own, outer, callee_at, symbol_of}

@@ -27,9 +27,11 @@ pub(crate) enum Group {
     Forms,
     /// Written records.
     Records,
+    /// Bodies of flows.
+    Flows,
 }
 
-const GROUPS: [(&str, Group); 10] = [
+const GROUPS: [(&str, Group); 11] = [
     ("texts", Group::Texts),
     ("stores", Group::Stores),
     ("crates", Group::Crates),
@@ -40,6 +42,7 @@ const GROUPS: [(&str, Group); 10] = [
     ("places", Group::Places),
     ("forms", Group::Forms),
     ("records", Group::Records),
+    ("flows", Group::Flows),
 ];
 
 /// The group of the rows behind a row: the one that it names, or the one before.
@@ -74,6 +77,7 @@ pub(crate) fn answer<R: Files>(
         Group::Places => place_rows::answer_to(alloc, row),
         Group::Forms => answer_to(&form_rows::Stages, alloc, row),
         Group::Records => answer_to(&record_rows::Stages, alloc, row),
+        Group::Flows => answer_to(&flow_rows::Stages, alloc, row),
     }
 }
 

@@ -3,7 +3,7 @@ use Rattle.std.specs.Prelude.{ℕ, ◌==◌, ◌&&◌, ◌||◌, not, Bool, true
 use Rattle.build_flow_nodes.specs.Flows.{flow_of}
 use Rattle.build_flow_nodes.specs.Parts.{BodyNames}
 use Rattle.cx_core.specs.Trees.{CTy, CPuts, CObject, CFun, CProgram}
-use Rattle.emit.specs.Bodies.{emitted}
+use Rattle.emit_rules.specs.Bodies.{emitted}
 use Rattle.flow.specs.Flows.{FlowTree, graph_of}
 use Rattle.lift_exprs.specs.Lifted.{lifted_puts}
 use Rattle.lift_exprs.specs.Names.{Names, type_in}

@@ -1,0 +1,4 @@
+pub mod Counts
+pub mod Firsts
+pub mod Full
+pub mod Opened

@@ -1,0 +1,11 @@
+pub mod Course
+pub mod Doing
+pub mod Going
+pub mod Jumping
+pub mod Nodes
+pub mod Steps
+pub mod Stmts
+pub mod Switching
+pub mod There
+pub mod Waiting
+pub mod Ways

@@ -1,0 +1,5 @@
+pub mod Bodies
+pub mod Distinct
+pub mod Nodes
+pub mod Places
+pub mod Reached

@@ -1,0 +1,10 @@
+pub mod After
+pub mod Begins
+pub mod Bodies
+pub mod Clears
+pub mod Conditions
+pub mod Leaves
+pub mod Puts
+pub mod Returns
+pub mod Values
+pub mod Tells

@@ -1,0 +1,4 @@
+pub mod Along
+pub mod Machine
+pub mod Positions
+pub mod Waiting

@@ -1,0 +1,4 @@
+pub mod Bodies
+pub mod Later
+pub mod Noted
+pub mod Placed

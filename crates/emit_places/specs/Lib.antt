@@ -1,0 +1,3 @@
+pub mod Ahead
+pub mod Places
+pub mod Sorted

@@ -1,0 +1,2 @@
+mod ExampleRows
+pub mod Examples

@@ -1,0 +1,3 @@
+pub mod Filled
+pub mod Held
+pub mod Pieces

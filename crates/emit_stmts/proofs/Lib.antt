@@ -1,0 +1,4 @@
+pub mod Ending
+pub mod Lists
+pub mod Opened
+pub mod Sides
