@@ -312,7 +312,13 @@ relooper_graphs() {
 
 # Random flows: their bodies do what walks along them do, and long ones are written in proportion.
 random_flows() {
-  compared 'bodies of random flows' random_flows.py --rows "$flow_rows" rustc
+  local said
+  tools_for 'bodies of random flows' python3 rustc || return
+  if ! said=$(python3 "$top/tests/random_flows.py" --rows "$flow_rows" --c2rs "$program" 2>&1); then
+    bad "bodies of random flows: $said"
+  else
+    ok "bodies of random flows: $said"
+  fi
 }
 
 # Random records of C: a model of the ABI and gcc lay them out alike. The model's answers are rows of the gate.

@@ -1,10 +1,11 @@
 #!/usr/bin/env python3
 """Random flows: the bodies that are written from them do what a walk along the flow does, and rustc takes them.
 
-    random_flows.py --rows PROGRAM [--count N] [--seed N]
+    random_flows.py --rows PROGRAM --c2rs PROGRAM [--count N] [--seed N]
 
 Each flow is a row of the stage `body` of group `flows` (crates/flow_rows). Every node calls a function of its own and changes a local, by which
-branches go; the calls that the body makes are those of a walk along the flow. rustc builds all bodies in one program. Beside the random flows there
+branches go; the calls that the body makes are those of a walk along the flow. All bodies stand in one crate, which rustc builds and which `c2rs run-rust`
+runs. Beside the random flows there
 are long ones: their texts are in proportion to them and not deep, and they are written in time. Ends with 1 if anything differs, with the first
 such flow and its text.
 """
@@ -210,21 +211,44 @@ def depth_of(lines):
     return deepest
 
 
-# ---- programs
+# ---- crates
 
-HEAD = """#![allow(warnings)]
-mod m {
-%s
+CARGO = '[package]\nname = "translated"\nversion = "0.0.0"\nedition = "2021"\n'
+MAIN = """#![allow(unconditional_panic, arithmetic_overflow)]
+mod m;
+fn main() {
+    unsafe {
+        crate::m::run_static_initializers();
+        std::process::exit(crate::m::main_0());
+    }
 }
 """
+PUTCHAR = 'extern "C" {\n    pub fn putchar(a0: i32) -> i32;\n}\n'
 
 
-def program(texts):
-    """A program that calls each body and writes a line of the calls that it makes."""
-    functions = "\n".join(f'    pub unsafe fn f{number}() {{ print!("{number} "); }}' for number in range(LARGEST))
-    bodies = [f"unsafe fn body_{number}() {{ let mut n: i32 = 0; let mut current_block: u32 = 0;\n" + "\n".join(text) + "\n}" for number, text in enumerate(texts)]
-    calls = "\n".join(f"        body_{number}(); println!();" for number in range(len(texts)))
-    return HEAD % functions + "\n".join(bodies) + "\nfn main() {\n    unsafe {\n" + calls + "\n    }\n}\n"
+def function(name, lines, result=""):
+    return f'pub unsafe extern "C" fn {name}(){result} {{\n' + "".join(f"    {line}\n" for line in lines) + "}\n"
+
+
+def letter(number):
+    """What the function of a node writes."""
+    return chr(ord("a") + number)
+
+
+def write_crate(folder, texts):
+    """A crate that calls each body, which writes a line of the calls that it makes."""
+    locals_of_body = ["let mut n: i32 = core::mem::zeroed();", "let mut current_block: u32 = core::mem::zeroed();"]
+    calls = [line for number in range(len(texts)) for line in (f"crate::m::body_{number}();", "crate::m::putchar(10i32);")]
+    functions = [
+        *(function(f"f{number}", [f"crate::m::putchar({ord(letter(number))}i32);"]) for number in range(LARGEST)),
+        *(function(f"body_{number}", locals_of_body + text) for number, text in enumerate(texts)),
+        function("main_0", [*calls, "return 0i32;"], " -> i32"),
+        function("run_static_initializers", []),
+    ]
+    (folder / "src").mkdir()
+    (folder / "Cargo.toml").write_text(CARGO)
+    (folder / "src/main.rs").write_text(MAIN)
+    (folder / "src/m.rs").write_text(PUTCHAR + "".join(functions))
 
 
 def answers(rows_program, rows):
@@ -232,19 +256,28 @@ def answers(rows_program, rows):
     return [line.split(" | ") if line else [] for line in ran.stdout.split("\n")[: len(rows)]]
 
 
-def compare_random(rows_program, count, seed):
+def lines_of(words, folder):
+    """What a program writes that has to end with 0."""
+    ran = subprocess.run(words, cwd=folder, capture_output=True, text=True, timeout=SECONDS, check=True)
+    return ran.stdout.split("\n")
+
+
+def compare_random(asked):
     """The first flow whose body does something else, or None."""
-    random = Random(seed)
-    flows = [random_flow(random) for _ in range(count)]
-    texts = answers(rows_program, [row(nodes) for nodes in flows])
-    with tempfile.TemporaryDirectory() as folder:
-        source = Path(folder) / "flows.rs"
-        source.write_text(program(texts))
-        subprocess.run(["rustc", "--edition", "2021", "-o", Path(folder) / "flows", source], check=True, timeout=SECONDS)
-        ran = subprocess.run([Path(folder) / "flows"], capture_output=True, text=True, timeout=SECONDS, check=True)
-    for nodes, text, line in zip(flows, texts, ran.stdout.split("\n")):
-        if [int(word) for word in line.split()] != walk(nodes):
-            return f"{row(nodes)}\ncalls {line}\nand not {walk(nodes)}\n" + "\n".join(text)
+    random = Random(asked.seed)
+    flows = [random_flow(random) for _ in range(asked.count)]
+    texts = answers(asked.rows, [row(nodes) for nodes in flows])
+    with tempfile.TemporaryDirectory() as name:
+        folder = Path(name)
+        (folder / "out").mkdir()
+        write_crate(folder / "out", texts)
+        subprocess.run(["rustc", "-A", "warnings", "--edition", "2021", "-o", "flows", "out/src/main.rs"], cwd=folder, check=True, timeout=SECONDS)
+        written = {"rustc": lines_of(["./flows"], folder), "run-rust": lines_of([asked.c2rs, "run-rust", "out"], folder)}
+    for number, (nodes, text) in enumerate(zip(flows, texts)):
+        wanted = "".join(letter(at) for at in walk(nodes))
+        for by, lines in written.items():
+            if lines[number] != wanted:
+                return f"{row(nodes)}\nby {by} calls {lines[number]}\nand not {wanted}\n" + "\n".join(text)
     return None
 
 
@@ -263,8 +296,8 @@ def compare_long(rows_program):
 
 
 def main():
-    asked = options_of_rows(__doc__.split("\n")[0], "flows", "random flows", 200, 1)
-    wrong = compare_random(asked.rows, asked.count, asked.seed) or compare_long(asked.rows)
+    asked = options_of_rows(__doc__.split("\n")[0], "flows", "random flows", 200, 1, by_c2rs=True)
+    wrong = compare_random(asked) or compare_long(asked.rows)
     if wrong:
         print(wrong)
         return 1

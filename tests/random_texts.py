@@ -39,10 +39,12 @@ def options(count):
     return given.c2rs.resolve(), range(given.seed, given.seed + given.count)
 
 
-def options_of_rows(description, group, what, count, seed):
-    """The program of a group of rows, how many things are made, and the seed, as the command line says."""
+def options_of_rows(description, group, what, count, seed, by_c2rs=False):
+    """The program of a group of rows, that of c2rs where it is compared too, how many things are made, and the seed, as the command line says."""
     parser = argparse.ArgumentParser(description=description)
     parser.add_argument("--rows", required=True, help=f"the program of the rows of {group}")
+    if by_c2rs:
+        parser.add_argument("--c2rs", required=True, help="the program c2rs")
     parser.add_argument("--count", type=int, default=count, help=f"how many {what}")
     parser.add_argument("--seed", type=int, default=seed)
     return parser.parse_args()

@@ -17,13 +17,13 @@ use Rattle.cx_core.specs.declared.program.Outer.{Outer}
 use Rattle.cx_core.specs.Trees.{CObject, CFun, COuter, CUnit}
 use Rattle.cx_core.specs.Views.{view_function, view_object, view_outer}
 use Rattle.cx_link.specs.Chains.{indexed}
-use Rattle.cx_links.specs.Program.{CFound, declared_object, defined_object, first_unit, function_of_name, has_name, is_object_named, outer_of_name}
+use Rattle.cx_links.specs.Program.{CFound, declared_function, declared_object, defined_object, first_unit, function_of_name, has_name, is_object_named, is_prototype, prototyped_function}
 use Rattle.cx_link.proofs.Chains.{puts, split_at}
 use Rattle.cx_linked.specs.declared.index.Index.{Index}
 use Rattle.cx_linked.specs.declared.found.Found.{Found}
 use Rattle.cx_linked.specs.declared.named.Named.{Named}
 use Rattle.cx_linked.specs.Found.{all_found, view_found}
-use Rattle.cx_linked.specs.Named.{IsIndex, IsNamedBy, declares_object, defines_object, first_place, is_external_function, is_external_outer, is_named, name_of_function, name_of_object, name_of_outer}
+use Rattle.cx_linked.specs.Named.{IsIndex, IsNamedBy, declares_object, defines_object, first_place, is_external_function, is_external_outer, is_external_prototype, is_named, name_of_function, name_of_object, name_of_outer}
 use Rattle.cx_linked.proofs.Gathered.{first_found}
 
 -- ---- first places
@@ -147,8 +147,14 @@ module _ (named : Named) (units : List CUnit) (known : IsNamedBy named units) (n
       found_at_name (view_found view_function) named.things.functions (all_found (λ (home : CUnit). home.functions) units) named.places.defined_functions (is_named is_external_function name_of_function) name result known.functions known.places.defined_functions is
       ∙ sym (first_found (λ (one : CFun). is_external one.linkage && bytes_eq name one.name) (λ (home : CUnit). home.functions) 0 units)
 
+  pub prototype_is : (result : Option (Found Outer)) → result ≡ option_and_then (slice_get named.things.externals) (indexed named.places.prototyped_functions.first name)
+      → option_map (view_found view_outer) result ≡ first_unit (prototyped_function name) 0 units
+  prototype_is result is =
+      found_at_name (view_found view_outer) named.things.externals (all_found (λ (home : CUnit). home.externals) units) named.places.prototyped_functions (is_named is_external_prototype name_of_outer) name result known.externals known.places.prototyped_functions is
+      ∙ sym (first_found (λ (one : COuter). (is_external one.linkage && is_prototype one) && bytes_eq name one.name) (λ (home : CUnit). home.externals) 0 units)
+
   pub outer_is : (result : Option (Found Outer)) → result ≡ option_and_then (slice_get named.things.externals) (indexed named.places.declared_functions.first name)
-      → option_map (view_found view_outer) result ≡ outer_of_name units name
+      → option_map (view_found view_outer) result ≡ first_unit (declared_function name) 0 units
   outer_is result is =
       found_at_name (view_found view_outer) named.things.externals (all_found (λ (home : CUnit). home.externals) units) named.places.declared_functions (is_named is_external_outer name_of_outer) name result known.externals known.places.declared_functions is
       ∙ sym (first_found (λ (one : COuter). is_external one.linkage && bytes_eq name one.name) (λ (home : CUnit). home.externals) 0 units)

@@ -5,7 +5,7 @@ use Rattle.cx_core.specs.Linked.{is_external}
 use Rattle.cx_core.specs.Trees.{CTypes, CObject, CFun, COuter, CDeclaredOrder, CProgram, CUnit}
 use Rattle.cx_core.specs.Views.{view_function, view_object, view_outer, view_unit}
 use Rattle.cx_link.specs.Chains.{indexed}
-use Rattle.cx_links.specs.Program.{CFound, counts_before, external_object, from_each, function_as, has_name, is_left, numbers_of, object_as}
+use Rattle.cx_links.specs.Program.{CFound, counts_before, external_object, from_each, function_as, has_name, is_left, is_prototype, numbers_of, object_as}
 use Rattle.cx_renumber.specs.Numbers.{CCounts, CNumbers, function_there, object_there, order_there, outer_there}
 use Rattle.cx_renumber.specs.Views.{view_counts}
 use Rattle.cx_linked.specs.declared.index.Index.{Index}
@@ -38,6 +38,9 @@ name_of_function one = Some one.name
 abbrev pub is_external_outer : COuter → Bool
 is_external_outer one = is_external one.linkage
 
+abbrev pub is_external_prototype : COuter → Bool
+is_external_prototype one = is_external one.linkage && is_prototype one
+
 abbrev pub name_of_outer : COuter → Option (List ℕ)
 name_of_outer one = Some one.name
 
@@ -68,6 +71,7 @@ pub record ArePlaces (places : Places) (things : Things) : Type 0 where
   pub defined_objects : IsIndex places.defined_objects (is_named defines_object name_of_object) (map (view_found view_object) things.objects)
   pub defined_functions : IsIndex places.defined_functions (is_named is_external_function name_of_function) (map (view_found view_function) things.functions)
   pub declared_functions : IsIndex places.declared_functions (is_named is_external_outer name_of_outer) (map (view_found view_outer) things.externals)
+  pub prototyped_functions : IsIndex places.prototyped_functions (is_named is_external_prototype name_of_outer) (map (view_found view_outer) things.externals)
 
 pub record IsNamedBy (one : Named) (units : List CUnit) : Type 0 where
   pub objects : map (view_found view_object) one.things.objects ≡ all_found (λ home. home.objects) units

@@ -3,15 +3,16 @@
 ghost use Rattle.std.specs.Prelude.{◌≡◌, ◌&&◌, ℕ, List, map, if◌then◌else◌, Some, None, IfOk, OnOk, bytes_eq};
 ghost use Rattle.std.specs.Option.{option_or};
 ghost use Rattle.cx_core.specs.Linked.{is_external};
-ghost use Rattle.cx_core.specs.Views.{view_function, view_object, view_outer};
+ghost use Rattle.cx_core.specs.Trees.{form_of_type};
+ghost use Rattle.cx_core.specs.Views.{view_function, view_object, view_outer, view_type};
 ghost use Rattle.cx_link.specs.Chains.{indexed};
-ghost use Rattle.cx_links.specs.Program.{has_name};
+ghost use Rattle.cx_links.specs.Program.{has_name, lists_params};
 ghost use Rattle.cx_linked.specs.Found.{view_found};
-ghost use Rattle.cx_linked.specs.Named.{IsIndex, declares_object, defines_object, is_external_function, is_external_outer, is_named, name_of_function, name_of_object, name_of_outer};
+ghost use Rattle.cx_linked.specs.Named.{IsIndex, declares_object, defines_object, is_external_function, is_external_outer, is_external_prototype, is_named, name_of_function, name_of_object, name_of_outer};
 
 use crate::found::Found;
 use cr_base::{Memory, Name};
-use cx_core::{CoreObject, Fun, Linkage, Outer};
+use cx_core::{CoreObject, Fun, Linkage, Outer, Params, Ty, TyForm};
 use std::alloc::Global;
 use std::collections::HashMap;
 
@@ -148,6 +149,35 @@ pub(crate) fn declared_functions(alloc: Global, all: &[Found<'_, Outer>]) -> Res
     for place in 0..all.len() {
         let one = all[place].thing;
         index.note_counted(alloc, is_external(one.linkage), &one.name, place)?;
+    }
+    Ok(index)
+}
+
+// Whether a function type tells the types of its parameters (ISO C99, 6.7.5.3p14).
+fn lists_params(function_ty: &Ty) -> bool
+    ensures { result ≡ lists_params (form_of_type (view_type function_ty.now)) }
+{
+    match &function_ty.form {
+        TyForm::Function(one) => matches!(one.get().params, Params::Listed(_)),
+        _ => false,
+    }
+}
+
+fn is_prototype(one: &Outer) -> bool
+    ensures { result ≡ is_external_prototype (view_outer one.now) }
+{
+    is_external(one.linkage) && lists_params(&one.ty)
+}
+
+/// The first declarations of external functions with a list of parameters that their units don't define. Refused only for want of
+/// memory.
+pub(crate) fn prototyped_functions(alloc: Global, all: &[Found<'_, Outer>]) -> Result<Index, Memory>
+    ensures { IfOk result (λ index. IsIndex index (is_named is_external_prototype name_of_outer) (map (view_found view_outer) all.now)) }
+{
+    let mut index = Index::new(alloc);
+    for place in 0..all.len() {
+        let one = all[place].thing;
+        index.note_counted(alloc, is_prototype(one), &one.name, place)?;
     }
     Ok(index)
 }

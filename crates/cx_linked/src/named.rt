@@ -12,6 +12,7 @@ ghost use Rattle.cx_renumber.specs.Views.{view_counts};
 use crate::found::{Found, Things, things_of};
 use crate::index::{
     Index, declared_functions, declared_objects, defined_functions, defined_objects, is_external,
+    prototyped_functions,
 };
 use cr_base::{Items, Memory};
 use cx_core::{CoreObject, CoreUnit, Fun, Outer};
@@ -26,6 +27,7 @@ pub(crate) struct Places {
     pub(crate) defined_objects: Index,
     pub(crate) defined_functions: Index,
     pub(crate) declared_functions: Index,
+    pub(crate) prototyped_functions: Index,
 }
 
 /// The things of units, the first places of external names, and what the units in front of each one take.
@@ -44,11 +46,13 @@ fn places_of(alloc: Global, things: &Things<'_>) -> Result<Places, Memory>
     let defined_objects = defined_objects(alloc, things.objects.as_slice())?;
     let defined_functions = defined_functions(alloc, things.functions.as_slice())?;
     let declared_functions = declared_functions(alloc, things.externals.as_slice())?;
+    let prototyped_functions = prototyped_functions(alloc, things.externals.as_slice())?;
     Ok(Places {
         declared_objects,
         defined_objects,
         defined_functions,
         declared_functions,
+        prototyped_functions,
     })
 }
 
@@ -126,7 +130,7 @@ impl<'a> Named<'a> {
         }
     }
 
-    /// Whether a unit is the first that declares a name as a function that it doesn't define.
+    /// Whether what stands for the name of a function that no unit defines is of a unit.
     pub(crate) fn is_outer_first(&self, unit: usize, name: &[u8]) -> bool
         requires known { IsNamed self.now }
         ensures { result ≡ is_in unit (outer_of_name (units_of self.now) name.now) }
@@ -145,16 +149,17 @@ impl<'a> Named<'a> {
         found_by(&self.things.functions, &self.places.defined_functions, name)
     }
 
-    /// The first declaration of a name as a function that the unit doesn't define.
+    /// What stands for the name of a function that no unit defines (ISO C99, 6.2.7p3): the first declaration with a list of
+    /// parameters, else the first.
     pub(crate) fn outer_of_name(&self, name: &[u8]) -> Option<&Found<'a, Outer>>
         requires known { IsNamed self.now }
         ensures { option_map (view_found view_outer) (option_copied result) ≡ outer_of_name (units_of self.now) name.now }
     {
-        found_by(
-            &self.things.externals,
-            &self.places.declared_functions,
-            name,
-        )
+        let externals = &self.things.externals;
+        match found_by(externals, &self.places.prototyped_functions, name) {
+            Some(one) => Some(one),
+            None => found_by(externals, &self.places.declared_functions, name),
+        }
     }
 
     /// What the units in front of one take.

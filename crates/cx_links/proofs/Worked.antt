@@ -340,3 +340,24 @@ outer_numbers program = map (λ one. one.function) program.externals
 numbers_of_outers : outer_numbers (linked (beside_main (codes "f") nothing_taken [] ∷ beside_main (codes "f") nothing_taken [] ∷ [])) ≡ 0 ∷ []
 unfolding linked
 numbers_of_outers = refl
+
+-- the declaration with a list of parameters stands for both (6.2.7p3), also where it comes behind; and of two with a list the first
+abbrev outer_types : CProgram → List CTy
+outer_types program = map (λ one. one.type) program.externals
+
+abbrev unlisted_type : CTy
+unlisted_type = ty (function int_type unlisted false) false
+
+listed_behind : (outer_numbers (linked (beside_main (codes "f") unlisted_type [] ∷ beside_main (codes "f") int_taken [] ∷ [])) ≡ 2 ∷ [])
+    × (outer_types (linked (beside_main (codes "f") unlisted_type [] ∷ beside_main (codes "f") int_taken [] ∷ [])) ≡ int_taken ∷ [])
+unfolding linked
+listed_behind = (refl, refl)
+
+listed_before : (outer_numbers (linked (beside_main (codes "f") int_taken [] ∷ beside_main (codes "f") unlisted_type [] ∷ [])) ≡ 0 ∷ [])
+    × (outer_types (linked (beside_main (codes "f") int_taken [] ∷ beside_main (codes "f") unlisted_type [] ∷ [])) ≡ int_taken ∷ [])
+unfolding linked
+listed_before = (refl, refl)
+
+listed_nowhere : outer_numbers (linked (beside_main (codes "f") unlisted_type [] ∷ beside_main (codes "f") unlisted_type [] ∷ [])) ≡ 0 ∷ []
+unfolding linked
+listed_nowhere = refl

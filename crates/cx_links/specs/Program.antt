@@ -1,8 +1,8 @@
 -- The program of a list of units (ISO C99, 5.1.1.1, 6.2.2p2): what has external linkage and one name is one thing.
-use Rattle.std.specs.Prelude.{ℕ, zero, suc, ◌+◌, ◌==◌, ◌&&◌, Bool, false, if◌then◌else◌, List, [], ◌∷◌, ◌++◌, map, Option, Some, None, is_some, is_none, option_map, bytes_eq}
+use Rattle.std.specs.Prelude.{ℕ, zero, suc, ◌+◌, ◌==◌, ◌&&◌, Bool, true, false, if◌then◌else◌, List, [], ◌∷◌, ◌++◌, map, Option, Some, None, is_some, is_none, option_map, bytes_eq}
 use Rattle.std.specs.List.{find}
 use Rattle.cx_core.specs.Linked.{is_external}
-use Rattle.cx_core.specs.Trees.{CTypes, no_types_yet, CObject, CFun, COuter, CProgram, CMention, CUnit}
+use Rattle.cx_core.specs.Trees.{CTyForm, function, listed, form_of_type, CTypes, no_types_yet, CObject, CFun, COuter, CProgram, CMention, CUnit}
 use Rattle.cx_renumber.specs.Numbers.{CCounts, no_counts, together, counts_of, CNumbers, record_there, object_there, function_there, outer_there, order_there, mention_there}
 
 -- ---- the thing of an external name
@@ -46,6 +46,17 @@ defined_function name one = find (λ known. is_external known.linkage && bytes_e
 abbrev pub declared_function : List ℕ → CUnit → Option COuter
 declared_function name one = find (λ known. is_external known.linkage && bytes_eq name known.name) one.externals
 
+-- a function type tells the types of its parameters (6.7.5.3p14)
+abbrev pub lists_params : CTyForm → Bool
+lists_params (function result (listed params) variadic) = true
+lists_params _ = false
+
+abbrev pub is_prototype : COuter → Bool
+is_prototype one = lists_params (form_of_type one.type)
+
+abbrev pub prototyped_function : List ℕ → CUnit → Option COuter
+prototyped_function name one = find (λ known. (is_external known.linkage && is_prototype known) && bytes_eq name known.name) one.externals
+
 -- what stands for the name of an object: what the unit has that defines it, else the first that declares it
 abbrev pub object_of_name : List CUnit → List ℕ → Option (CFound CObject)
 object_of_name units name = or_other (first_unit (defined_object name) 0 units) (first_unit (declared_object name) 0 units)
@@ -53,8 +64,10 @@ object_of_name units name = or_other (first_unit (defined_object name) 0 units) 
 abbrev pub function_of_name : List CUnit → List ℕ → Option (CFound CFun)
 function_of_name units name = first_unit (defined_function name) 0 units
 
+-- what stands for the name of a function that no unit defines: the first declaration with a list of parameters, since arguments are passed by it, else the
+-- first (6.2.7p3, 6.5.2.2p6)
 abbrev pub outer_of_name : List CUnit → List ℕ → Option (CFound COuter)
-outer_of_name units name = first_unit (declared_function name) 0 units
+outer_of_name units name = or_other (first_unit (prototyped_function name) 0 units) (first_unit (declared_function name) 0 units)
 
 -- ---- numbers
 
@@ -159,7 +172,7 @@ objects_from units one unit (known ∷ others) =
     (if is_external known.linkage then external_object units unit known.name else object_there (numbers_of units one unit) known ∷ [])
     ++ objects_from units one unit others
 
--- a function that no unit defines stands where its name is declared first
+-- a function that no unit defines stands in the unit whose declaration stands for its name
 abbrev pub is_left : List CUnit → ℕ → COuter → Bool
 is_left units unit known =
     is_external known.linkage

@@ -7,10 +7,10 @@ use Rattle.std.proofs.lemmas.Slice.Eq.{bytes_eq-Decides}
 use Rattle.cx_core.specs.Linked.{is_external}
 use Rattle.cx_core.specs.Trees.{CFun, COuter, CUnit}
 use Rattle.cx_core.specs.Typing.{CCallee, function_with, outer_with, callee_with}
-use Rattle.cx_links.specs.Program.{CFound, declared_function, function_of_name, outer_of_name, counts_before, function_at, function_number, numbers_of, is_in, is_left, outers_from, linked}
+use Rattle.cx_links.specs.Program.{CFound, declared_function, prototyped_function, first_unit, function_of_name, outer_of_name, counts_before, function_at, function_number, numbers_of, is_in, is_left, outers_from, linked}
 use Rattle.cx_renumber.specs.Numbers.{above, type_there, outer_there}
 use Rattle.cx_typed_links.proofs.Compatible.{together_true}
-use Rattle.cx_typed_links.proofs.ExternalObjects.{some_of, found_too, some_first}
+use Rattle.cx_typed_links.proofs.ExternalObjects.{some_of, some_other, found_too, some_first}
 use Rattle.cx_typed_links.proofs.Functions.{number_of_function, number_of_outer, functions_in, functions_before, less_of_first, less_of_second, IsFunctionOf, program_functions, own_function_number, own_function, named_function}
 use Rattle.cx_typed_links.proofs.Joined.{rows_before, none_on}
 use Rattle.cx_typed_links.proofs.Outers.{is_named, IsLeftOf, IsFirstDeclared, first_declared, left_number, left_place, linked_externals, program_externals}
@@ -183,7 +183,9 @@ module _ (units : List CUnit) (typed : AreTypedUnits units) (unit : ℕ) (one : 
       let declared : IsSome (declared_function outer.name one) =
       found_too (λ other. other.function == number) (is_named outer.name) one.externals outer is_outer
       (together_true external ((bytes_eq-Decides outer.name outer.name).1 refl)) in
-      let found = some_of (outer_of_name units outer.name) (some_first (declared_function outer.name) 0 units unit one is declared) in
+      let found = some_of (outer_of_name units outer.name)
+      (some_other (first_unit (prototyped_function outer.name) 0 units) (first_unit (declared_function outer.name) 0 units)
+      (some_first (declared_function outer.name) 0 units unit one is declared)) in
       let place : function_number units one unit number ≡ function_at units found.0.unit found.0.thing.function =
       left_number units typed unit one number outer is_outer external undefined found.0 found.1 in
       record {

@@ -53,7 +53,7 @@ module _ {A : Type 0} (finds : CUnit → Option A) where
   some_first start (first ∷ others) (suc at) one is some =
       first_later start first (finds first) (first_unit finds (suc start) others) (some_first (suc start) others at one is some)
 
-some_other : {A : Type 0} (first second : Option A) → IsSome second → IsSome (or_other first second)
+pub some_other : {A : Type 0} (first second : Option A) → IsSome second → IsSome (or_other first second)
 some_other None second some = some
 some_other (Some one) second some = refl
 

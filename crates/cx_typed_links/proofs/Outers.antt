@@ -1,4 +1,4 @@
--- A function that no unit defines is found in the program as the first unit that declares it has it (ISO C99, 6.2.2p2).
+-- A function that no unit defines is found in the program as the unit has it whose declaration stands for its name (ISO C99, 6.2.2p2, 6.2.7p3).
 use Rattle.std.proofs.Common.{◌≡◌, ℕ, Bool, true, false, ◌&&◌, if◌then◌else◌, List, [], ◌∷◌, ◌++◌, map, All, Option, None, Some, slice_get, is_none, bytes_eq, refl, sym, ap, ◌∙◌, subst}
 use Rattle.std.specs.Prelude.{cond, ⊤}
 use Rattle.std.specs.List.{find, IsDistinct}
@@ -9,13 +9,13 @@ use Rattle.cx_core.specs.declared.program.Linkage.TheVariants.{External, Interna
 use Rattle.cx_core.specs.Linked.{is_external, has_linkage, names_with}
 use Rattle.cx_core.specs.Trees.{CTy, CPuts, CTypes, CObject, CFun, COuter, CProgram, CUnit}
 use Rattle.cx_core.specs.Typing.{outer_with}
-use Rattle.cx_links.specs.Program.{CFound, declared_function, function_of_name, outer_of_name, function_at, function_by, outer_by, function_number, numbers_of, is_in, is_left, outers_from, from_each, linked}
+use Rattle.cx_links.specs.Program.{CFound, declared_function, is_prototype, prototyped_function, first_unit, or_other, function_of_name, outer_of_name, function_at, function_by, outer_by, function_number, numbers_of, is_in, is_left, outers_from, from_each, linked}
 use Rattle.cx_renumber.specs.Numbers.{outer_there}
 use Rattle.cx_typed_links.proofs.Compatible.{both, together_true}
 use Rattle.cx_typed_links.proofs.Each.{all_given}
 use Rattle.cx_typed_links.proofs.Functions.{number_of_function, number_of_outer, distinct_second, outer_number}
 use Rattle.cx_typed_links.proofs.Joined.{none_on}
-use Rattle.cx_typed_links.proofs.Places.{first_is, found_holds, found_alone, same_found, same_number}
+use Rattle.cx_typed_links.proofs.Places.{IsFirstIn, first_is, found_holds, found_alone, same_found, same_number}
 use Rattle.cx_typed_links.specs.Laws.{AreTypedUnits}
 
 -- ---- names that differ
@@ -160,7 +160,7 @@ both_of P Q (x ∷ xs) first second =
 abbrev pub IsFoundOuter : CUnit → COuter → Type 0
 IsFoundOuter home thing = (outer_with thing.function home.externals ≡ Some thing) × IsFoundByName home.externals thing
 
--- a function of the program that no unit defines is what the first unit that declares it has
+-- a function of the program that no unit defines is what the unit has whose declaration stands for its name
 pub record IsLeftOf (units : List CUnit) (one : COuter) : Type 0 where
   pub found : CFound COuter
   pub found_is : outer_of_name units found.thing.name ≡ Some found
@@ -168,7 +168,7 @@ pub record IsLeftOf (units : List CUnit) (one : COuter) : Type 0 where
   pub undefined : function_of_name units found.thing.name ≡ None
   pub is : one ≡ outer_there (numbers_of units found.home found.unit) found.thing
 
--- the first declaration of a name, in its unit
+-- a declaration that stands for a name, in its unit
 pub record IsFirstDeclared (units : List CUnit) (name : List ℕ) (found : CFound COuter) : Type 0 where
   pub unit_is : slice_get units found.unit ≡ Some found.home
   pub own : IsFoundOuter found.home found.thing
@@ -190,18 +190,30 @@ module _ (units : List CUnit) (typed : AreTypedUnits units) where
       (distinct_second (map number_of_function one.functions) (map number_of_outer one.externals) (typed unit one is).numbers.functions_differ))
       (found_by_name one.externals (outers_differ one.types one.objects one.functions one.externals (typed unit one is).names_differ))
 
-  pub first_declared : (name : List ℕ) (found : CFound COuter) → outer_of_name units name ≡ Some found → IsFirstDeclared units name found
-  first_declared name found is =
-      let first = first_is (declared_function name) 0 units found is in
+  declared_by : (name : List ℕ) (found : CFound COuter) (test : COuter → Bool) → ((known : COuter) → test known ≡ true → is_named name known ≡ true)
+      → IsFirstIn (λ one. find test one.externals) 0 units found → IsFirstDeclared units name found
+  declared_by name found test goes first =
       let unit_is : slice_get units found.unit ≡ Some found.home =
       subst (λ n. slice_get units n ≡ Some found.home) (sym (first.unit_is ∙ none_on first.at)) first.home_is in
-      let held = found_holds (IsFoundOuter found.home) (is_named name) found.home.externals found.thing (all_own_outers found.unit found.home unit_is) first.thing_is in
+      let held = found_holds (IsFoundOuter found.home) test found.home.externals found.thing (all_own_outers found.unit found.home unit_is) first.thing_is in
+      let named = both (goes found.thing held.1) in
       record {
         unit_is = unit_is;
         own = held.0;
-        external = (both held.1).0;
-        name_is = sym ((bytes_eq-Decides name found.thing.name).0 (both held.1).1);
+        external = named.0;
+        name_is = sym ((bytes_eq-Decides name found.thing.name).0 named.1);
       }
+
+  declared_either : (name : List ℕ) (found : CFound COuter) (first : Option (CFound COuter)) → first_unit (prototyped_function name) 0 units ≡ first
+      → or_other first (first_unit (declared_function name) 0 units) ≡ Some found → IsFirstDeclared units name found
+  declared_either name found None is there =
+      declared_by name found (is_named name) (λ known passes. passes) (first_is (declared_function name) 0 units found there)
+  declared_either name found (Some one) is there =
+      declared_by name found (λ known. (is_external known.linkage && is_prototype known) && bytes_eq name known.name)
+      (λ known passes. let parts = both passes in together_true (both parts.0).0 parts.1) (first_is (prototyped_function name) 0 units found (is ∙ there))
+
+  pub first_declared : (name : List ℕ) (found : CFound COuter) → outer_of_name units name ≡ Some found → IsFirstDeclared units name found
+  first_declared name found is = declared_either name found (first_unit (prototyped_function name) 0 units) refl is
 
   -- ---- its number
 
@@ -226,7 +238,7 @@ module _ (units : List CUnit) (typed : AreTypedUnits units) where
   in_same unit (Some found) is = (found, refl, same_number found.unit unit is)
 
   module _ (unit : ℕ) (one : CUnit) (is : slice_get units unit ≡ Some one) where
-    -- a declaration that is left is the first of its name
+    -- a declaration that is left is the one that stands for its name
     pub record IsLeftFirst (known : COuter) : Type 0 where
       pub found : CFound COuter
       pub found_is : outer_of_name units known.name ≡ Some found
