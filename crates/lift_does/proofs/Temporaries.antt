@@ -45,13 +45,13 @@ use Rattle.rs_text.specs.declared.integer.IntegerTy.TheVariants.{I8, I16, I32, I
 
 -- ---- a scalar type has the size and the alignment of its scalar
 
-record HasScalar (ty : Ty) (laid : Laid) (kind : Scalar) : Type 0 where
-  is_scalar : IsScalar kind
-  size : laid.size ≡ scalar_size kind
-  align : laid.align ≡ scalar_size kind
-  some : 0 < scalar_size kind
+pub record HasScalar (ty : Ty) (laid : Laid) (kind : Scalar) : Type 0 where
+  pub is_scalar : IsScalar kind
+  pub size : laid.size ≡ scalar_size kind
+  pub align : laid.align ≡ scalar_size kind
+  pub some : 0 < scalar_size kind
 
-scalar_laid : (modules : List ModuleTree) (ty : Ty) (laid : Laid) (kind : Scalar) → scalar_of ty ≡ Some kind → laid_of modules ty ≡ Some laid → HasScalar ty laid kind
+pub scalar_laid : (modules : List ModuleTree) (ty : Ty) (laid : Laid) (kind : Scalar) → scalar_of ty ≡ Some kind → laid_of modules ty ≡ Some laid → HasScalar ty laid kind
 scalar_laid modules (Integer I8) laid kind e f = let k : scalars.Whole 8 true ≡ kind = cc (e) in let l : record { size = 1; align = 1 } ≡ laid = cc (f) in subst (HasScalar (Integer I8) laid) k (subst (λ (one : Laid). HasScalar (Integer I8) one (scalars.Whole 8 true)) l (record { is_scalar = refl; size = refl; align = refl; some = omega arith }))
 scalar_laid modules (Integer I16) laid kind e f = let k : scalars.Whole 16 true ≡ kind = cc (e) in let l : record { size = 2; align = 2 } ≡ laid = cc (f) in subst (HasScalar (Integer I16) laid) k (subst (λ (one : Laid). HasScalar (Integer I16) one (scalars.Whole 16 true)) l (record { is_scalar = refl; size = refl; align = refl; some = omega arith }))
 scalar_laid modules (Integer I32) laid kind e f = let k : scalars.Whole 32 true ≡ kind = cc (e) in let l : record { size = 4; align = 4 } ≡ laid = cc (f) in subst (HasScalar (Integer I32) laid) k (subst (λ (one : Laid). HasScalar (Integer I32) one (scalars.Whole 32 true)) l (record { is_scalar = refl; size = refl; align = refl; some = omega arith }))

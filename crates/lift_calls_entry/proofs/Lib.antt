@@ -1,0 +1,9 @@
+pub mod Begun
+pub mod Copies
+pub mod Entered
+pub mod Entries
+pub mod Fresh
+pub mod Locals
+pub mod Passed
+pub mod Prologue
+pub mod Stored
