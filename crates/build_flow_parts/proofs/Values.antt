@@ -52,6 +52,7 @@ module _ (a : Calling) (units steps : ℕ) (mean : PartsMean a.s a.names a.of un
           scene_of a.s.program c_world.held (home scope) (own_slots a slots) a.s.statics mean.linked refl refl
           (ap (λ (list : List ℕ). list ++ a.one.params) (sym known_are) ∙ ap (λ (list : List ℕ). objects_in slots ++ list) (sym params_are) ∙ sym (objects_append slots a.params))
           here.inside.scope.memory here.inside.scope.owned mean.begun;
+      allocated = here.inside.worlds.held.heaps.lives;
       owned = here.inside.scope.owned;
     };
   }

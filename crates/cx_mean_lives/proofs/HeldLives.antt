@@ -34,7 +34,7 @@ lives_sized bound held after same = record { grows = omega (arith, same.many); u
 
 -- ---- a block is made
 
-live_before : (memory : Blocks) (new : Option Block) (number : ℕ) → number < length memory → live_block (memory ++ new ∷ []) number ≡ live_block memory number
+pub live_before : (memory : Blocks) (new : Option Block) (number : ℕ) → number < length memory → live_block (memory ++ new ∷ []) number ≡ live_block memory number
 live_before [] new number within = absurd (omega (arith, within))
 live_before (first ∷ others) new zero within = refl
 live_before (first ∷ others) new (suc number) within = live_before others new number (omega (arith, within))

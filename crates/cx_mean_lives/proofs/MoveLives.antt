@@ -36,15 +36,15 @@ use Rattle.cx_mean_lives.specs.Laws.{SameSizes, LivesOn, CallsLive, AreFrom, IsS
 
 -- ---- objects from a number on
 
-from_both : (bound : ℕ) (first second : Frame) → AreFrom bound first → AreFrom bound second → AreFrom bound (first ++ second)
+pub from_both : (bound : ℕ) (first second : Frame) → AreFrom bound first → AreFrom bound second → AreFrom bound (first ++ second)
 from_both bound [] second one other = other
 from_both bound (slot ∷ others) second one other = (one.0, from_both bound others second one.1 other)
 
-from_first : (bound : ℕ) (first second : Frame) → AreFrom bound (first ++ second) → AreFrom bound first
+pub from_first : (bound : ℕ) (first second : Frame) → AreFrom bound (first ++ second) → AreFrom bound first
 from_first bound [] second are = tt
 from_first bound (slot ∷ others) second are = (are.0, from_first bound others second are.1)
 
-from_second : (bound : ℕ) (first second : Frame) → AreFrom bound (first ++ second) → AreFrom bound second
+pub from_second : (bound : ℕ) (first second : Frame) → AreFrom bound (first ++ second) → AreFrom bound second
 from_second bound [] second are = are
 from_second bound (slot ∷ others) second are = from_second bound others second are.1
 
@@ -67,7 +67,7 @@ purpose_from bound kept bottom (turns_on site) are params is = site_from bound k
 purpose_from bound kept bottom (gives_it place site) are params is = site_from bound kept bottom site are params is
 purpose_from bound kept bottom (chooses_by place site) are params is = site_from bound kept bottom site are params is
 
-move_from : (bound : ℕ) (kept : Frame) (bottom : CBottom) (move : CMove) → AreFrom bound kept → AreFrom bound bottom.params → IsMoveIn kept bottom move → IsMoveFrom bound move
+pub move_from : (bound : ℕ) (kept : Frame) (bottom : CBottom) (move : CMove) → AreFrom bound kept → AreFrom bound bottom.params → IsMoveIn kept bottom move → IsMoveFrom bound move
 move_from bound kept bottom (values value purpose) are params is = purpose_from bound kept bottom purpose are params is
 move_from bound kept bottom (reaches one site) are params is = site_from bound kept bottom site are params is
 move_from bound kept bottom (begins one) are params is =

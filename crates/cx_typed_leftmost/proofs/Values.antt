@@ -21,10 +21,10 @@ use Rattle.cx_mean.specs.Settings.{CSetting, setting_of}
 use Rattle.cx_mean.specs.State.{values_of_args}
 use Rattle.cx_mean.specs.Steps.{did, at_node, did_done, did_clear, outcome_of, tests_step, after_choice, finished_with}
 use Rattle.cx_mean.specs.Work.{was_loaded, was_computed, was_converted, finished, updates, fills, after_marks, filled}
-use Rattle.cx_mean_laws.specs.Laws.{calls_of}
 use Rattle.cx_mean_lives.proofs.ValueLives.{end_bind, end_step, end_tick, Anything, given_anything}
 use Rattle.cx_mean_lives.proofs.StoreSizes.{StoreSizes, put_stored_sizes}
 use Rattle.cx_mean_lives.proofs.ValueLives.{DoneSizes, node_sizes, update_sizes, literal_sizes}
+use Rattle.cx_typed_runs.proofs.CallsOutside.{LeavesHeld, outside_held}
 use Rattle.cx_typed_runs.proofs.Owned.{owned_back}
 use Rattle.cx_typed_work.proofs.Begun.{begun_typed}
 use Rattle.cx_typed_work.proofs.Choices.{IsPartOf, part_carried, first_part_of, second_part_of, and_leaves, or_leaves, tests_leave}
@@ -95,12 +95,9 @@ passes_step home frame quiet before now after many passed shapes memory = record
   shapes = λ w. shapes_then (blocks_of before) (blocks_of now) after (passed.shapes w) shapes;
 }
 
-module _ (home : CHome) (c_frame statics : Frame) (calls_typed : CallsAreTyped home.program statics (calls_of (setting_of home.program) statics)) where
+module _ (home : CHome) (calls : CCalls) (c_frame statics : Frame) (calls_typed : CallsAreTyped home.program statics calls) where
   abbrev setting : CSetting
   setting = setting_of home.program
-
-  abbrev calls : CCalls
-  calls = calls_of (setting_of home.program) statics
 
   abbrev frame : Frame
   frame = c_frame ++ statics
@@ -216,32 +213,33 @@ module _ (home : CHome) (c_frame statics : Frame) (calls_typed : CallsAreTyped h
   -- ---- calls
 
   returned_end : (quiet : Type 0) (node : CExpr) (before now : World) (one : CCalling) (left : ℕ) (outcome : COutcome) → Passes home frame quiet before now → (quiet → ⊥) → IsCallAs home node one →
-      CallLeaves home.program one.called.type now.held outcome → AtEnd (Ended quiet node before) (c_returned (type_of node) one.marks now left outcome)
-  returned_end quiet node before now one left (Ok (returns_value value after)) was loud is leaves = (
+      CallLeaves home.program one.called.type now.held outcome → LeavesHeld now outcome → AtEnd (Ended quiet node before) (c_returned (type_of node) one.marks now left outcome)
+  returned_end quiet node before now one left (Ok (returns_value value after)) was loud is leaves allocated = (
     is.resumes value leaves.0,
     record {
-      at = typed_kept home frame now after leaves.2 leaves.1 was.at;
+      at = typed_kept home frame now after leaves.2 leaves.1 allocated was.at;
       keeps = keeps_then before.held now.held after.held was.keeps leaves.2;
       shapes = λ q. absurd (loud q);
     },
   )
-  returned_end quiet node before now one left (Ok (ends_with status after)) was loud is leaves = tt
-  returned_end quiet node before now one left (Err stop) was loud is leaves = tt
+  returned_end quiet node before now one left (Ok (ends_with status after)) was loud is leaves allocated = tt
+  returned_end quiet node before now one left (Err stop) was loud is leaves allocated = tt
 
   callee_end : (quiet : Type 0) (node : CExpr) (before now : World) (one : CCalling) (callee : CCallee) (left : ℕ) → one.called.callee ≡ callee → Passes home frame quiet before now → (quiet → ⊥) → IsCallAs home node one →
       AtEnd (Ended quiet node before) (c_callee setting calls (type_of node) one callee now left)
   callee_end quiet node before now one (defined callee) left same was loud is =
       end_bind (CallIsTyped home.program one.called now) (Ended quiet node before) (calls callee (values_of_args one.called.args) now left) _
-      (calls_typed one.called callee now left is.typed same was.at.scene.memory (owned_back home.program now.held c_frame statics was.at.owned)) (λ value after rest given. (
+      (calls_typed one.called callee now left is.typed same was.at.scene.memory was.at.allocated (owned_back home.program now.held c_frame statics was.at.owned)) (λ value after rest given. (
         is.resumes value given.returned,
         record {
-          at = typed_kept home frame now after given.keeps given.memory was.at;
+          at = typed_kept home frame now after given.keeps given.memory given.allocated was.at;
           keeps = keeps_then before.held now.held after.held was.keeps given.keeps;
           shapes = λ q. absurd (loud q);
         },
       ))
   callee_end quiet node before now one (external callee) left same was loud is =
       returned_end quiet node before now one left (external_call setting one.called callee now) was loud is (external_calls_give_typed home.program one.called callee now is.typed same was.at.scene.memory)
+      (outside_held setting one.called callee now was.at.allocated)
 
   call_end : (quiet : Type 0) (type : CTy) (place : Place) (form : CForm) (before now : World) (outcome : Result CCalling CWhy) (steps : ℕ) → Passes home frame quiet before now → (quiet → ⊥) →
       IfGiven (IsCallAs home (expr type place form)) outcome → AtEnd (Ended quiet (expr type place form) before) (c_call setting calls place type now outcome steps)
@@ -445,4 +443,4 @@ module _ (home : CHome) (c_frame statics : Frame) (calls_typed : CallsAreTyped h
       (λ operand after is. record { operand_is = is.0; at = is.1.at; keeps = is.1.keeps; shapes = is.1.shapes })
 
 pub leftmost_stays_typed : LeftmostStaysTyped
-leftmost_stays_typed home frame statics e world steps calls_typed typed at = leftmost_stays home frame statics calls_typed e world steps typed at
+leftmost_stays_typed home calls frame statics e world steps calls_typed typed at = leftmost_stays home calls frame statics calls_typed e world steps typed at

@@ -2,13 +2,14 @@
 use Rattle.std.proofs.Common.{◌≡◌, ℕ, ◌<◌, Bool, true, false, if◌then◌else◌, ◌==◌, [], ◌∷◌, length, Option, Some, None, refl, sym, subst, ◌∙◌, arith}
 use Rattle.std.specs.Prelude.{IfSome}
 use Rattle.cr_world.specs.Held.{Held, is_listed}
+use Rattle.cr_world.specs.Laws.{HeapLives}
 use Rattle.cr_world.specs.World.{World, blocks_of, with_memory}
 use Rattle.cx_core.specs.Trees.{CObject, CProgram}
 use Rattle.cx_core.specs.Typing.{CHome, object_with}
 use Rattle.cx_mean.specs.Operands.{Frame, slot_of}
 use Rattle.cx_typed_runs.specs.Sites.{AreOwned}
 use Rattle.cx_typed_runs.proofs.CallsOutside.{kept_owned}
-use Rattle.cx_typed_runs.proofs.Owned.{shapes_owned}
+use Rattle.cx_typed_runs.proofs.Owned.{shapes_held, shapes_owned}
 use Rattle.cx_typed_work.specs.ExternalCalls.{KeepsObjects}
 use Rattle.cx_typed_work.specs.Scenes.{IsScene, IsAlive, IsTypedMemory, IsSameShape, AreSameShapes}
 use Rattle.mem_bytes.specs.declared.value.Ptr.{Ptr}
@@ -76,6 +77,7 @@ pub typed_stepped : (home : CHome) (frame : Frame) (world : World) (after : Bloc
     IsTypedAt home frame (with_memory after world)
 typed_stepped home frame world after shapes memory at = record {
   scene = scene_by home frame (blocks_of world) after (λ number to e. shapes.each to.block) memory at.scene;
+  allocated = shapes_held (blocks_of world) after world.held.heap shapes at.allocated;
   owned = shapes_owned home.program world.held (with_memory after world).held frame refl shapes at.owned;
 }
 
@@ -95,10 +97,11 @@ own_slot program held (slot ∷ others) number at owned e = by (slot.object == n
     by false is found rest = rest found
 
 -- behind a call
-pub typed_kept : (home : CHome) (frame : Frame) (world after : World) → KeepsObjects world.held after.held → IsTypedMemory home.program (blocks_of after) → IsTypedAt home frame world → IsTypedAt home frame after
-typed_kept home frame world after keeps memory at = record {
+pub typed_kept : (home : CHome) (frame : Frame) (world after : World) → KeepsObjects world.held after.held → IsTypedMemory home.program (blocks_of after) → HeapLives after.held → IsTypedAt home frame world → IsTypedAt home frame after
+typed_kept home frame world after keeps memory allocated at = record {
   scene = scene_by home frame (blocks_of world) (blocks_of after)
       (λ number to e. let own = own_slot home.program world.held frame number to at.owned e in keeps.lives to.block own.made own.unlisted) memory at.scene;
+  allocated = allocated;
   owned = kept_owned home.program world.held after.held frame keeps at.owned;
 }
 

@@ -1,6 +1,7 @@
 -- What the leftmost run of a typed expression leaves (ISO C99, 6.5 and 5.1.2.3): an operand of its type, in a typed memory in which each object in scope lives on.
 use Rattle.std.specs.Prelude.{◌≡◌, ℕ, true, ◌++◌}
 use Rattle.cr_runs.specs.Owes.{AtEnd}
+use Rattle.cr_world.specs.Laws.{HeapLives}
 use Rattle.cr_world.specs.World.{World, blocks_of}
 use Rattle.cx_core.specs.Trees.{CExpr, CFun, CProgram}
 use Rattle.cx_core.specs.Typing.{CHome}
@@ -10,7 +11,6 @@ use Rattle.cx_mean.specs.Operands.{CValue, COperand, Frame}
 use Rattle.cx_mean.specs.Quiet.{calls_nothing}
 use Rattle.cx_mean.specs.Settings.{setting_of}
 use Rattle.cx_mean.specs.State.{values_of_args}
-use Rattle.cx_mean_laws.specs.Laws.{calls_of}
 use Rattle.cx_typed_runs.specs.Sites.{AreOwned}
 use Rattle.cx_typed_work.specs.Calls.{IsTypedCall, IsReturned}
 use Rattle.cx_typed_work.specs.ExternalCalls.{KeepsObjects}
@@ -23,6 +23,7 @@ use Rattle.cx_typed_work.specs.Works.{IsTypedNode}
 -- a world in which expressions of a home may be evaluated
 pub record IsTypedAt (home : CHome) (frame : Frame) (world : World) : Type 0 where
   pub scene : IsScene home frame (blocks_of world)
+  pub allocated : HeapLives world.held
   pub owned : AreOwned home.program world.held frame
 
 -- ---- calls
@@ -31,13 +32,14 @@ pub record IsTypedAt (home : CHome) (frame : Frame) (world : World) : Type 0 whe
 pub record CallIsTyped (program : CProgram) (called : CCalled) (before : World) (value : CValue) (after : World) : Type 0 where
   pub returned : IsReturned program called.type value
   pub memory : IsTypedMemory program (blocks_of after)
+  pub allocated : HeapLives after.held
   pub keeps : KeepsObjects before.held after.held
 
 -- so it is with all calls that typed programs make
 abbrev pub CallsAreTyped : CProgram → Frame → CCalls → Type 0
 CallsAreTyped program statics calls =
     (called : CCalled) (callee : CFun) (world : World) (steps : ℕ) → IsTypedCall program called → called.callee ≡ defined callee →
-    IsTypedMemory program (blocks_of world) → AreOwned program world.held statics →
+    IsTypedMemory program (blocks_of world) → HeapLives world.held → AreOwned program world.held statics →
     AtEnd (CallIsTyped program called world) (calls callee (values_of_args called.args) world steps)
 
 -- ---- expressions
@@ -51,6 +53,6 @@ pub record IsTypedEnd (home : CHome) (frame : Frame) (e : CExpr) (before : World
 
 abbrev pub LeftmostStaysTyped : Type 0
 LeftmostStaysTyped =
-    (home : CHome) (frame statics : Frame) (e : CExpr) (world : World) (steps : ℕ) → CallsAreTyped home.program statics (calls_of (setting_of home.program) statics) →
+    (home : CHome) (calls : CCalls) (frame statics : Frame) (e : CExpr) (world : World) (steps : ℕ) → CallsAreTyped home.program statics calls →
     IsTypedNode home e → IsTypedAt home (frame ++ statics) world →
-    AtEnd (IsTypedEnd home (frame ++ statics) e world) (c_value (setting_of home.program) (calls_of (setting_of home.program) statics) (frame ++ statics) e world steps)
+    AtEnd (IsTypedEnd home (frame ++ statics) e world) (c_value (setting_of home.program) calls (frame ++ statics) e world steps)

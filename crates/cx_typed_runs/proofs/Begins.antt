@@ -103,7 +103,7 @@ grown program world front back number is_zero it memory held owned =
 
 -- ---- objects of blocks
 
-shape_is : (program : CProgram) (number : ℕ) (it : IsMade program number) → shape_of (setting_of program) number ≡ Ok (record { type = it.one.type; laid = it.laid })
+pub shape_is : (program : CProgram) (number : ℕ) (it : IsMade program number) → shape_of (setting_of program) number ≡ Ok (record { type = it.one.type; laid = it.laid })
 shape_is program number it =
     ap (λ found. and_then (needed found) (λ (o : CObject). and_then (needed (extent_in (setting_of program) o.type)) (λ laid. Ok (record { type = o.type; laid = laid })))) it.object_is
     ∙ ap (λ found. and_then (needed found) (λ laid. Ok (record { type = it.one.type; laid = laid }))) it.laid_is

@@ -42,20 +42,20 @@ pub running_of : (program : CProgram) (one : CFun) → IsLinked program → Cont
 running_of program one linked there =
     running_by program one (form_of_type one.type) there refl (all_of (IsTypedFunction program None) program.functions one linked.functions there).definition
 
-for_params : (program : CProgram) (params : List ℕ) (args : List CValue) → AreTakenFor program params args → AreForParams program params args
+pub for_params : (program : CProgram) (params : List ℕ) (args : List CValue) → AreTakenFor program params args → AreForParams program params args
 for_params program [] [] are = tt
 for_params program [] (value ∷ args) are = absurd are
 for_params program (number ∷ params) [] are = absurd are
 for_params program (number ∷ params) (value ∷ args) are = (are.0, are.1, are.2, for_params program params args are.3)
 
 -- the type of a call is that of a result, as the call sees it, which is compatible with what the function gives
-record IsSeenAs (program : CProgram) (type given : CTy) : Type 0 where
-  visible : CTy
-  is_result : IsResult program.types visible
-  type_is : type ≡ unqualified visible
-  compatible : AreCompatible program.types visible given
+pub record IsSeenAs (program : CProgram) (type given : CTy) : Type 0 where
+  pub visible : CTy
+  pub is_result : IsResult program.types visible
+  pub type_is : type ≡ unqualified visible
+  pub compatible : AreCompatible program.types visible given
 
-seen_by : (program : CProgram) (visible of_function given type : CTy) (params : CParams) (variadic : Bool) (args : List COperand) (form : CTyForm) → AreCompatible program.types visible of_function → form_of_type visible ≡ form
+pub seen_by : (program : CProgram) (visible of_function given type : CTy) (params : CParams) (variadic : Bool) (args : List COperand) (form : CTyForm) → AreCompatible program.types visible of_function → form_of_type visible ≡ form
     → form_of_type of_function ≡ function given params variadic → IsCalledAs program form type args → IsSeenAs program type given
 seen_by program visible of_function given type params variadic args (function result own own_variadic) by is of_is called = record {
   visible = result;

@@ -67,7 +67,7 @@ resumed_typed all program one result state world node work purpose type value re
 
 -- ---- the value that is given back
 
-given_typed : (program : CProgram) (type : CTy) (value : CValue) → IsReturned program type value → IsReturned program type (given_back value)
+pub given_typed : (program : CProgram) (type : CTy) (value : CValue) → IsReturned program type value → IsReturned program type (given_back value)
 given_typed program type (scalar value) is = is
 given_typed program type (cells held from) (inl is) = inl (record { is_record = is.is_record; laid = is.laid; laid_is = is.laid_is; all = is.all; typed = is.typed })
 given_typed program type (cells held from) (inr is) = absurd is

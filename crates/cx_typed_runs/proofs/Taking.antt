@@ -143,14 +143,14 @@ access_for program unit (ty (array element count) is_const) missing types type_i
 access_for program unit (ty (function result params variadic) is_const) value types type_in complete is = cc (complete)
 
 -- the object of a parameter that begins
-record IsParam (program : CProgram) (number : ℕ) (value : CValue) : Type 0 where
-  one : CObject
-  object_is : object_with number program.objects ≡ Some one
-  laid : Laid
-  laid_is : extent_in (setting_of program) one.type ≡ Some laid
-  small : laid.size ≤ most_bytes
-  access : IsAccess program (unqualified one.type)
-  value_is : IsValueOfType program (unqualified one.type) value
+pub record IsParam (program : CProgram) (number : ℕ) (value : CValue) : Type 0 where
+  pub one : CObject
+  pub object_is : object_with number program.objects ≡ Some one
+  pub laid : Laid
+  pub laid_is : extent_in (setting_of program) one.type ≡ Some laid
+  pub small : laid.size ≤ most_bytes
+  pub access : IsAccess program (unqualified one.type)
+  pub value_is : IsValueOfType program (unqualified one.type) value
 
 small_by : (test : Bool) (laid found : Laid) → nat_le laid.size most_laid ≡ test → (if test then Some laid else None) ≡ Some found → found.size ≤ most_bytes
 small_by true laid found e is =
@@ -181,7 +181,7 @@ param_laid program number value one (Some laid) linked object_is value_is laid_i
   value_is = value_is;
 }
 
-param_of : (program : CProgram) (number : ℕ) (value : CValue) (one : CObject) → IsLinked program → object_with number program.objects ≡ Some one → IsValueOfType program (unqualified one.type) value
+pub param_of : (program : CProgram) (number : ℕ) (value : CValue) (one : CObject) → IsLinked program → object_with number program.objects ≡ Some one → IsValueOfType program (unqualified one.type) value
     → IfSome (object_with number program.objects) (λ o. IsComplete program.types o.type) → IsParam program number value
 param_of program number value one linked object_is value_is complete =
     param_laid program number value one (extent_in (setting_of program) one.type) linked object_is value_is refl
@@ -190,15 +190,15 @@ param_of program number value one linked object_is value_is complete =
 -- ---- a parameter begins with its argument in it
 
 -- the argument is stored in the object, which has begun
-param_stored : (program : CProgram) (number : ℕ) (value : CValue) (one : IsParam program number value) (blocks : Blocks) (at : Ptr) → at.offset ≤ most_bytes → IsTypedMemory program blocks
+pub param_stored : (program : CProgram) (number : ℕ) (value : CValue) (one : IsParam program number value) (blocks : Blocks) (at : Ptr) → at.offset ≤ most_bytes → IsTypedMemory program blocks
     → Comes (IsStoredOf program (unqualified one.one.type) blocks) (stored (setting_of program) [] blocks (unqualified one.one.type) (designates (Pointer at)) value no_marks)
 param_stored program number value one blocks at near memory =
     store_comes program (unqualified one.one.type) blocks value no_marks (Ok (Pointer at)) one.access memory (inl one.value_is) near
 
-abbrev shape_in : (program : CProgram) (number : ℕ) (value : CValue) → IsParam program number value → CShape
+abbrev pub shape_in : (program : CProgram) (number : ℕ) (value : CValue) → IsParam program number value → CShape
 shape_in program number value one = record { type = one.one.type; laid = one.laid }
 
-shape_is : (program : CProgram) (number : ℕ) (value : CValue) (one : IsParam program number value) → shape_of (setting_of program) number ≡ Ok (shape_in program number value one)
+pub shape_is : (program : CProgram) (number : ℕ) (value : CValue) (one : IsParam program number value) → shape_of (setting_of program) number ≡ Ok (shape_in program number value one)
 shape_is program number value one =
     ap (λ found. and_then (needed found) (λ (o : CObject). and_then (needed (extent_in (setting_of program) o.type)) (λ laid. Ok (record { type = o.type; laid = laid })))) one.object_is
     ∙ ap (λ found. and_then (needed found) (λ laid. Ok (record { type = one.one.type; laid = laid }))) one.laid_is
@@ -304,7 +304,7 @@ next_typed program callee result state number params value args frame is around 
     (after_alloc (limit_of state.world.terms) (blocks_of state.world) is.param.laid.size is.param.laid.align))
 
 -- a parameter that a function has
-param_for : (program : CProgram) (callee : CFun) (result : CTy) (number : ℕ) (params : List ℕ) (frame : Frame) → IsLinked program → IsRunning program callee result → objects_of frame ++ number ∷ params ≡ callee.params
+pub param_for : (program : CProgram) (callee : CFun) (result : CTy) (number : ℕ) (params : List ℕ) (frame : Frame) → IsLinked program → IsRunning program callee result → objects_of frame ++ number ∷ params ≡ callee.params
     → IfSome (object_with number program.objects) (λ one. IsComplete program.types one.type)
 param_for program callee result number params frame linked running are =
     let definition = definition_of program callee result linked running in

@@ -45,11 +45,11 @@ object_alive home frame blocks number one found alive =
     record { one = one; alive = alive; at_is = there; begins = slot_begins frame number alive.at there; laid_is = alive.laid_is }
 
 -- the store of a finished value
-abbrev StoredIn : CProgram → CState → CPurpose → CPutting → COperand → Type 0
+abbrev pub StoredIn : CProgram → CState → CPurpose → CPutting → COperand → Type 0
 StoredIn program state purpose one operand =
     Comes (IsStoredOf program one.type (blocks_of state.world)) (put_stored (setting_of program) (frame_for state purpose) (blocks_of state.world) one.object one.spot one.type (with_marks no_marks operand))
 
-store_comes : (program : CProgram) (home : CHome) (state : CState) (purpose : CPurpose) (one : CPutting) (node : CExpr) (operand : COperand) → home.program ≡ program → IsScene home (frame_for state purpose) (blocks_of state.world)
+pub store_comes : (program : CProgram) (home : CHome) (state : CState) (purpose : CPurpose) (one : CPutting) (node : CExpr) (operand : COperand) → home.program ≡ program → IsScene home (frame_for state purpose) (blocks_of state.world)
     → (is : IsPuttingOf home (type_of node) one) → IsAlive home.program (frame_for state purpose) (blocks_of state.world) is.object → IsTyped home node → IsOperandOf home node operand → StoredIn program state purpose one operand
 store_comes program home state purpose one node operand same scene is alive typed given =
     subst (λ p. StoredIn p state purpose one operand) same

@@ -78,7 +78,7 @@ module _ (x : Around) where
   leftmost_is e world steps typed at =
       subst (λ (program : CProgram). CallsAreTyped program x.s.statics (calls_of (setting_of program) x.s.statics) →
       AtEnd (IsTypedEnd x.home (scope x) e world) (c_value (setting_of program) (calls_of (setting_of program) x.s.statics) (scope x) e world steps)) x.means.program
-      (λ calls. leftmost_stays_typed x.home x.c_frame x.s.statics e world steps calls typed at) x.typed_calls
+      (λ calls. leftmost_stays_typed x.home (calls_of (setting_of x.home.program) x.s.statics) x.c_frame x.s.statics e world steps calls typed at) x.typed_calls
 
   pub knows : (e : CExpr) (images : Images) (c_world world : World) → IsTypedNode x.home e → At x images c_world world → (steps : ℕ) → AtEnd (Knows x e c_world) (value_in x e c_world steps)
   knows e images c_world world typed at steps = by (value_in x e c_world steps) refl (leftmost_is e c_world steps typed at.typed)
