@@ -16,6 +16,7 @@ pub mod Members
 pub mod Nodes
 pub mod Operands
 pub mod Places
+pub mod Quiet
 pub mod Reaching
 pub mod Runs
 pub mod Sameness
