@@ -3,10 +3,12 @@ pub mod Asking
 pub mod Assignments
 pub mod Binary
 pub mod BinaryTypes
+pub mod Branches
 pub mod Commas
 pub mod CompoundAssignments
 pub mod Conversions
 pub mod Covered
+pub mod Decided
 pub mod Held
 pub mod HeldPlaces
 pub mod Lasting
@@ -22,6 +24,7 @@ pub mod Runs
 pub mod Sameness
 pub mod Steady
 pub mod StepsByOne
+pub mod Taken
 pub mod Temporaries
 pub mod Types
 pub mod Unary

@@ -208,7 +208,7 @@ mutual
 -- ---- C's world
 
 abbrev pub StaysAt : World → COperand → World → Type 0
-StaysAt before operand after = after ≡ before
+StaysAt before one after = after ≡ before
 
 abbrev StoresNothing : Blocks → CDone → Type 0
 StoresNothing blocks one = one.blocks ≡ blocks
