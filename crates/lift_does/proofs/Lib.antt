@@ -4,6 +4,7 @@ pub mod Assignments
 pub mod Binary
 pub mod BinaryTypes
 pub mod Branches
+pub mod Choices
 pub mod Commas
 pub mod CompoundAssignments
 pub mod Conversions
