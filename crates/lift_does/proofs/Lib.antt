@@ -17,6 +17,7 @@ pub mod Leaves
 pub mod Loads
 pub mod Members
 pub mod Nodes
+pub mod Numbers
 pub mod Operands
 pub mod Places
 pub mod Quiet
