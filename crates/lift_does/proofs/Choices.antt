@@ -25,7 +25,7 @@ use Rattle.lift_does.proofs.Quiet.{bare, neither_acts}
 use Rattle.lift_does.proofs.Reaching.{reached_then, reached_wider, later_itself, later_then}
 use Rattle.lift_does.proofs.Runs.{step_owes, end_owes, same_events}
 use Rattle.lift_does.proofs.Steady.{IsScoped, sizes_last}
-use Rattle.lift_does.proofs.Taken.{IsTaken}
+use Rattle.lift_does.proofs.Taken.{IsTaken, scalar_taken}
 use Rattle.lift_does.proofs.Unary.{form_fixed, ExprOwes, FormOwes}
 use Rattle.lift_does.specs.Does.{is_fixed}
 use Rattle.lift_does.specs.Gives.{GivesOperand, GivesWhere}
@@ -340,3 +340,11 @@ module _ (x : Around) where
           both_dropped x false type at test first second from images c0 w0 here typed.1.0 typed.1.1 typed.1.2 typed.1.3.first_is typed.1.3.second_is form fixed up
           (record { typed_part = typed.1.1; type_is = typed.1.3.first_is; behind_test = omega arith; rises = over; below = top; owes = one_owes_it })
           (record { typed_part = typed.1.2; type_is = typed.1.3.second_is; behind_test = over; rises = top; below = omega arith; owes = other_owes }) owes refl written refl inner.0 inner.1 holds one later c1 w1 did))
+
+  -- a scalar part
+  pub scalar_part_taken : (type : CTy) (part : CExpr) (given : Given) (number : ℕ) → IsTyped x.home part → type_of part ≡ type → is_record type ≡ false → is_void type ≡ false →
+      x.kept.temporaries number ≡ Some (record { name = x.names.temporary number; ty = type_in x.names type }) → PartTakes x type part given number
+  scalar_part_taken type part given number typed same no_record not_void kept_is of_c images c_world world at is gave =
+      let taken = scalar_taken x part of_c given number images c_world world at typed (ap is_void same ∙ not_void) (ap is_record same ∙ no_record) is
+      (kept_is ∙ ap (λ (t : CTy). Some (record { name = x.names.temporary number; ty = type_in x.names t })) (sym same)) gave in
+      rw (no_record) taken

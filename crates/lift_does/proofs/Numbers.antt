@@ -50,7 +50,7 @@ decided_numbered names_of true true type which test other two from one more =
 decided_numbered names_of false true type which test other two from one more = turn_numbered two given_form.nothing from one more
 decided_numbered names_of used false type which test other two from one more = turn_numbered two given_form.nothing from one more
 
-three_numbered : (three : Choice) (from : ℕ) → IsNumbered three.test from → IsNumbered three.first three.test.next → IsNumbered three.second three.first.next →
+pub three_numbered : (three : Choice) (from : ℕ) → IsNumbered three.test from → IsNumbered three.first three.test.next → IsNumbered three.second three.first.next →
     three.second.next ≡ from + length (three.test.temporaries ++ (three.first.temporaries ++ three.second.temporaries))
 three_numbered three from one two more =
     let inner = length-append three.first.temporaries three.second.temporaries in

@@ -1,6 +1,6 @@
--- The part of the law that is proved: the expressions without calls, branches, compound literals, bit-fields, and values of structure or union type.
+-- The part of the law that is proved: the expressions without calls, compound literals, bit-fields, and values of structure or union type.
 use Rattle.std.specs.Prelude.{◌≡◌, ◌⊎◌, ℕ, true, false}
-use Rattle.cx_core.specs.Trees.{CTy, CExpr, expr, CForm, whole, null, object, code, load, deref, member, address, convert, unary, binary, assign, assign_by, step, comma}
+use Rattle.cx_core.specs.Trees.{CTy, CExpr, expr, CForm, whole, null, object, code, load, deref, member, address, convert, unary, binary, and, or, cond, assign, assign_by, step, comma}
 use Rattle.cx_core.specs.Typing.{CHome, IsTyped, IsLvalue, is_bit_field}
 use Rattle.cx_typed_leftmost.specs.Laws.{CallsAreTyped}
 use Rattle.lift_calls.specs.Calls.{Promise}
@@ -36,6 +36,9 @@ abbrev mutual
   IsCoveredForm type (assign_by op computes target value) = (is_bit_field target ≡ false) × IsCovered target × IsCovered value
   IsCoveredForm type (step up post on) = (is_bit_field on ≡ false) × IsCovered on
   IsCoveredForm type (comma first second) = IsCovered first × IsCovered second
+  IsCoveredForm type (and left right) = IsCovered left × IsCovered right
+  IsCoveredForm type (or left right) = IsCovered left × IsCovered right
+  IsCoveredForm type (cond test first second) = IsCovered test × IsCovered first × IsCovered second
   IsCoveredForm type form = ⊥
 
 -- ---- the law
