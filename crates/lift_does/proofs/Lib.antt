@@ -8,6 +8,7 @@ pub mod Choices
 pub mod Commas
 pub mod CompoundAssignments
 pub mod Conversions
+pub mod Copies
 pub mod Covered
 pub mod Decided
 pub mod Held
