@@ -23,6 +23,8 @@ pub mod Operands
 pub mod Places
 pub mod Quiet
 pub mod Reaching
+pub mod RecordTypes
+pub mod Records
 pub mod Runs
 pub mod Sameness
 pub mod Steady
