@@ -29,7 +29,7 @@ use Rattle.lift_does.proofs.Taken.{IsTaken, scalar_taken}
 use Rattle.lift_does.proofs.Unary.{form_fixed, ExprOwes, FormOwes}
 use Rattle.lift_does.specs.Does.{is_fixed}
 use Rattle.lift_does.specs.Gives.{GivesOperand, GivesWhere}
-use Rattle.lift_does.specs.Later.{IsSameAt}
+use Rattle.lift_does.specs.Later.{IsSameAt, TemporariesStay}
 use Rattle.lift_exprs.specs.Lifted.{lifted, branch, operand_of, Choice, choice_behind, choice_joined, part_taken, chosen_written}
 use Rattle.lift_exprs.specs.Names.{Names, type_in}
 use Rattle.lift_exprs.specs.Written.{Written, temporary_place, copied, address_of_given}
@@ -127,8 +127,7 @@ module _ (x : Around) (used : Bool) (type : CTy) (at : Place) (test first second
           worlds = reached.at.worlds;
           gives = λ end c_later after is_later. where_used used x end after (expr type at form) written.given other.value (λ _.
               carried_given x true (expr type at form) part end after written.given other.value (sym is.type_is) given_is
-              (taken.gives end fixed (both (at_sequence_point one.marks) other.marks).reads c_later after
-              (subst (λ (n : ℕ). LaterAt x last end n fixed (both (at_sequence_point one.marks) other.marks).reads c2 taken.after c_later after) next_is is_later)));
+              (taken.gives end after is_later.extends (subst (λ (n : ℕ). TemporariesStay x.kept x.frame n taken.after after) next_is is_later.temporaries)));
         }))
 
     -- it does nothing beside giving a value, which is read where the whole is

@@ -7,14 +7,14 @@ use Rattle.cr_runs.specs.Runs.{came}
 use Rattle.cr_world.specs.Held.{Held, with_blocks}
 use Rattle.cr_world.specs.World.{World, blocks_of, with_held}
 use Rattle.cr_world.specs.Known.{accessed_as}
-use Rattle.cx_mean.specs.Marks.{Range}
 use Rattle.lift_calls.specs.Frames.{KeptTemporary, IsLocal}
-use Rattle.lift_does.proofs.Around.{Around, At, LaterAt, Reached, runs}
+use Rattle.lift_does.proofs.Around.{Around, At, Reached, runs}
 use Rattle.lift_does.proofs.Operands.{one_spot}
 use Rattle.lift_does.proofs.Reaching.{at_after, reached_none, reached_wider}
 use Rattle.lift_does.proofs.Runs.{run_one}
 use Rattle.lift_does.proofs.Temporaries.{seq_comes, place_of_local}
 use Rattle.lift_does.specs.Gives.{IsNoDeref, AddressesBased}
+use Rattle.lift_does.specs.Later.{TemporariesStay}
 use Rattle.lift_exprs.specs.Written.{temporary_place, as_bytes, copied}
 use Rattle.lift_forms.specs.Given as given_form
 use Rattle.lift_forms_laws.proofs.Constants.{addresses}
@@ -247,10 +247,10 @@ module _ (x : Around) where
           number_equal : (n m : ℕ) → (n == m) ≡ true → n ≡ m
           number_equal n m is = grind (arith, nat_tests, is)
 
-  -- it is found later
-  pub keeps_later : (number below : ℕ) (ty : Ty) (size align : ℕ) (list : List Cell) (images last : Images) (fixed : Bool) (reads : List Range) (c_world world c_later later : World) → number < below → TemporaryKeeps x number ty size align list world →
-      LaterAt x images last below fixed reads c_world world c_later later → TemporaryKeeps x number ty size align list later
-  keeps_later number below ty size align list images last fixed reads c_world world c_later later p holds is_later = record {
+  -- it is found where temporaries are what they were
+  pub keeps_staying : (number below : ℕ) (ty : Ty) (size align : ℕ) (list : List Cell) (world later : World) → number < below → TemporaryKeeps x number ty size align list world →
+      TemporariesStay x.kept x.frame below world later → TemporaryKeeps x number ty size align list later
+  keeps_staying number below ty size align list world later p holds stay = record {
     one = holds.one;
     kept_is = holds.kept_is;
     name_is = holds.name_is;
@@ -258,7 +258,7 @@ module _ (x : Around) where
     is_local = holds.is_local;
     ty_is = holds.ty_is;
     block = holds.block;
-    live = is_later.temporaries number holds.one holds.local p holds.kept_is holds.is_local ∙ holds.live;
+    live = stay number holds.one holds.local p holds.kept_is holds.is_local ∙ holds.live;
     part = holds.part;
     aligned = holds.aligned;
   }

@@ -28,7 +28,7 @@ use Rattle.lift_does.proofs.Steady.{SameSize, IsScoped, sizes_last}
 use Rattle.lift_does.proofs.Taken.{scalar_taken}
 use Rattle.lift_does.proofs.Unary.{form_fixed, ExprOwes, FormOwes}
 use Rattle.lift_does.specs.Gives.{GivesOperand, GivesWhere}
-use Rattle.lift_does.specs.Later.{AllOf, IsSameAt}
+use Rattle.lift_does.specs.Later.{AllOf, IsSameAt, TemporariesStay}
 use Rattle.lift_exprs.specs.Lifted.{lifted, lifted_form, operand_of, Deciding, where_true, where_false, decided, decides, decided_form, decided_written}
 use Rattle.lift_exprs.specs.Names.{type_in}
 use Rattle.lift_exprs.specs.Written.{Written, Both, both as both_written, in_turn, joined, then_takes, temporary_place}
@@ -258,7 +258,7 @@ module _ (x : Around) (asked : Asked) (type : CTy) (at : Place) (left right : CE
           gives = λ end c_later after is_later.
               subst (λ (g : Given). GivesOperand x.s x.names end x.c_frame x.frame after (expr type at form) g value) (sym given_is)
               (subst (λ (v : CValue). GivesOperand x.s x.names end x.c_frame x.frame after (expr type at form) (given_form.value (Read (temporary_place x.names two.second.next))) v) (sym same)
-              (taken.gives end fixed marks.reads c_later after (subst (λ (n : ℕ). LaterAt x last end n fixed marks.reads c2 taken.after c_later after) next_is is_later)));
+              (taken.gives end after is_later.extends (subst (λ (n : ℕ). TemporariesStay x.kept x.frame n taken.after after) next_is is_later.temporaries)));
         })
 
     taken_tested : (holds : Bool) (one : COperand) (later : Images) (c1 w1 : World) → LeftDid one later c1 w1 → RightOwes →

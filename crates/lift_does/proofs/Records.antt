@@ -10,7 +10,7 @@ use Rattle.cx_mean.specs.Settings.{setting_of, extent_in}
 use Rattle.cx_typed_work.specs.Operands.{IsGiven}
 use Rattle.lift_calls.specs.Programs.{setting_in}
 use Rattle.lift_does.proofs.Around.{Around, At, runs}
-use Rattle.lift_does.proofs.Copies.{CopiesTemporary, copies_temporary, keeps_later, kept_place, keeps_address, keeps_part, keeps_record, keeps_based}
+use Rattle.lift_does.proofs.Copies.{CopiesTemporary, copies_temporary, keeps_staying, kept_place, keeps_address, keeps_part, keeps_record, keeps_based}
 use Rattle.lift_does.proofs.RecordTypes.{scalar_no_record, lack_complete, extent_there}
 use Rattle.lift_does.proofs.Taken.{IsTaken}
 use Rattle.lift_does.specs.Gives.{GivesRecord, GivesMissing, GivesRoom, MissingAs, GivesOperand}
@@ -93,8 +93,8 @@ module _ (x : Around) where
         after = copies.after;
         comes = λ units. subst (λ (n : ℕ). runs x (copied (address_of_given given) (AddressOf (temporary_place x.names number)) n ∷ []) world units ≡ came normal copies.after units) (sym size_is) (copies.comes units);
         reached = copies.reached;
-        gives = λ last fixed reads c_later later is_later.
-            let kept_it = keeps_later x number (suc number) (type_in x.names type) is.laid.size is.laid.align holds.cells images last fixed reads c_world copies.after c_later later (omega arith) copies.holds is_later in
+        gives = λ last later extends stay.
+            let kept_it = keeps_staying x number (suc number) (type_in x.names type) is.laid.size is.laid.align holds.cells copies.after later (omega arith) copies.holds stay in
             record {
               at = Object (kept_place x kept_it);
               gives = keeps_address x number (type_in x.names type) is.laid.size is.laid.align holds.cells later kept_it;
@@ -106,7 +106,7 @@ module _ (x : Around) where
                     (subst (λ (a : ℕ). record_at (blocks_of later) (kept_place x kept_it) is.laid.size a ≡ Ok holds.cells) (sym (ap align_or laid_is))
                     (keeps_record x number (type_in x.names type) is.laid.size is.laid.align holds.cells later kept_it));
                 held = holds.held;
-                below = cells_stay images last list holds.cells is_later.extends holds.below;
+                below = cells_stay images last list holds.cells extends holds.below;
               };
               based = keeps_based x number (type_in x.names type) is.laid.size is.laid.align holds.cells later kept_it;
             };
@@ -122,8 +122,8 @@ module _ (x : Around) where
         after = copies.after;
         comes = λ units. subst (λ (n : ℕ). runs x (copied (address_of_given given) (AddressOf (temporary_place x.names number)) n ∷ []) world units ≡ came normal copies.after units) (sym size_is) (copies.comes units);
         reached = copies.reached;
-        gives = λ last fixed reads c_later later is_later.
-            let kept_it = keeps_later x number (suc number) (type_in x.names type) laid.0.size laid.0.align room.list images last fixed reads c_world copies.after c_later later (omega arith) copies.holds is_later in
+        gives = λ last later extends stay.
+            let kept_it = keeps_staying x number (suc number) (type_in x.names type) laid.0.size laid.0.align room.list copies.after later (omega arith) copies.holds stay in
             to_room later type (given_form.value (AddressOf (temporary_place x.names number))) of_record (record {
               at = kept_place x kept_it;
               gives = keeps_address x number (type_in x.names type) laid.0.size laid.0.align room.list later kept_it;

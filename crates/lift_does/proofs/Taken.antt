@@ -4,25 +4,25 @@ use Rattle.cr_runs.specs.Runs.{came}
 use Rattle.cr_world.specs.World.{World}
 use Rattle.cx_core.specs.Trees.{CExpr, type_of}
 use Rattle.cx_core.specs.Typing.{IsTyped}
-use Rattle.cx_mean.specs.Marks.{Range}
 use Rattle.cx_mean.specs.Operands.{CValue}
 use Rattle.cx_typed_work.proofs.Given.{value_given}
 use Rattle.cx_typed_work.specs.Operands.{IsGiven}
-use Rattle.lift_does.proofs.Around.{Around, At, LaterAt, DidOf, value_in, Reached, runs}
+use Rattle.lift_does.proofs.Around.{Around, At, DidOf, value_in, Reached, runs}
 use Rattle.lift_does.proofs.Held.{storable}
 use Rattle.lift_does.proofs.Nodes.{PartOwes}
 use Rattle.lift_does.proofs.Operands.{where_used}
 use Rattle.lift_does.proofs.Reaching.{Knows, knows, reached_by, reached_then, later_itself}
 use Rattle.lift_does.proofs.Runs.{behind_owes, end_owes, known_owes}
-use Rattle.lift_does.proofs.Temporaries.{stores_temporary, reads_temporary}
+use Rattle.lift_does.proofs.Temporaries.{stores_temporary, reads_staying}
 use Rattle.lift_does.specs.Gives.{GivesOperand, GivesWhere}
+use Rattle.lift_does.specs.Later.{TemporariesStay}
 use Rattle.lift_exprs.specs.Names.{type_in}
 use Rattle.lift_exprs.specs.Written.{Written, temporary_place, then_takes}
 use Rattle.lift_forms.specs.Given.{Given}
 use Rattle.lift_forms.specs.Given as given_form
 use Rattle.lift_forms.specs.Operators.{given_value}
 use Rattle.lift_held.specs.Held.{is_void, is_record}
-use Rattle.lift_stands.specs.Stands.{Images}
+use Rattle.lift_stands.specs.Stands.{Images, Extends}
 use Rattle.rs_mean.specs.Run.{normal}
 use Rattle.rs_text.specs.Tree.{Ty, Read, Stmt, Assign}
 
@@ -31,8 +31,7 @@ pub record IsTaken (x : Around) (part : CExpr) (of_c : CValue) (statement : Stmt
   pub after : World
   pub comes : (units : ℕ) → runs x (statement ∷ []) world units ≡ came normal after units
   pub reached : Reached x number (suc number) images images c_world world c_world after
-  pub gives : (last : Images) (fixed : Bool) (reads : List Range) (c_later later : World) → LaterAt x images last (suc number) fixed reads c_world after c_later later →
-      GivesOperand x.s x.names last x.c_frame x.frame later part given of_c
+  pub gives : (last : Images) (later : World) → Extends images last → TemporariesStay x.kept x.frame (suc number) after later → GivesOperand x.s x.names last x.c_frame x.frame later part given of_c
 
 module _ (x : Around) where
   -- a scalar is assigned
@@ -47,9 +46,9 @@ module _ (x : Around) where
         after = stored.after;
         comes = stored.comes;
         reached = stored.reached;
-        gives = λ last fixed reads c_later later is_later.
-            may.back last later (Read (temporary_place x.names number)) (λ p same. cc (same)) is_later.extends
-            (reads_temporary x number (suc number) (type_in x.names (type_of part)) may.kind may.other images last fixed reads c_world stored.after c_later later (omega arith) stored.holds is_later);
+        gives = λ last later extends stay.
+            may.back last later (Read (temporary_place x.names number)) (λ p same. cc (same)) extends
+            (reads_staying x number (suc number) (type_in x.names (type_of part)) may.kind may.other stored.after later (omega arith) stored.holds stay);
       }
 
   -- a node whose value is held
@@ -75,5 +74,5 @@ module _ (x : Around) where
         are_own = both.are_own;
         keeps = both.keeps;
         worlds = both.at.worlds;
-        gives = λ last c_later after later. where_used used x last after e given operand.value (λ _. taken.gives last more operand.marks.reads c_later after later);
+        gives = λ last c_later after later. where_used used x last after e given operand.value (λ _. taken.gives last after later.extends later.temporaries);
       }))
