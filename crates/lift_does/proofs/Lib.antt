@@ -23,6 +23,7 @@ pub mod Operands
 pub mod Places
 pub mod Quiet
 pub mod Reaching
+pub mod RecordAssignments
 pub mod RecordTypes
 pub mod Records
 pub mod Runs
