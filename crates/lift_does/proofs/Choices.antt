@@ -23,6 +23,7 @@ use Rattle.lift_does.proofs.Nodes.{PartOwes, OneDid, one_owes, one_owes_alone}
 use Rattle.lift_does.proofs.Operands.{or_false, where_used}
 use Rattle.lift_does.proofs.Quiet.{bare, neither_acts}
 use Rattle.lift_does.proofs.Reaching.{reached_then, reached_wider, later_itself, later_then}
+use Rattle.lift_does.proofs.Records.{record_taken}
 use Rattle.lift_does.proofs.Runs.{step_owes, end_owes, same_events}
 use Rattle.lift_does.proofs.Steady.{IsScoped, sizes_last}
 use Rattle.lift_does.proofs.Taken.{IsTaken, scalar_taken}
@@ -341,9 +342,21 @@ module _ (x : Around) where
           (record { typed_part = typed.1.2; type_is = typed.1.3.second_is; behind_test = over; rises = top; below = omega arith; owes = other_owes }) owes refl written refl inner.0 inner.1 holds one later c1 w1 did))
 
   -- a scalar part
-  pub scalar_part_taken : (type : CTy) (part : CExpr) (given : Given) (number : ℕ) → IsTyped x.home part → type_of part ≡ type → is_record type ≡ false → is_void type ≡ false →
+  scalar_part_taken : (type : CTy) (part : CExpr) (given : Given) (number : ℕ) → IsTyped x.home part → type_of part ≡ type → is_record type ≡ false → is_void type ≡ false →
       x.kept.temporaries number ≡ Some (record { name = x.names.temporary number; ty = type_in x.names type }) → PartTakes x type part given number
   scalar_part_taken type part given number typed same no_record not_void kept_is of_c images c_world world at is gave =
       let taken = scalar_taken x part of_c given number images c_world world at typed (ap is_void same ∙ not_void) (ap is_record same ∙ no_record) is
       (kept_is ∙ ap (λ (t : CTy). Some (record { name = x.names.temporary number; ty = type_in x.names t })) (sym same)) gave in
       rw (no_record) taken
+
+  pub part_is_taken : (type : CTy) (part : CExpr) (given : Given) (number : ℕ) → IsTyped x.home part → type_of part ≡ type → is_void type ≡ false →
+      x.kept.temporaries number ≡ Some (record { name = x.names.temporary number; ty = type_in x.names type }) → PartTakes x type part given number
+  part_is_taken type part given number typed same not_void kept_is = by (is_record type) refl
+    where
+      by : (record_type : Bool) → is_record type ≡ record_type → PartTakes x type part given number
+      by false e of_c images c_world world at is gave = scalar_part_taken type part given number typed same e not_void kept_is of_c images c_world world at is gave
+      by true e of_c images c_world world at is gave =
+          let taken = record_taken x part of_c given number images c_world world at typed (ap is_record same ∙ e) is (kept_is ∙ ap (λ (t : CTy). Some (record { name = x.names.temporary number; ty = type_in x.names t })) (sym same)) gave in
+          let sized = subst (λ (n : ℕ). IsTaken x part of_c (copied (address_of_given given) (AddressOf (temporary_place x.names number)) n) (given_form.value (AddressOf (temporary_place x.names number))) number images c_world world)
+          (ap x.names.size_of same) taken in
+          rw (e) sized

@@ -1,11 +1,13 @@
 -- The types of structures and unions that expressions give are complete (ISO C99, 6.2.5p20).
-use Rattle.std.proofs.Common.{◌≡◌, ◌⊎◌, inl, inr, Bool, true, false, ◌||◌, Option, Some, None, IsSome, refl, sym, ap, subst}
+use Rattle.std.proofs.Common.{◌≡◌, ◌⊎◌, inl, inr, ℕ, Bool, true, false, ◌||◌, Option, Some, None, IsSome, refl, sym, ap, subst, ◌∙◌}
 use Rattle.std.specs.Prelude.{IfSome, IsTrue}
 use Rattle.cr_base.specs.declared.layout.Laid.{Laid}
 use Rattle.cr_base.specs.declared.scalar.Scalar.{Scalar}
-use Rattle.cx_core.specs.Conversions.{scalar_of as c_scalar_of}
+use Rattle.cx_core.specs.Conversions.{scalar_of as c_scalar_of, promoted, IsPromoted, IsIntegerType}
+use Rattle.cx_core.specs.declared.expr.Op2.{Op2}
+use Rattle.cx_core.specs.declared.expr.Op2.TheVariants as op2
 use Rattle.cx_core.specs.Trees.{CTy, ty, CTyForm, void, basic, enum_type, pointer, array, record_type, function, form_of_type, unqualified, CExpr, expr, CForm, whole, null, object, code, load, deref, member, address, convert, unary, binary, and, or, cond, assign, assign_by, step, call, call_by, comma, literal, CExprs, type_of, CTypes, CProgram}
-use Rattle.cx_core.specs.Typing.{CHome, types_of_home, CCallee, callee_with, IsTyped, IsTypedForm, IsCallOf, IsCalleeOf, IsCallee, IsCallBy, IsResult}
+use Rattle.cx_core.specs.Typing.{CHome, types_of_home, CCallee, callee_with, IsTyped, IsTypedForm, IsCallOf, IsCalleeOf, IsCallee, IsCallBy, IsResult, IsElementPointer, IsShift, AreJoined, IsComputedIn, IsAssignByOf, width_of}
 use Rattle.cx_core.specs.ValidTypes.{IsComplete}
 use Rattle.cx_mean.specs.Settings.{extent_in}
 use Rattle.cx_typed_work.specs.Operands.{may_lack}
@@ -112,3 +114,57 @@ some_is None is = cc (is)
 module _ (x : Around) where
   pub extent_there : (type : CTy) → IsComplete (types_of_home x.home) type → (laid : Laid) × (extent_in (setting_in x.s) type ≡ Some laid)
   extent_there type is = some_is (extent_in (setting_in x.s) type) (subst (λ (program : CProgram). IsComplete program.types type) x.means.program is)
+
+-- ---- what computes is no structure or union
+
+joined_clash : (number : ℕ) (computes value : CTy) → AreJoined computes (ty (record_type number) false) value → ⊥
+joined_clash number computes value is = let odd = subst IsPromoted (sym is.common) is.promoted in cc (odd.0)
+
+shift_clash : (number : ℕ) (computes value : CTy) → IsShift computes (ty (record_type number) false) value → ⊥
+shift_clash number computes value is = let odd = subst IsPromoted (sym is.left_is) is.promoted in cc (odd.0)
+
+computed_clash : (types : CTypes) (op : Op2) (number : ℕ) (computes value : CTy) → IsComputedIn types op computes (ty (record_type number) false) value → ⊥
+computed_clash types op2.Multiply number computes value is = joined_clash number computes value is
+computed_clash types op2.Divide number computes value is = joined_clash number computes value is
+computed_clash types op2.Remainder number computes value is = joined_clash number computes value is
+computed_clash types op2.Add number computes value (inl is) = joined_clash number computes value is
+computed_clash types op2.Add number computes value (inr is) = is.elements
+computed_clash types op2.Subtract number computes value (inl is) = joined_clash number computes value is
+computed_clash types op2.Subtract number computes value (inr is) = is.elements
+computed_clash types op2.ShiftLeft number computes value is = shift_clash number computes value is
+computed_clash types op2.ShiftRight number computes value is = shift_clash number computes value is
+computed_clash types op2.BitAnd number computes value is = joined_clash number computes value is
+computed_clash types op2.BitXor number computes value is = joined_clash number computes value is
+computed_clash types op2.BitOr number computes value is = joined_clash number computes value is
+computed_clash types op2.Less number computes value is = is
+computed_clash types op2.Greater number computes value is = is
+computed_clash types op2.LessOrEqual number computes value is = is
+computed_clash types op2.GreaterOrEqual number computes value is = is
+computed_clash types op2.Equal number computes value is = is
+computed_clash types op2.NotEqual number computes value is = is
+
+computed_no_record : (types : CTypes) (op : Op2) (computes target : CTy) (width : Option ℕ) (value : CTy) → IsComputedIn types op computes (promoted types target width) value → is_record target ≡ false
+computed_no_record types op computes (ty (record_type number) is_const) width value is = absurd (computed_clash types op number computes value is)
+computed_no_record types op computes (ty void is_const) width value is = refl
+computed_no_record types op computes (ty (basic which) is_const) width value is = refl
+computed_no_record types op computes (ty (enum_type number) is_const) width value is = refl
+computed_no_record types op computes (ty (pointer to) is_const) width value is = refl
+computed_no_record types op computes (ty (array element length) is_const) width value is = refl
+computed_no_record types op computes (ty (function result params variadic) is_const) width value is = refl
+
+unqualified_record : (type : CTy) → is_record (unqualified type) ≡ is_record type
+unqualified_record (ty form is_const) = refl
+
+pub assign_by_no_record : (types : CTypes) (op : Op2) (type computes : CTy) (target : CExpr) (value : CTy) → IsAssignByOf types op type computes target value → is_record type ≡ false
+assign_by_no_record types op type computes target value is =
+    ap is_record is.type_is ∙ (unqualified_record (type_of target) ∙ computed_no_record types op computes (type_of target) (width_of target) value is.computed)
+
+pub step_no_record : (types : CTypes) (type : CTy) → IsIntegerType types type ⊎ IsElementPointer types type → is_record type ≡ false
+step_no_record types (ty (record_type number) is_const) (inl is) = cc (is)
+step_no_record types (ty (record_type number) is_const) (inr is) = absurd is
+step_no_record types (ty void is_const) is = refl
+step_no_record types (ty (basic which) is_const) is = refl
+step_no_record types (ty (enum_type number) is_const) is = refl
+step_no_record types (ty (pointer to) is_const) is = refl
+step_no_record types (ty (array element length) is_const) is = refl
+step_no_record types (ty (function result params variadic) is_const) is = refl
