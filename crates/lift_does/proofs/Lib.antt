@@ -3,6 +3,7 @@ pub mod Asking
 pub mod Assignments
 pub mod Binary
 pub mod BinaryTypes
+pub mod BitPlaces
 pub mod Branches
 pub mod Choices
 pub mod Commas
@@ -16,6 +17,7 @@ pub mod HeldPlaces
 pub mod Lasting
 pub mod Leaves
 pub mod Loads
+pub mod Lvalues
 pub mod Members
 pub mod Nodes
 pub mod Numbers
