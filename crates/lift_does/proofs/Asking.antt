@@ -5,20 +5,23 @@ use Rattle.cr_world.specs.World.{World}
 use Rattle.cx_core.specs.Trees.{CTy, expr, CForm, member, assign, assign_by, step, call, call_by}
 use Rattle.cx_core.specs.Typing.{IsTyped, IsLvalue, is_bit_field}
 use Rattle.lift_does.proofs.Around.{Around, At}
-use Rattle.lift_does.proofs.Held.{not_held, value_held}
+use Rattle.lift_does.proofs.Held.{not_held}
 use Rattle.lift_does.proofs.HeldPlaces.{place_held}
 use Rattle.lift_does.proofs.Members.{lvalue_is}
 use Rattle.lift_does.proofs.Nodes.{PartOwes}
+use Rattle.lift_does.proofs.Records.{record_taken}
+use Rattle.lift_does.proofs.Taken.{scalar_taken, taken_held}
 use Rattle.lift_does.proofs.Unary.{form_fixed, ExprOwes, FormOwes}
 use Rattle.lift_does.specs.Does.{is_fixed, IsAsked}
 use Rattle.lift_exprs.specs.Lifted.{lifted_form, holds_itself}
 use Rattle.lift_exprs.specs.Names.{Names, type_in}
-use Rattle.lift_exprs.specs.Written.{NodeKind, a_value, a_place, lvalue_kind, kind_in, then_held, held_where}
+use Rattle.lift_exprs.specs.Written.{NodeKind, a_value, a_record, a_place, temporary_place, address_of_given, copied, lvalue_kind, kind_in, then_held, held_where}
 use Rattle.lift_forms.specs.Given as given_form
+use Rattle.lift_forms.specs.Operators.{given_value}
 use Rattle.lift_held.specs.Held.{is_record, is_lvalue_form, is_taken, is_always_held, is_held_form, is_steady_form, is_named_form}
 use Rattle.lift_held.specs.declared.asked.Asked.{Asked}
 use Rattle.lift_stands.specs.Stands.{Images}
-use Rattle.rs_text.specs.Tree.{Pointer, Place as RustPlace}
+use Rattle.rs_text.specs.Tree.{Pointer, Place as RustPlace, Read, AddressOf, Assign}
 
 -- ---- tests
 
@@ -71,24 +74,33 @@ place_kind_is names_of type at (member of spot) plainly = rw (not_false (spot.wi
 place_kind_is names_of type at form plainly = refl
 
 module _ (x : Around) where
-  -- a node that gives a scalar, or nothing
-  pub value_node : (asked : Asked) (type : CTy) (at : Place) (form : CForm) (from : ℕ) (images : Images) (c0 w0 : World) → At x images c0 w0 → IsTyped x.home (expr type at form) → is_lvalue_form form ≡ false → is_record type ≡ false →
+  -- a node that gives a value, or nothing
+  pub value_node : (asked : Asked) (type : CTy) (at : Place) (form : CForm) (from : ℕ) (images : Images) (c0 w0 : World) → At x images c0 w0 → IsTyped x.home (expr type at form) → is_lvalue_form form ≡ false →
       IsAsked asked (expr type at form) → from ≤ (lifted_form x.names asked type form from).next →
       (held_test asked type form ≡ true → x.kept.temporaries (lifted_form x.names asked type form from).next ≡ Some (record { name = x.names.temporary (lifted_form x.names asked type form from).next; ty = type_in x.names type })) →
       FormOwes x asked type at form from images c0 w0 → ExprOwes x asked (expr type at form) from images c0 w0
-  value_node asked type at form from images c0 w0 here typed no_lvalue no_record asked_is rises kept_is owes = by (held_test asked type form) refl
+  value_node asked type at form from images c0 w0 here typed no_lvalue asked_is rises kept_is owes = by (held_test asked type form) (is_record type) refl refl
     where
-      kind_is : kind_in x.names type form ≡ a_value (type_in x.names type)
-      kind_is = rw (no_lvalue, no_record) refl
-
-      by : (test : Bool) → held_test asked type form ≡ test →
+      by : (test record_type : Bool) → held_test asked type form ≡ test → is_record type ≡ record_type →
           PartOwes x asked.used (is_fixed asked (expr type at form)) (expr type at form) (held_where test x.names (kind_in x.names type form) (lifted_form x.names asked type form from)) from images c0 w0
-      by false e = not_held x asked.used (form_fixed type form) (is_fixed asked (expr type at form)) (expr type at form) (lifted_form x.names asked type form from) from images c0 w0
+      by false record_type e r = not_held x asked.used (form_fixed type form) (is_fixed asked (expr type at form)) (expr type at form) (lifted_form x.names asked type form from) from images c0 w0
           (λ used lasts. held_fixed asked type at form used lasts e) owes
-      by true e =
+      by true false e r =
           let used = held_used asked type form asked_is.base e in
-          subst (λ (kind : NodeKind). PartOwes x asked.used (is_fixed asked (expr type at form)) (expr type at form) (then_held x.names kind (lifted_form x.names asked type form from)) from images c0 w0) (sym kind_is)
-          (value_held x asked.used (form_fixed type form) (is_fixed asked (expr type at form)) (expr type at form) (lifted_form x.names asked type form from) from images c0 w0 here typed (asked_is.used used) no_record used rises (kept_is e) owes)
+          let one = lifted_form x.names asked type form from in
+          let kind_is : kind_in x.names type form ≡ a_value (type_in x.names type) = rw (no_lvalue, r) refl in
+          subst (λ (kind : NodeKind). PartOwes x asked.used (is_fixed asked (expr type at form)) (expr type at form) (then_held x.names kind one) from images c0 w0) (sym kind_is)
+          (taken_held x asked.used (form_fixed type form) (is_fixed asked (expr type at form)) (expr type at form) one (type_in x.names type) (Assign (temporary_place x.names one.next) (given_value one.given))
+          (given_form.value (Read (temporary_place x.names one.next))) from images c0 w0 here typed used rises
+          (λ of_c last c1 w1 there given gave. scalar_taken x (expr type at form) of_c one.given one.next last c1 w1 there typed (asked_is.used used) r given (kept_is e) gave) owes)
+      by true true e r =
+          let used = held_used asked type form asked_is.base e in
+          let one = lifted_form x.names asked type form from in
+          let kind_is : kind_in x.names type form ≡ a_record (type_in x.names type) (x.names.size_of type) = rw (no_lvalue, r) refl in
+          subst (λ (kind : NodeKind). PartOwes x asked.used (is_fixed asked (expr type at form)) (expr type at form) (then_held x.names kind one) from images c0 w0) (sym kind_is)
+          (taken_held x asked.used (form_fixed type form) (is_fixed asked (expr type at form)) (expr type at form) one (type_in x.names type)
+          (copied (address_of_given one.given) (AddressOf (temporary_place x.names one.next)) (x.names.size_of type)) (given_form.value (AddressOf (temporary_place x.names one.next))) from images c0 w0 here typed used rises
+          (λ of_c last c1 w1 there given gave. record_taken x (expr type at form) of_c one.given one.next last c1 w1 there typed r given (kept_is e) gave) owes)
 
   -- an lvalue that is no bit-field
   pub place_node : (asked : Asked) (type : CTy) (at : Place) (form : CForm) (p : RustPlace) (from : ℕ) (images : Images) (c0 w0 : World) → At x images c0 w0 → IsLvalue x.home (expr type at form) → is_bit_field (expr type at form) ≡ false →

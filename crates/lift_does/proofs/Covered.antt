@@ -1,8 +1,8 @@
--- The expressions without calls, branches, bit-fields, and values of structure or union type: what is written for them does what they do.
-use Rattle.std.proofs.Common.{◌≡◌, ◌⊎◌, inl, inr, ℕ, suc, ◌+◌, ◌≤◌, Bool, true, false, not, ◌==◌, List, [], ◌∷◌, ◌++◌, length, Some, refl, sym, ap, subst, ◌∙◌, arith, length-append}
+-- The expressions without calls, compound literals, bit-fields and members of values: what is written for them does what they do.
+use Rattle.std.proofs.Common.{◌≡◌, ◌⊎◌, inl, inr, ℕ, suc, ◌+◌, ◌≤◌, Bool, true, false, not, if◌then◌else◌, ◌&&◌, ◌||◌, ◌==◌, List, [], ◌∷◌, ◌++◌, length, Some, refl, sym, ap, subst, ◌∙◌, arith, length-append}
 use Rattle.cr_base.specs.declared.refusal.Place.{Place}
 use Rattle.cr_world.specs.World.{World}
-use Rattle.cx_core.specs.Trees.{CTy, ty, CExpr, expr, CForm, whole, null, object, code, load, deref, member, address, convert, unary, binary, and, or, cond, assign, assign_by, step, call, call_by, comma, literal, type_of}
+use Rattle.cx_core.specs.Trees.{CTy, ty, CTyForm, CExpr, expr, CForm, whole, null, object, code, load, deref, member, address, convert, unary, binary, and, or, cond, assign, assign_by, step, call, call_by, comma, literal, type_of}
 use Rattle.cx_core.specs.Typing.{CHome, IsTyped, IsLvalue, is_bit_field, width_of}
 use Rattle.cx_core.specs.Conversions.{promoted}
 use Rattle.cx_core.specs.declared.expr.Op2.{Op2}
@@ -15,107 +15,37 @@ use Rattle.lift_does.proofs.Asking.{held_test, place_kind_is, value_node, place_
 use Rattle.lift_does.proofs.Assignments.{target_plain, assign_owes}
 use Rattle.lift_does.proofs.Binary.{binary_owes}
 use Rattle.lift_does.proofs.BinaryTypes.{binary_there}
+use Rattle.lift_does.proofs.Choices.{choice_owes, part_is_taken}
 use Rattle.lift_does.proofs.Commas.{comma_owes}
 use Rattle.lift_does.proofs.Conversions.{convert_owes}
+use Rattle.lift_does.proofs.Decided.{and_owes, or_owes}
 use Rattle.lift_does.proofs.Held.{kept_front, kept_back}
 use Rattle.lift_does.proofs.Leaves.{whole_owes, null_owes, code_owes, object_owes}
 use Rattle.lift_does.proofs.Loads.{load_owes}
+use Rattle.lift_does.proofs.Numbers.{IsNumbered, turn_numbered, three_numbered, rises, pair_for, operands_of, parts_of, change_for, numbered, form_numbered}
 use Rattle.lift_does.proofs.Members.{lvalue_is, member_owes, given_is}
 use Rattle.lift_does.proofs.Places.{deref_owes, address_owes}
+use Rattle.lift_does.proofs.RecordAssignments.{target_record, assign_record_owes}
+use Rattle.lift_does.proofs.RecordTypes.{assign_by_no_record, step_no_record}
 use Rattle.lift_does.proofs.Unary.{ExprOwes, FormOwes, unary_owes}
-use Rattle.lift_does.proofs.Used.{unary_has, convert_has, left_has, right_has, lvalue_has, assigned_has, address_kind}
+use Rattle.lift_does.proofs.Used.{scalar_has, unary_has, convert_has, left_has, right_has, lvalue_has, assigned_has, address_kind}
 use Rattle.lift_does.specs.Agree.{AreKeptFrom}
 use Rattle.lift_does.specs.Covered.{IsCovered, IsCoveredForm, CoveredDoes}
 use Rattle.lift_does.specs.Does.{IsAsked}
-use Rattle.lift_exprs.specs.Lifted.{lifted, lifted_form, operand_of}
+use Rattle.lift_exprs.specs.Lifted.{lifted, lifted_form, operand_of, Deciding, where_true, where_false, decided_written, Choice, chosen_written}
 use Rattle.lift_exprs.specs.Names.{Names, type_in}
 use Rattle.lift_exprs.specs.Objects.{object_at}
-use Rattle.lift_exprs.specs.Stores.{Target, a_scalar, stored, stored_value, Change, changed, changed_first, stepped, step_by_one, promoted_type, target_type}
-use Rattle.lift_exprs.specs.Written.{Written, Both, both, in_turn, place_of_given, NodeKind, a_value, a_place, kind_in, held_type, held_where}
+use Rattle.lift_exprs.specs.Stores.{Target, a_scalar, a_structure, is_field, target_of, held_store, plain_store, old_value, stored, stored_value, Change, changed, changed_first, stepped, step_by_one, promoted_type, target_type}
+use Rattle.lift_exprs.specs.Written.{Written, Both, both, in_turn, place_of_given, NodeKind, a_value, a_record, a_place, lvalue_kind, value_kind, kind_in, held_type, held_where}
 use Rattle.lift_forms.specs.Given.{Given}
 use Rattle.lift_forms.specs.Given as given_form
-use Rattle.lift_forms.specs.Operators.{given_value}
-use Rattle.lift_held.specs.Held.{is_void, is_record, is_lvalue, is_lvalue_form, operand, operand_before, part_of, whole_of, holds_call}
+use Rattle.lift_forms.specs.Operators.{Operand, given_value}
+use Rattle.lift_held.specs.Held.{is_void, is_record, is_lvalue, acts, is_lvalue_form, operand, operand_before, part_of, whole_of, holds_call}
 use Rattle.lift_held.specs.declared.asked.Asked.{Asked}
 use Rattle.lift_stands.specs.Stands.{Images}
 use Rattle.rs_mean_frames.proofs.Framed.{all_behave}
 use Rattle.rs_mean_frames.specs.Behave.{BodiesBehave}
 use Rattle.rs_text.specs.Tree.{Ty, Place as RustPlace, Expr, Read}
-
--- ---- the numbers of temporaries
-
-abbrev IsNumbered : Written → ℕ → Type 0
-IsNumbered one from = one.next ≡ from + length one.temporaries
-
-turn_numbered : (two : Both) (given : Given) (from : ℕ) → IsNumbered two.first from → IsNumbered two.second two.first.next → IsNumbered (in_turn two given) from
-turn_numbered two given from one other = let long = length-append two.first.temporaries two.second.temporaries in omega (arith, one, other, long)
-
-one_longer : (one : Ty) (temporaries : List Ty) (next from : ℕ) → next ≡ from + length temporaries → suc next ≡ from + length (temporaries ++ (one ∷ []))
-one_longer one temporaries next from is = let long = length-append temporaries (one ∷ []) in omega (arith, is, long)
-
-where_numbered : (test : Bool) (names_of : Names) (kind : NodeKind) (written : Written) (from : ℕ) → IsNumbered written from → IsNumbered (held_where test names_of kind written) from
-where_numbered true names_of kind written from is = one_longer (held_type kind) written.temporaries written.next from is
-where_numbered false names_of kind written from is = is
-
-scalar_numbered : (used : Bool) (names_of : Names) (p : RustPlace) (one : Ty) (e : Expr) (written : Written) (from : ℕ) → IsNumbered written from → IsNumbered (stored names_of used (a_scalar p one) e written) from
-scalar_numbered true names_of p one e written from is = one_longer one written.temporaries written.next from is
-scalar_numbered false names_of p one e written from is = is
-
-step_numbered : (used post : Bool) (names_of : Names) (p : RustPlace) (one : Ty) (change : Change) (written : Written) (from : ℕ) → IsNumbered written from → IsNumbered (stepped names_of used post (a_scalar p one) change written) from
-step_numbered true true names_of p one change written from is = one_longer one written.temporaries written.next from is
-step_numbered true false names_of p one change written from is = one_longer one written.temporaries written.next from is
-step_numbered false post names_of p one change written from is = is
-
-rises : (written : Written) (from : ℕ) → IsNumbered written from → from ≤ written.next
-rises written from is = omega (arith, is)
-
-abbrev pair_for : Names → CExpr → CExpr → ℕ → Both
-pair_for names_of target value from = both (λ number. lifted names_of (operand_before (holds_call value)) target number) (λ number. lifted names_of operand value number) from
-
-abbrev change_for : Names → Op2 → CTy → CExpr → Given → Change
-change_for names_of op computes value given = record { op = op; computes = type_in names_of computes; right = operand_of names_of value given }
-
-mutual
-  numbered : (names_of : Names) (asked : Asked) (e : CExpr) (from : ℕ) → IsCovered e → IsNumbered (lifted names_of asked e from) from
-  numbered names_of asked (expr type at form) from is =
-      where_numbered (held_test asked type form) names_of (kind_in names_of type form) (lifted_form names_of asked type form from) from (form_numbered names_of asked type at form from is is.1)
-
-  form_numbered : (names_of : Names) (asked : Asked) (type : CTy) (at : Place) (form : CForm) (from : ℕ) → IsCovered (expr type at form) → IsCoveredForm type form → IsNumbered (lifted_form names_of asked type form from) from
-  form_numbered names_of asked type at (whole value) from all is = omega arith
-  form_numbered names_of asked type at null from all is = omega arith
-  form_numbered names_of asked type at (object number) from all is = omega arith
-  form_numbered names_of asked type at (code number) from all is = omega arith
-  form_numbered names_of asked type at (load of) from all is = numbered names_of operand of from is.1
-  form_numbered names_of asked type at (deref of) from all is = numbered names_of operand of from is
-  form_numbered names_of asked type at (member of spot) from all is = numbered names_of (whole_of spot) of from is.2
-  form_numbered names_of asked type at (address of) from all is = numbered names_of operand of from is
-  form_numbered names_of asked type at (convert of) from all is = numbered names_of (part_of (not (is_void type))) of from is
-  form_numbered names_of asked type at (unary op of) from all is = numbered names_of operand of from is
-  form_numbered names_of asked type at (binary op left right) from all is =
-      turn_numbered (pair_for names_of left right from) given_form.nothing from (numbered names_of (operand_before (holds_call right)) left from is.0) (numbered names_of operand right (pair_for names_of left right from).first.next is.1)
-  form_numbered names_of asked (ty form is_const) at (assign target value) from all is =
-      subst (λ (to : Target). IsNumbered (stored names_of asked.used to (stored_value to (pair_for names_of target value from).second.given) (in_turn (pair_for names_of target value from) given_form.nothing)) from)
-      (sym (target_plain names_of (ty form is_const) target (pair_for names_of target value from).first.given is.0 (all.0 refl)))
-      (scalar_numbered asked.used names_of _ _ _ (in_turn (pair_for names_of target value from) given_form.nothing) from
-      (turn_numbered (pair_for names_of target value from) given_form.nothing from (numbered names_of (operand_before (holds_call value)) target from is.1) (numbered names_of operand value (pair_for names_of target value from).first.next is.2)))
-  form_numbered names_of asked type at (comma first second) from all is =
-      turn_numbered (both (λ number. lifted names_of (part_of false) first number) (λ number. lifted names_of (part_of asked.used) second number) from) given_form.nothing from
-      (numbered names_of (part_of false) first from is.0) (numbered names_of (part_of asked.used) second (lifted names_of (part_of false) first from).next is.1)
-  form_numbered names_of asked type at (and left right) from all is = absurd is
-  form_numbered names_of asked type at (or left right) from all is = absurd is
-  form_numbered names_of asked type at (cond test first second) from all is = absurd is
-  form_numbered names_of asked (ty form is_const) at (assign_by op computes target value) from all is =
-      subst (λ (to : Target). IsNumbered (changed_first names_of asked.used to (change_for names_of op computes value (pair_for names_of target value from).second.given) (in_turn (pair_for names_of target value from) given_form.nothing)) from)
-      (sym (target_plain names_of (ty form is_const) target (pair_for names_of target value from).first.given is.0 (all.0 refl)))
-      (scalar_numbered asked.used names_of _ _ _ (in_turn (pair_for names_of target value from) given_form.nothing) from
-      (turn_numbered (pair_for names_of target value from) given_form.nothing from (numbered names_of (operand_before (holds_call value)) target from is.1) (numbered names_of operand value (pair_for names_of target value from).first.next is.2)))
-  form_numbered names_of asked (ty form is_const) at (step up post on) from all is =
-      subst (λ (to : Target). IsNumbered (stepped names_of asked.used post to (step_by_one up (promoted_type (target_type to) (width_of on))) (lifted names_of operand on from)) from)
-      (sym (target_plain names_of (ty form is_const) on (lifted names_of operand on from).given is.0 (all.0 refl)))
-      (step_numbered asked.used post names_of _ _ _ (lifted names_of operand on from) from (numbered names_of operand on from is.1))
-  form_numbered names_of asked type at (call callee args) from all is = absurd is
-  form_numbered names_of asked type at (call_by callee args) from all is = absurd is
-  form_numbered names_of asked type at (literal number puts) from all is = absurd is
 
 -- ---- the temporaries that are kept
 
@@ -131,19 +61,61 @@ where_kept true names_of kept kind written from is are =
     (kept_front names_of kept from written.temporaries (held_type kind ∷ []) are, λ e. last_kept names_of kept written.temporaries (held_type kind) written.next from is are)
 where_kept false names_of kept kind written from is are = (are, λ e. cc (e))
 
-scalar_kept : (used : Bool) (names_of : Names) (kept : FunctionNames) (p : RustPlace) (one : Ty) (e : Expr) (written : Written) (from : ℕ) → IsNumbered written from → AreKeptFrom names_of kept from (stored names_of used (a_scalar p one) e written).temporaries →
-    AreKeptFrom names_of kept from written.temporaries × (used ≡ true → kept_as names_of kept written.next one)
-scalar_kept true names_of kept p one e written from is are = (kept_front names_of kept from written.temporaries (one ∷ []) are, λ same. last_kept names_of kept written.temporaries one written.next from is are)
-scalar_kept false names_of kept p one e written from is are = (are, λ same. cc (same))
+stored_kept_by : (test : Bool) (names_of : Names) (kept : FunctionNames) (used : Bool) (target : Target) (e : Expr) (written : Written) (from : ℕ) → IsNumbered written from →
+    AreKeptFrom names_of kept from (if test then held_store names_of used target e written else plain_store target e written).temporaries →
+    AreKeptFrom names_of kept from written.temporaries × (test ≡ true → kept_as names_of kept written.next (target_type target))
+stored_kept_by true names_of kept used target e written from is are =
+    (kept_front names_of kept from written.temporaries (target_type target ∷ []) are, λ same. last_kept names_of kept written.temporaries (target_type target) written.next from is are)
+stored_kept_by false names_of kept used target e written from is are = (are, λ same. cc (same))
 
-step_kept : (used post : Bool) (names_of : Names) (kept : FunctionNames) (p : RustPlace) (one : Ty) (change : Change) (written : Written) (from : ℕ) → IsNumbered written from →
-    AreKeptFrom names_of kept from (stepped names_of used post (a_scalar p one) change written).temporaries → AreKeptFrom names_of kept from written.temporaries × (used ≡ true → kept_as names_of kept written.next one)
-step_kept true true names_of kept p one change written from is are = (kept_front names_of kept from written.temporaries (one ∷ []) are, λ same. last_kept names_of kept written.temporaries one written.next from is are)
-step_kept true false names_of kept p one change written from is are = (kept_front names_of kept from written.temporaries (one ∷ []) are, λ same. last_kept names_of kept written.temporaries one written.next from is are)
-step_kept false post names_of kept p one change written from is are = (are, λ same. cc (same))
+stored_kept : (names_of : Names) (kept : FunctionNames) (used : Bool) (target : Target) (e : Expr) (written : Written) (from : ℕ) → IsNumbered written from → AreKeptFrom names_of kept from (stored names_of used target e written).temporaries →
+    AreKeptFrom names_of kept from written.temporaries × ((used || is_field target) ≡ true → kept_as names_of kept written.next (target_type target))
+stored_kept names_of kept used target e written from is are = stored_kept_by (used || is_field target) names_of kept used target e written from is are
+
+step_kept : (names_of : Names) (kept : FunctionNames) (used post : Bool) (target : Target) (change : Change) (written : Written) (from : ℕ) → IsNumbered written from →
+    AreKeptFrom names_of kept from (stepped names_of used post target change written).temporaries →
+    AreKeptFrom names_of kept from written.temporaries × ((used || is_field target) ≡ true → kept_as names_of kept written.next (target_type target))
+step_kept names_of kept true true target change written from is are =
+    (kept_front names_of kept from written.temporaries (target_type target ∷ []) are, λ same. last_kept names_of kept written.temporaries (target_type target) written.next from is are)
+step_kept names_of kept true false target change written from is are = stored_kept names_of kept true target (changed change (target_type target) (old_value target)) written from is are
+step_kept names_of kept false post target change written from is are = stored_kept names_of kept false target (changed change (target_type target) (old_value target)) written from is are
+
+kept_used : (used : Bool) (M : Type 0) → ((used || false) ≡ true → M) → used ≡ true → M
+kept_used used M all is = all (rw is refl)
 
 second_kept : (names_of : Names) (kept : FunctionNames) (two : Both) (given : Given) (from : ℕ) → IsNumbered two.first from → AreKeptFrom names_of kept from (in_turn two given).temporaries → AreKeptFrom names_of kept two.first.next two.second.temporaries
 second_kept names_of kept two given from is are = subst (λ (n : ℕ). AreKeptFrom names_of kept n two.second.temporaries) (sym is) (kept_back names_of kept from two.first.temporaries two.second.temporaries are)
+
+decided_kept : (names_of : Names) (kept : FunctionNames) (used acting : Bool) (type : CTy) (which : Deciding) (test other : Operand) (two : Both) (from : ℕ) → IsNumbered two.first from → IsNumbered two.second two.first.next →
+    AreKeptFrom names_of kept from (decided_written names_of used acting type which test other two).temporaries →
+    AreKeptFrom names_of kept from (in_turn two given_form.nothing).temporaries × (used ≡ true → acting ≡ true → kept_as names_of kept two.second.next (type_in names_of type))
+decided_kept names_of kept true true type which test other two from one more are =
+    let list = two.first.temporaries ++ two.second.temporaries in
+    (kept_front names_of kept from list (type_in names_of type ∷ []) are, λ used acting. last_kept names_of kept list (type_in names_of type) two.second.next from (turn_numbered two given_form.nothing from one more) are)
+decided_kept names_of kept false true type which test other two from one more are = (are, λ used acting. cc (used))
+decided_kept names_of kept used false type which test other two from one more are = (are, λ _ acting. cc (acting))
+
+three_kept : (names_of : Names) (kept : FunctionNames) (three : Choice) (from : ℕ) → IsNumbered three.test from → IsNumbered three.first three.test.next →
+    AreKeptFrom names_of kept from (three.test.temporaries ++ (three.first.temporaries ++ three.second.temporaries)) →
+    AreKeptFrom names_of kept from three.test.temporaries × AreKeptFrom names_of kept three.test.next three.first.temporaries × AreKeptFrom names_of kept three.first.next three.second.temporaries
+three_kept names_of kept three from one two are =
+    let behind = subst (λ (n : ℕ). AreKeptFrom names_of kept n (three.first.temporaries ++ three.second.temporaries)) (sym one) (kept_back names_of kept from three.test.temporaries (three.first.temporaries ++ three.second.temporaries) are) in (
+      kept_front names_of kept from three.test.temporaries (three.first.temporaries ++ three.second.temporaries) are,
+      kept_front names_of kept three.test.next three.first.temporaries three.second.temporaries behind,
+      subst (λ (n : ℕ). AreKeptFrom names_of kept n three.second.temporaries) (sym two) (kept_back names_of kept three.test.next three.first.temporaries three.second.temporaries behind),
+    )
+
+chosen_kept : (names_of : Names) (kept : FunctionNames) (used acting : Bool) (type : CTy) (test first second : Operand) (three : Choice) (from : ℕ) → IsNumbered three.test from → IsNumbered three.first three.test.next →
+    IsNumbered three.second three.first.next → AreKeptFrom names_of kept from (chosen_written names_of used acting type test first second three).temporaries →
+    AreKeptFrom names_of kept from three.test.temporaries × AreKeptFrom names_of kept three.test.next three.first.temporaries × AreKeptFrom names_of kept three.first.next three.second.temporaries
+    × (used ≡ true → acting ≡ true → kept_as names_of kept three.second.next (type_in names_of type))
+chosen_kept names_of kept true true type test first second three from one two more are =
+    let list = three.test.temporaries ++ (three.first.temporaries ++ three.second.temporaries) in
+    let all = three_kept names_of kept three from one two (kept_front names_of kept from list (type_in names_of type ∷ []) are) in
+    (all.0, all.1, all.2, λ used acting. last_kept names_of kept list (type_in names_of type) three.second.next from (three_numbered three from one two more) are)
+chosen_kept names_of kept false true type test first second three from one two more are = let all = three_kept names_of kept three from one two are in (all.0, all.1, all.2, λ used acting. cc (used))
+chosen_kept names_of kept true false type test first second three from one two more are = let all = three_kept names_of kept three from one two are in (all.0, all.1, all.2, λ used acting. cc (acting))
+chosen_kept names_of kept false false type test first second three from one two more are = let all = three_kept names_of kept three from one two are in (all.0, all.1, all.2, λ used acting. cc (used))
 
 -- ---- values and lvalues
 
@@ -180,8 +152,12 @@ clashing : (b : Bool) → b ≡ true → b ≡ false → ⊥
 clashing b one other = let clash : true ≡ false = sym one ∙ other in cc (clash)
 
 module _ (x : Around) where
-  value_kind_is : (type : CTy) (form : CForm) → is_lvalue_form form ≡ false → is_record type ≡ false → kind_in x.names type form ≡ a_value (type_in x.names type)
-  value_kind_is type form no_lvalue no_record = rw (no_lvalue, no_record) refl
+  kind_type : (record_type : Bool) (one : Ty) (size : ℕ) → held_type (if record_type then a_record one size else a_value one) ≡ one
+  kind_type true one size = refl
+  kind_type false one size = refl
+
+  value_type_is : (type : CTy) (form : CForm) → is_lvalue_form form ≡ false → held_type (kind_in x.names type form) ≡ type_in x.names type
+  value_type_is type form no_lvalue = ap (λ (lvalue : Bool). held_type (if lvalue then lvalue_kind x.names type form else value_kind x.names type)) no_lvalue ∙ kind_type (is_record type) (type_in x.names type) (x.names.size_of type)
 
   lvalue_kind_is : (type : CTy) (at : Place) (form : CForm) → is_lvalue_form form ≡ true → is_bit_field (expr type at form) ≡ false → kind_in x.names type form ≡ a_place (type_in x.names type)
   lvalue_kind_is type at form is plainly = rw (is) (place_kind_is x.names type at form plainly)
@@ -192,7 +168,7 @@ module _ (x : Around) where
     pub given : (lifted_form x.names asked type form from).given ≡ given_form.place p
     pub plainly : is_bit_field (expr type at form) ≡ false
 
-  place_written : (asked : Asked) (type : CTy) (at : Place) (form : CForm) (from : ℕ) → IsLvalue x.home (expr type at form) → IsCoveredForm type form → IsPlaceWritten asked type at form from
+  place_written : (asked : Asked) (type : CTy) (at : Place) (form : CForm) (from : ℕ) → IsLvalue x.home (expr type at form) → IsCoveredForm form → IsPlaceWritten asked type at form from
   place_written asked type at (object number) from typed is = record { p = object_at x.names type number; given = refl; plainly = refl }
   place_written asked type at (deref of) from typed is = record { p = _; given = refl; plainly = refl }
   place_written asked type at (member of spot) from typed is = record {
@@ -212,9 +188,9 @@ module _ (x : Around) where
   place_written asked type at (assign_by op computes target value) from typed is = absurd typed.2
   place_written asked type at (step up post on) from typed is = absurd typed.2
   place_written asked type at (comma first second) from typed is = absurd typed.2
-  place_written asked type at (and left right) from typed is = absurd is
-  place_written asked type at (or left right) from typed is = absurd is
-  place_written asked type at (cond test first second) from typed is = absurd is
+  place_written asked type at (and left right) from typed is = absurd typed.2
+  place_written asked type at (or left right) from typed is = absurd typed.2
+  place_written asked type at (cond test first second) from typed is = absurd typed.2
   place_written asked type at (call callee args) from typed is = absurd is
   place_written asked type at (call_by callee args) from typed is = absurd is
   place_written asked type at (literal number puts) from typed is = absurd is
@@ -230,121 +206,187 @@ module _ (x : Around) where
       (AreKeptFrom x.names x.kept from (lifted_form x.names asked type form from).temporaries → FormAnywhere asked type at form from) → OwesAnywhere asked (expr type at form) from
   node_owes asked type at form from asked_is are (inl typed) is all =
       let one = lifted_form x.names asked type form from in
-      let count = form_numbered x.names asked type at form from is is.1 in
+      let count = form_numbered x.names asked type form from in
       let own = where_kept (held_test asked type form) x.names x.kept (kind_in x.names type form) one from count are in
       let no_lvalue = typed_no_lvalue x.home (expr type at form) typed in
       λ images c_world world here.
-      value_node x asked type at form from images c_world world here typed no_lvalue (is.0 no_lvalue) asked_is (rises one from count)
-      (λ e. subst (λ (kind : NodeKind). kept_as x.names x.kept one.next (held_type kind)) (value_kind_is type form no_lvalue (is.0 no_lvalue)) (own.1 e)) (all own.0 images c_world world here)
+      value_node x asked type at form from images c_world world here typed no_lvalue asked_is (rises one from count)
+      (λ e. subst (kept_as x.names x.kept one.next) (value_type_is type form no_lvalue) (own.1 e)) (all own.0 images c_world world here)
   node_owes asked type at form from asked_is are (inr typed) is all =
       let one = lifted_form x.names asked type form from in
-      let count = form_numbered x.names asked type at form from is is.1 in
+      let count = form_numbered x.names asked type form from in
       let own = where_kept (held_test asked type form) x.names x.kept (kind_in x.names type form) one from count are in
-      let written = place_written asked type at form from typed is.1 in
+      let written = place_written asked type at form from typed is in
       λ images c_world world here.
       place_node x asked type at form written.p from images c_world world here typed written.plainly written.given asked_is (rises one from count)
       (λ e. subst (λ (kind : NodeKind). kept_as x.names x.kept one.next (held_type kind)) (lvalue_kind_is type at form (lvalue_is x.home (expr type at form) typed) written.plainly) (own.1 e)) (all own.0 images c_world world here)
 
+  -- an assignment, by what its type is
+  assign_any : (asked : Asked) (form : CTyForm) (is_const : Bool) (at : Place) (target value : CExpr) (from : ℕ) (images : Images) (c w : World) → At x images c w → IsTyped x.home (expr (ty form is_const) at (assign target value)) → is_bit_field target ≡ false →
+      AreKeptFrom x.names x.kept from (lifted_form x.names asked (ty form is_const) (assign target value) from).temporaries →
+      (AreKeptFrom x.names x.kept from (pair_for x.names target value from).first.temporaries → ExprOwes x (operand_before (holds_call value)) target from images c w) →
+      (AreKeptFrom x.names x.kept (pair_for x.names target value from).first.next (pair_for x.names target value from).second.temporaries →
+      (later : Images) (c1 w1 : World) → At x later c1 w1 → ExprOwes x operand value (pair_for x.names target value from).first.next later c1 w1) → FormOwes x asked (ty form is_const) at (assign target value) from images c w
+  assign_any asked form is_const at target value from images c w here typed plainly are targets values = by (is_record (ty form is_const)) refl
+    where
+      first_count : IsNumbered (pair_for x.names target value from).first from
+      first_count = numbered x.names (operand_before (holds_call value)) target from
+
+      second_count : IsNumbered (pair_for x.names target value from).second (pair_for x.names target value from).first.next
+      second_count = numbered x.names operand value (pair_for x.names target value from).first.next
+
+      kept_two : (to : Target) → target_of x.names (ty form is_const) target (pair_for x.names target value from).first.given ≡ to →
+          AreKeptFrom x.names x.kept from (in_turn (pair_for x.names target value from) given_form.nothing).temporaries
+          × ((asked.used || is_field to) ≡ true → kept_as x.names x.kept (pair_for x.names target value from).second.next (target_type to))
+      kept_two to same =
+          let two = pair_for x.names target value from in
+          stored_kept x.names x.kept asked.used to (stored_value to two.second.given) (in_turn two given_form.nothing) from (turn_numbered two given_form.nothing from first_count second_count)
+          (subst (λ (target_is : Target). AreKeptFrom x.names x.kept from (stored x.names asked.used target_is (stored_value target_is two.second.given) (in_turn two given_form.nothing)).temporaries) same are)
+
+      by : (record_type : Bool) → is_record (ty form is_const) ≡ record_type → FormOwes x asked (ty form is_const) at (assign target value) from images c w
+      by false no_record =
+          let two = pair_for x.names target value from in
+          let kept_it = kept_two (a_scalar (place_of_given two.first.given) (type_in x.names (ty form is_const))) (target_plain x.names (ty form is_const) target two.first.given plainly no_record) in
+          assign_owes x asked form is_const at target value from images c w here typed plainly no_record (rises two.first from first_count) (rises two.second two.first.next second_count)
+          (kept_used asked.used (kept_as x.names x.kept two.second.next (type_in x.names (ty form is_const))) kept_it.1)
+          (targets (kept_front x.names x.kept from two.first.temporaries two.second.temporaries kept_it.0)) (values (second_kept x.names x.kept two given_form.nothing from first_count kept_it.0))
+      by true of_record =
+          let two = pair_for x.names target value from in
+          let kept_it = kept_two (a_structure (place_of_given two.first.given) (type_in x.names (ty form is_const)) (x.names.size_of (ty form is_const))) (target_record x.names (ty form is_const) target two.first.given plainly of_record) in
+          assign_record_owes x asked form is_const at target value from images c w here typed plainly of_record (rises two.first from first_count) (rises two.second two.first.next second_count)
+          (kept_used asked.used (kept_as x.names x.kept two.second.next (type_in x.names (ty form is_const))) kept_it.1)
+          (targets (kept_front x.names x.kept from two.first.temporaries two.second.temporaries kept_it.0)) (values (second_kept x.names x.kept two given_form.nothing from first_count kept_it.0))
+
   mutual
     expr_does : (asked : Asked) (e : CExpr) (from : ℕ) → IsAsked asked e → AreKeptFrom x.names x.kept from (lifted x.names asked e from).temporaries → IsTyped x.home e ⊎ IsLvalue x.home e → IsCovered e → OwesAnywhere asked e from
     expr_does asked (expr type at form) from asked_is are typed is =
-        node_owes asked type at form from asked_is are typed is (λ own. form_does asked type at form from asked_is own typed is is.1)
+        node_owes asked type at form from asked_is are typed is (λ own. form_does asked type at form from asked_is own typed is)
 
     form_does : (asked : Asked) (type : CTy) (at : Place) (form : CForm) (from : ℕ) → IsAsked asked (expr type at form) → AreKeptFrom x.names x.kept from (lifted_form x.names asked type form from).temporaries →
-        IsTyped x.home (expr type at form) ⊎ IsLvalue x.home (expr type at form) → IsCovered (expr type at form) → IsCoveredForm type form → FormAnywhere asked type at form from
-    form_does asked type at (whole value) from asked_is are (inl typed) all is = λ images c w here. whole_owes x asked type at value from images c w here typed
-    form_does asked type at null from asked_is are (inl typed) all is = λ images c w here. null_owes x asked type at from images c w here typed
-    form_does asked type at (code number) from asked_is are (inl typed) all is = λ images c w here. code_owes x asked type at number from images c w here typed
-    form_does asked type at (object number) from asked_is are (inr typed) all is = λ images c w here. object_owes x asked type at number from images c w here typed
-    form_does asked (ty form is_const) at (load of) from asked_is are (inl typed) all is = λ images c w here.
-        load_owes x asked form is_const at of from images c w here typed is.0 (rises (lifted x.names operand of from) from (numbered x.names operand of from is.1))
+        IsTyped x.home (expr type at form) ⊎ IsLvalue x.home (expr type at form) → IsCoveredForm form → FormAnywhere asked type at form from
+    form_does asked type at (whole value) from asked_is are (inl typed) is = λ images c w here. whole_owes x asked type at value from images c w here typed
+    form_does asked type at null from asked_is are (inl typed) is = λ images c w here. null_owes x asked type at from images c w here typed
+    form_does asked type at (code number) from asked_is are (inl typed) is = λ images c w here. code_owes x asked type at number from images c w here typed
+    form_does asked type at (object number) from asked_is are (inr typed) is = λ images c w here. object_owes x asked type at number from images c w here typed
+    form_does asked (ty form is_const) at (load of) from asked_is are (inl typed) is = λ images c w here.
+        load_owes x asked form is_const at of from images c w here typed is.0 (rises (lifted x.names operand of from) from (numbered x.names operand of from))
         (expr_does operand of from (used_part operand of refl (lvalue_has x of typed.1.0)) are (inr typed.1.0) is.1 images c w here)
-    form_does asked type at (deref of) from asked_is are (inr typed) all is = λ images c w here.
-        deref_owes x asked type at of from images c w here typed (rises (lifted x.names operand of from) from (numbered x.names operand of from is))
+    form_does asked type at (deref of) from asked_is are (inr typed) is = λ images c w here.
+        deref_owes x asked type at of from images c w here typed (rises (lifted x.names operand of from) from (numbered x.names operand of from))
         (expr_does operand of from (used_part operand of refl (ap is_void typed.2.1.pointer_is)) are (inl typed.2.0) is images c w here)
-    form_does asked type at (member of spot) from asked_is are (inr typed) all is = λ images c w here.
-        member_owes x asked type at of spot from images c w here typed is.0 (rises (lifted x.names (whole_of spot) of from) from (numbered x.names (whole_of spot) of from is.2))
+    form_does asked type at (member of spot) from asked_is are (inr typed) is = λ images c w here.
+        member_owes x asked type at of spot from images c w here typed is.0 (rises (lifted x.names (whole_of spot) of from) from (numbered x.names (whole_of spot) of from))
         (expr_does (whole_of spot) of from (used_base (whole_of spot) of refl (lvalue_has x of typed.2.0)) are (inr typed.2.0) is.2 images c w here)
-    form_does asked type at (address of) from asked_is are (inl typed) all is = λ images c w here.
-        address_owes x asked type at of from images c w here typed (address_kind x type of typed.1.0 typed.1.1) (rises (lifted x.names operand of from) from (numbered x.names operand of from is))
+    form_does asked type at (address of) from asked_is are (inl typed) is = λ images c w here.
+        address_owes x asked type at of from images c w here typed (address_kind x type of typed.1.0 typed.1.1) (rises (lifted x.names operand of from) from (numbered x.names operand of from))
         (expr_does operand of from (used_part operand of refl (lvalue_has x of typed.1.0)) are (inr typed.1.0) is images c w here)
-    form_does asked (ty form is_const) at (convert of) from asked_is are (inl typed) all is = λ images c w here.
-        convert_owes x asked form is_const at of from images c w here typed asked_is (rises (lifted x.names (part_of (not (is_void (ty form is_const)))) of from) from (numbered x.names (part_of (not (is_void (ty form is_const)))) of from is))
+    form_does asked (ty form is_const) at (convert of) from asked_is are (inl typed) is = λ images c w here.
+        convert_owes x asked form is_const at of from images c w here typed asked_is (rises (lifted x.names (part_of (not (is_void (ty form is_const)))) of from) from (numbered x.names (part_of (not (is_void (ty form is_const)))) of from))
         (expr_does (part_of (not (is_void (ty form is_const)))) of from (record { used = convert_has x.home.program.types (type_of of) (ty form is_const) typed.1.1; base = λ same. cc (same) }) are (inl typed.1.0) is images c w here)
-    form_does asked type at (unary op of) from asked_is are (inl typed) all is = λ images c w here.
-        unary_owes x asked type at op of from images c w here typed (rises (lifted x.names operand of from) from (numbered x.names operand of from is))
+    form_does asked type at (unary op of) from asked_is are (inl typed) is = λ images c w here.
+        unary_owes x asked type at op of from images c w here typed (rises (lifted x.names operand of from) from (numbered x.names operand of from))
         (expr_does operand of from (used_part operand of refl (unary_has x.home.program.types op type (type_of of) typed.1.1)) are (inl typed.1.0) is images c w here)
-    form_does asked type at (binary op left right) from asked_is are (inl typed) all is = λ images c w here.
+    form_does asked type at (binary op left right) from asked_is are (inl typed) is = λ images c w here.
         binary_owes x asked type at op left right from images c w here typed (binary_there x images c w here op type (type_of left) (type_of right) typed.1.2)
-        (rises (pair_for x.names left right from).first from (numbered x.names (operand_before (holds_call right)) left from is.0))
-        (rises (pair_for x.names left right from).second (pair_for x.names left right from).first.next (numbered x.names operand right (pair_for x.names left right from).first.next is.1))
+        (rises (pair_for x.names left right from).first from (numbered x.names (operand_before (holds_call right)) left from))
+        (rises (pair_for x.names left right from).second (pair_for x.names left right from).first.next (numbered x.names operand right (pair_for x.names left right from).first.next))
         (expr_does (operand_before (holds_call right)) left from (used_part (operand_before (holds_call right)) left refl (left_has x op type (type_of left) (type_of right) (binary_there x images c w here op type (type_of left) (type_of right) typed.1.2)))
         (kept_front x.names x.kept from (pair_for x.names left right from).first.temporaries (pair_for x.names left right from).second.temporaries are) (inl typed.1.0) is.0 images c w here)
         (λ later c1 w1 there. expr_does operand right (pair_for x.names left right from).first.next (used_part operand right refl (right_has x op type (type_of left) (type_of right) (binary_there x images c w here op type (type_of left) (type_of right) typed.1.2)))
-        (second_kept x.names x.kept (pair_for x.names left right from) given_form.nothing from (numbered x.names (operand_before (holds_call right)) left from is.0) are) (inl typed.1.1) is.1 later c1 w1 there)
-    form_does asked (ty form is_const) at (assign target value) from asked_is are (inl typed) all is = λ images c w here.
-        let two = pair_for x.names target value from in
-        let first_count = numbered x.names (operand_before (holds_call value)) target from is.1 in
-        let second_count = numbered x.names operand value two.first.next is.2 in
-        let kept_two = scalar_kept asked.used x.names x.kept (place_of_given two.first.given) (type_in x.names (ty form is_const)) (given_value two.second.given) (in_turn two given_form.nothing) from (turn_numbered two given_form.nothing from first_count second_count)
-        (subst (λ (to : Target). AreKeptFrom x.names x.kept from (stored x.names asked.used to (stored_value to two.second.given) (in_turn two given_form.nothing)).temporaries)
-        (target_plain x.names (ty form is_const) target two.first.given is.0 (all.0 refl)) are) in
-        assign_owes x asked form is_const at target value from images c w here typed is.0 (all.0 refl) (rises two.first from first_count) (rises two.second two.first.next second_count) kept_two.1
-        (expr_does (operand_before (holds_call value)) target from (used_part (operand_before (holds_call value)) target refl (lvalue_has x target typed.1.0)) (kept_front x.names x.kept from two.first.temporaries two.second.temporaries kept_two.0) (inr typed.1.0) is.1 images c w here)
-        (λ later c1 w1 there. expr_does operand value two.first.next (used_part operand value refl (assigned_has x (ty form is_const) target value typed.1.0 typed.1.2)) (second_kept x.names x.kept two given_form.nothing from first_count kept_two.0) (inl typed.1.1) is.2 later c1 w1 there)
-    form_does asked (ty form is_const) at (assign_by op computes target value) from asked_is are (inl typed) all is = λ images c w here.
+        (second_kept x.names x.kept (pair_for x.names left right from) given_form.nothing from (numbered x.names (operand_before (holds_call right)) left from) are) (inl typed.1.1) is.1 later c1 w1 there)
+    form_does asked (ty form is_const) at (assign target value) from asked_is are (inl typed) is = λ images c w here.
+        assign_any asked form is_const at target value from images c w here typed is.0 are
+        (λ kept_it. expr_does (operand_before (holds_call value)) target from (used_part (operand_before (holds_call value)) target refl (lvalue_has x target typed.1.0)) kept_it (inr typed.1.0) is.1 images c w here)
+        (λ kept_it later c1 w1 there. expr_does operand value (pair_for x.names target value from).first.next (used_part operand value refl (assigned_has x (ty form is_const) target value typed.1.0 typed.1.2)) kept_it (inl typed.1.1) is.2 later c1 w1 there)
+    form_does asked (ty form is_const) at (assign_by op computes target value) from asked_is are (inl typed) is = λ images c w here.
         let two = pair_for x.names target value from in
         let change = change_for x.names op computes value two.second.given in
-        let first_count = numbered x.names (operand_before (holds_call value)) target from is.1 in
-        let second_count = numbered x.names operand value two.first.next is.2 in
+        let no_record = assign_by_no_record x.home.program.types op (ty form is_const) computes target (type_of value) typed.1.2 in
+        let first_count = numbered x.names (operand_before (holds_call value)) target from in
+        let second_count = numbered x.names operand value two.first.next in
+        let T = type_in x.names (ty form is_const) in
         let p = place_of_given two.first.given in
-        let kept_two = scalar_kept asked.used x.names x.kept p (type_in x.names (ty form is_const)) (changed change (type_in x.names (ty form is_const)) (given_form.value (Read p))) (in_turn two given_form.nothing) from
-        (turn_numbered two given_form.nothing from first_count second_count)
-        (subst (λ (to : Target). AreKeptFrom x.names x.kept from (changed_first x.names asked.used to change (in_turn two given_form.nothing)).temporaries)
-        (target_plain x.names (ty form is_const) target two.first.given is.0 (all.0 refl)) are) in
+        let kept_two = stored_kept x.names x.kept asked.used (a_scalar p T) (changed change T (given_form.value (Read p))) (in_turn two given_form.nothing) from (turn_numbered two given_form.nothing from first_count second_count)
+        (subst (λ (to : Target). AreKeptFrom x.names x.kept from (changed_first x.names asked.used to change (in_turn two given_form.nothing)).temporaries) (target_plain x.names (ty form is_const) target two.first.given is.0 no_record) are) in
         let there = binary_there x images c w here op computes computes (type_of value)
         (assigned_binary x.home.program.types op computes (promoted x.home.program.types (type_of target) (width_of target)) (type_of value) typed.1.2.computed) in
-        assign_by_owes x asked form is_const at op computes target value from images c w here typed is.0 (all.0 refl) (rises two.first from first_count) (rises two.second two.first.next second_count) kept_two.1
+        assign_by_owes x asked form is_const at op computes target value from images c w here typed is.0 no_record (rises two.first from first_count) (rises two.second two.first.next second_count)
+        (kept_used asked.used (kept_as x.names x.kept two.second.next T) kept_two.1)
         (expr_does (operand_before (holds_call value)) target from (used_part (operand_before (holds_call value)) target refl (lvalue_has x target typed.1.0)) (kept_front x.names x.kept from two.first.temporaries two.second.temporaries kept_two.0) (inr typed.1.0) is.1 images c w here)
         (λ later c1 w1 there_later. expr_does operand value two.first.next (used_part operand value refl (right_has x op computes computes (type_of value) there)) (second_kept x.names x.kept two given_form.nothing from first_count kept_two.0) (inl typed.1.1) is.2 later c1 w1 there_later)
-    form_does asked (ty form is_const) at (step up post on) from asked_is are (inl typed) all is = λ images c w here.
+    form_does asked (ty form is_const) at (step up post on) from asked_is are (inl typed) is = λ images c w here.
         let one = lifted x.names operand on from in
-        let count = numbered x.names operand on from is.1 in
+        let count = numbered x.names operand on from in
+        let no_record = step_no_record x.home.program.types (ty form is_const) typed.1.1.stepped in
         let T = type_in x.names (ty form is_const) in
-        let kept_one = step_kept asked.used post x.names x.kept (place_of_given one.given) T (step_by_one up (promoted_type T (width_of on))) one from count
+        let kept_one = step_kept x.names x.kept asked.used post (a_scalar (place_of_given one.given) T) (step_by_one up (promoted_type T (width_of on))) one from count
         (subst (λ (to : Target). AreKeptFrom x.names x.kept from (stepped x.names asked.used post to (step_by_one up (promoted_type (target_type to) (width_of on))) one).temporaries)
-        (target_plain x.names (ty form is_const) on one.given is.0 (all.0 refl)) are) in
-        by_one_owes x asked form is_const at up post on from images c w here typed is.0 (all.0 refl) (rises one from count) kept_one.1
+        (target_plain x.names (ty form is_const) on one.given is.0 no_record) are) in
+        by_one_owes x asked form is_const at up post on from images c w here typed is.0 no_record (rises one from count) (kept_used asked.used (kept_as x.names x.kept one.next T) kept_one.1)
         (expr_does operand on from (used_part operand on refl (lvalue_has x on typed.1.0)) kept_one.0 (inr typed.1.0) is.1 images c w here)
-    form_does asked type at (comma first second) from asked_is are (inl typed) all is = λ images c w here.
+    form_does asked type at (comma first second) from asked_is are (inl typed) is = λ images c w here.
         let two = both (λ number. lifted x.names (part_of false) first number) (λ number. lifted x.names (part_of asked.used) second number) from in
-        let first_count = numbered x.names (part_of false) first from is.0 in
-        comma_owes x asked type at first second from images c w here typed (rises two.first from first_count) (rises two.second two.first.next (numbered x.names (part_of asked.used) second two.first.next is.1))
+        let first_count = numbered x.names (part_of false) first from in
+        comma_owes x asked type at first second from images c w here typed (rises two.first from first_count) (rises two.second two.first.next (numbered x.names (part_of asked.used) second two.first.next))
         (expr_does (part_of false) first from (record { used = λ same. cc (same); base = λ same. cc (same) }) (kept_front x.names x.kept from two.first.temporaries two.second.temporaries are) (inl typed.1.0) is.0 images c w here)
         (λ later c1 w1 there. expr_does (part_of asked.used) second two.first.next
         (record { used = λ same. subst (λ (t : CTy). is_void t ≡ false) typed.1.2 (asked_is.used same); base = λ same. cc (same) })
         (second_kept x.names x.kept two given_form.nothing from first_count are) (inl typed.1.1) is.1 later c1 w1 there)
-    form_does asked type at (whole value) from asked_is are (inr typed) all is = absurd typed.2
-    form_does asked type at null from asked_is are (inr typed) all is = absurd typed.2
-    form_does asked type at (code number) from asked_is are (inr typed) all is = absurd typed.2
-    form_does asked type at (load of) from asked_is are (inr typed) all is = absurd typed.2
-    form_does asked type at (address of) from asked_is are (inr typed) all is = absurd typed.2
-    form_does asked type at (convert of) from asked_is are (inr typed) all is = absurd typed.2
-    form_does asked type at (unary op of) from asked_is are (inr typed) all is = absurd typed.2
-    form_does asked type at (binary op left right) from asked_is are (inr typed) all is = absurd typed.2
-    form_does asked type at (assign target value) from asked_is are (inr typed) all is = absurd typed.2
-    form_does asked type at (assign_by op computes target value) from asked_is are (inr typed) all is = absurd typed.2
-    form_does asked type at (step up post on) from asked_is are (inr typed) all is = absurd typed.2
-    form_does asked type at (comma first second) from asked_is are (inr typed) all is = absurd typed.2
-    form_does asked type at (object number) from asked_is are (inl typed) all is = absurd typed.1
-    form_does asked type at (deref of) from asked_is are (inl typed) all is = absurd typed.1
-    form_does asked type at (member of spot) from asked_is are (inl typed) all is = absurd (clashing (is_lvalue of) is.1 (typed_no_lvalue x.home of typed.1.0))
-    form_does asked type at (and left right) from asked_is are typed all is = absurd is
-    form_does asked type at (or left right) from asked_is are typed all is = absurd is
-    form_does asked type at (cond test first second) from asked_is are typed all is = absurd is
-    form_does asked type at (call callee args) from asked_is are typed all is = absurd is
-    form_does asked type at (call_by callee args) from asked_is are typed all is = absurd is
-    form_does asked type at (literal number puts) from asked_is are typed all is = absurd is
+    form_does asked type at (whole value) from asked_is are (inr typed) is = absurd typed.2
+    form_does asked type at null from asked_is are (inr typed) is = absurd typed.2
+    form_does asked type at (code number) from asked_is are (inr typed) is = absurd typed.2
+    form_does asked type at (load of) from asked_is are (inr typed) is = absurd typed.2
+    form_does asked type at (address of) from asked_is are (inr typed) is = absurd typed.2
+    form_does asked type at (convert of) from asked_is are (inr typed) is = absurd typed.2
+    form_does asked type at (unary op of) from asked_is are (inr typed) is = absurd typed.2
+    form_does asked type at (binary op left right) from asked_is are (inr typed) is = absurd typed.2
+    form_does asked type at (assign target value) from asked_is are (inr typed) is = absurd typed.2
+    form_does asked type at (assign_by op computes target value) from asked_is are (inr typed) is = absurd typed.2
+    form_does asked type at (step up post on) from asked_is are (inr typed) is = absurd typed.2
+    form_does asked type at (comma first second) from asked_is are (inr typed) is = absurd typed.2
+    form_does asked type at (object number) from asked_is are (inl typed) is = absurd typed.1
+    form_does asked type at (deref of) from asked_is are (inl typed) is = absurd typed.1
+    form_does asked type at (member of spot) from asked_is are (inl typed) is = absurd (clashing (is_lvalue of) is.1 (typed_no_lvalue x.home of typed.1.0))
+    form_does asked type at (and left right) from asked_is are (inl typed) is = λ images c w here.
+        let two = operands_of x.names left right from in
+        let first_count = numbered x.names operand left from in
+        let second_count = numbered x.names operand right two.first.next in
+        let kept_two = decided_kept x.names x.kept asked.used (acts true right) type where_true (operand_of x.names left two.first.given) (operand_of x.names right two.second.given) two from first_count second_count are in
+        and_owes x asked type at left right from images c w here typed (rises two.first from first_count) (rises two.second two.first.next second_count) kept_two.1
+        (expr_does operand left from (used_part operand left refl (scalar_has x.home.program.types (type_of left) typed.1.2.left_scalar)) (kept_front x.names x.kept from two.first.temporaries two.second.temporaries kept_two.0) (inl typed.1.0) is.0 images c w here)
+        (λ later c1 w1 there. expr_does operand right two.first.next (used_part operand right refl (scalar_has x.home.program.types (type_of right) typed.1.2.right_scalar))
+        (second_kept x.names x.kept two given_form.nothing from first_count kept_two.0) (inl typed.1.1) is.1 later c1 w1 there)
+    form_does asked type at (and left right) from asked_is are (inr typed) is = absurd typed.2
+    form_does asked type at (or left right) from asked_is are (inl typed) is = λ images c w here.
+        let two = operands_of x.names left right from in
+        let first_count = numbered x.names operand left from in
+        let second_count = numbered x.names operand right two.first.next in
+        let kept_two = decided_kept x.names x.kept asked.used (acts true right) type where_false (operand_of x.names left two.first.given) (operand_of x.names right two.second.given) two from first_count second_count are in
+        or_owes x asked type at left right from images c w here typed (rises two.first from first_count) (rises two.second two.first.next second_count) kept_two.1
+        (expr_does operand left from (used_part operand left refl (scalar_has x.home.program.types (type_of left) typed.1.2.left_scalar)) (kept_front x.names x.kept from two.first.temporaries two.second.temporaries kept_two.0) (inl typed.1.0) is.0 images c w here)
+        (λ later c1 w1 there. expr_does operand right two.first.next (used_part operand right refl (scalar_has x.home.program.types (type_of right) typed.1.2.right_scalar))
+        (second_kept x.names x.kept two given_form.nothing from first_count kept_two.0) (inl typed.1.1) is.1 later c1 w1 there)
+    form_does asked type at (or left right) from asked_is are (inr typed) is = absurd typed.2
+    form_does asked type at (cond test first second) from asked_is are (inl typed) is = λ images c w here.
+        let three = parts_of x.names asked.used test first second from in
+        let acting = (asked.used && is_record type) || (acts asked.used first || acts asked.used second) in
+        let first_count = numbered x.names operand test from in
+        let second_count = numbered x.names (part_of asked.used) first three.test.next in
+        let third_count = numbered x.names (part_of asked.used) second three.first.next in
+        let kept_three = chosen_kept x.names x.kept asked.used acting type (operand_of x.names test three.test.given) (operand_of x.names first three.first.given) (operand_of x.names second three.second.given) three from
+        first_count second_count third_count are in
+        choice_owes x asked type at test first second from images c w here typed asked_is.used (rises three.test from first_count) (rises three.first three.test.next second_count) (rises three.second three.first.next third_count)
+        (λ used acts_it. (part_is_taken x type first three.first.given three.second.next typed.1.1 typed.1.3.first_is (asked_is.used used) (kept_three.3 used acts_it),
+        part_is_taken x type second three.second.given three.second.next typed.1.2 typed.1.3.second_is (asked_is.used used) (kept_three.3 used acts_it)))
+        (expr_does operand test from (used_part operand test refl (scalar_has x.home.program.types (type_of test) typed.1.3.tested)) kept_three.0 (inl typed.1.0) is.0 images c w here)
+        (λ later c1 w1 there. expr_does (part_of asked.used) first three.test.next
+        (record { used = λ same. subst (λ (t : CTy). is_void t ≡ false) (sym typed.1.3.first_is) (asked_is.used same); base = λ same. cc (same) }) kept_three.1 (inl typed.1.1) is.1 later c1 w1 there)
+        (λ later c1 w1 there. expr_does (part_of asked.used) second three.first.next
+        (record { used = λ same. subst (λ (t : CTy). is_void t ≡ false) (sym typed.1.3.second_is) (asked_is.used same); base = λ same. cc (same) }) kept_three.2 (inl typed.1.2) is.2 later c1 w1 there)
+    form_does asked type at (cond test first second) from asked_is are (inr typed) is = absurd typed.2
+    form_does asked type at (call callee args) from asked_is are typed is = absurd is
+    form_does asked type at (call_by callee args) from asked_is are typed is = absurd is
+    form_does asked type at (literal number puts) from asked_is are typed is = absurd is
 
 pub covered_does : CoveredDoes
 covered_does s names_of kept home asked e from units steps means apart asked_is are typed is calls promise images c_frame frame c_world world here =

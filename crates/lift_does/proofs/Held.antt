@@ -69,14 +69,14 @@ module _ (x : Around) where
   -- ---- values
 
   -- what is stored in the temporary
-  record IsStorable (e : CExpr) (given : Given) (of_c : CValue) (images : Images) (world : World) : Type 0 where
-    kind : Scalar
-    kind_is : scalar_of (type_in x.names (type_of e)) ≡ Some kind
-    other : Value
-    gives : GivesAt x.frame world (given_value given) (type_in x.names (type_of e)) other
-    of_kind : IsValueOf kind other
+  pub record IsStorable (e : CExpr) (given : Given) (of_c : CValue) (images : Images) (world : World) : Type 0 where
+    pub kind : Scalar
+    pub kind_is : scalar_of (type_in x.names (type_of e)) ≡ Some kind
+    pub other : Value
+    pub gives : GivesAt x.frame world (given_value given) (type_in x.names (type_of e)) other
+    pub of_kind : IsValueOf kind other
     -- and what is given when it is read
-    back : (last : Images) (later : World) (read : Expr) → ((p : Place) → given_form.value read ≡ given_form.value (AddressOf p) → ⊥) →
+    pub back : (last : Images) (later : World) (read : Expr) → ((p : Place) → given_form.value read ≡ given_form.value (AddressOf p) → ⊥) →
         Extends images last → GivesAt x.frame later read (type_in x.names (type_of e)) other → GivesOperand x.s x.names last x.c_frame x.frame later e (given_form.value read) of_c
 
   of_missing : (world : World) (type : CTy) (given : Given) → is_void type ≡ false → is_record type ≡ false → GivesMissing x.names x.frame world type given → GivesSome x.frame world (type_in x.names type) given
@@ -98,9 +98,9 @@ module _ (x : Around) where
   record_clash (ty (array element length_of) is_const) is plainly = is
   record_clash (ty (function result params variadic) is_const) is plainly = is
 
-  storable : (e : CExpr) (operand : COperand) (given : Given) (images : Images) (world : World) → IsTyped x.home e → is_void (type_of e) ≡ false → is_record (type_of e) ≡ false → IsGiven x.home.program e operand.value →
-      GivesOperand x.s x.names images x.c_frame x.frame world e given operand.value → IsStorable e given operand.value images world
-  storable e operand given images world typed not_void not_record is gives = by operand.value is gives
+  pub storable : (e : CExpr) (value : CValue) (given : Given) (images : Images) (world : World) → IsTyped x.home e → is_void (type_of e) ≡ false → is_record (type_of e) ≡ false → IsGiven x.home.program e value →
+      GivesOperand x.s x.names images x.c_frame x.frame world e given value → IsStorable e given value images world
+  storable e value given images world typed not_void not_record is gives = by value is gives
     where
       by : (of_c : CValue) → IsGiven x.home.program e of_c → GivesOperand x.s x.names images x.c_frame x.frame world e given of_c → IsStorable e given of_c images world
       by (scalar one) (inl of) gave =
@@ -137,32 +137,3 @@ module _ (x : Around) where
             back = λ last later read plain extends reads.
                 to_missing later (type_of e) (given_form.value read) not_void not_record (record { kind = some.kind; kind_is = some.kind_is; other = some.other; gives = reads; of_kind = some.of_kind });
           }
-
-  -- a value is stored in the next temporary, and read from it
-  pub value_held : (used fixed more : Bool) (e : CExpr) (written : Written) (from : ℕ) (images : Images) (c0 w0 : World) → At x images c0 w0 → IsTyped x.home e → is_void (type_of e) ≡ false → is_record (type_of e) ≡ false →
-      used ≡ true → from ≤ written.next → x.kept.temporaries written.next ≡ Some (record { name = x.names.temporary written.next; ty = type_in x.names (type_of e) }) →
-      PartOwes x used fixed e written from images c0 w0 → PartOwes x used more e (then_held x.names (a_value (type_in x.names (type_of e))) written) from images c0 w0
-  value_held used fixed more e written from images c0 w0 at typed not_void not_record is_used rises kept_is owes =
-      let Good = DidOf x used more e (then_held x.names (a_value (type_in x.names (type_of e))) written) from images c0 w0 in
-      behind_owes x (λ operand c1 flow w1. DidOf x used fixed e written from images c0 w0 operand c1 flow w1 × Knows x e c0 operand c1) Good (value_in x e c0) written.body (Assign (temporary_place x.names written.next) (given_value written.given) ∷ []) w0
-      (λ operand c1 flow w1 good. good.0.flow_is)
-      (known_owes x (DidOf x used fixed e written from images c0 w0) (Knows x e c0) (value_in x e c0) written.body w0 (knows x e images c0 w0 (inl typed) at) owes)
-      (λ operand c1 w1 good.
-      let did = good.0 in
-      let reached = reached_by x used fixed e written from images c0 w0 operand c1 normal w1 at did good.1.0.at in
-      let gave = subst (λ (u : Bool). GivesWhere u x.s x.names did.later x.c_frame x.frame w1 e written.given operand.value) is_used
-      (did.gives did.later c1 w1 (later_itself x did.later written.next fixed operand.marks.reads c1 w1 reached.at)) in
-      let may = storable e operand written.given did.later w1 typed not_void not_record (value_given x.home e operand.value typed good.1.0.operand_is.given) gave in
-      let stored = stores_temporary x written.next (type_in x.names (type_of e)) may.kind (given_value written.given) (type_in x.names (type_of e)) may.other did.later c1 w1 reached.at kept_is may.kind_is may.of_kind may.gives in
-      let both = reached_then x from written.next (suc written.next) images did.later did.later c0 w0 c1 w1 c1 stored.after rises (omega arith) at reached stored.reached in
-      end_owes x Good operand (Assign (temporary_place x.names written.next) (given_value written.given) ∷ []) c1 w1 stored.after stored.comes (record {
-        flow_is = refl;
-        later = did.later;
-        own = both.own;
-        are_own = both.are_own;
-        keeps = both.keeps;
-        worlds = both.at.worlds;
-        gives = λ last c_later after later. where_used used x last after e (given_form.value (Read (temporary_place x.names written.next))) operand.value (λ _.
-            may.back last after (Read (temporary_place x.names written.next)) (λ p same. cc (same)) later.extends
-            (reads_temporary x written.next (suc written.next) (type_in x.names (type_of e)) may.kind may.other did.later last more operand.marks.reads c1 stored.after c_later after (omega arith) stored.holds later));
-      }))

@@ -51,7 +51,7 @@ beside_then reads one two three first second = record {
 
 -- ---- where no write overlaps what was read (6.5p2)
 
-no_either : (one other : Bool) → (one || other) ≡ false → (one ≡ false) × (other ≡ false)
+pub no_either : (one other : Bool) → (one || other) ≡ false → (one ≡ false) × (other ≡ false)
 no_either true other none = cc (none)
 no_either false other none = (refl, none)
 

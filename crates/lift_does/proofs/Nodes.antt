@@ -92,7 +92,7 @@ module _ (x : Around) where
   abbrev pub PartOwes : (used fixed : Bool) → CExpr → Written → (from : ℕ) → Images → (c0 w0 : World) → Type 0
   PartOwes used fixed part written from images c0 w0 = OweAs x (DidOf x used fixed part written from images c0 w0) (value_in x part c0) written.body w0
 
-  did_one : (used fixed : Bool) (part : CExpr) (written : Written) (from : ℕ) (images : Images) (c0 w0 : World) (operand : COperand) (c1 : World) (flow : Flow) (w1 : World) → At x images c0 w0 →
+  pub did_one : (used fixed : Bool) (part : CExpr) (written : Written) (from : ℕ) (images : Images) (c0 w0 : World) (operand : COperand) (c1 : World) (flow : Flow) (w1 : World) → At x images c0 w0 →
       (did : DidOf x used fixed part written from images c0 w0 operand c1 flow w1) → Knows x part c0 operand c1 → OneDid used fixed part written from images did.later c0 w0 operand c1 w1
   did_one used fixed part written from images c0 w0 operand c1 flow w1 at did knows_part = record {
     reached = reached_by x used fixed part written from images c0 w0 operand c1 flow w1 at did knows_part.0.at;

@@ -132,6 +132,16 @@ module _ (x : Around) where
       by false true first second is = own_more middle to to from block p (omega arith) (other block second)
       by false false first second is = cc (is)
 
+  -- less is said of what was written
+  pub reached_wider : (from to least more : ℕ) (images later : Images) (c_before before c_world world : World) → least ≤ from → to ≤ more → Reached x from to images later c_before before c_world world →
+      Reached x least more images later c_before before c_world world
+  reached_wider from to least more images later c_before before c_world world p q reached = record {
+    own = reached.own;
+    are_own = λ block is. own_more from to more least block p q (reached.are_own block is);
+    keeps = reached.keeps;
+    at = reached.at;
+  }
+
   or_left : (a b : Bool) → a ≡ true → (a || b) ≡ true
   or_left a b is = rw is refl
 

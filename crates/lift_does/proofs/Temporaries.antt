@@ -13,6 +13,7 @@ use Rattle.lift_calls.specs.Frames.{KeptTemporary, IsLocal}
 use Rattle.lift_does.proofs.Around.{Around, At, LaterAt, Reached, runs}
 use Rattle.lift_does.proofs.Reaching.{at_after}
 use Rattle.lift_does.proofs.Runs.{run_one}
+use Rattle.lift_does.specs.Later.{TemporariesStay}
 use Rattle.lift_exprs.specs.Written.{temporary_place}
 use Rattle.lift_forms_laws.specs.Gives.{GivesAt, GivesPlace}
 use Rattle.lift_stands.specs.Stands.{Images, IsVacant}
@@ -213,13 +214,18 @@ module _ (x : Around) where
       number_equal : (n m : ℕ) → (n == m) ≡ true → n ≡ m
       number_equal n m is = grind (arith, nat_tests, is)
 
-  -- it is read later
-  pub reads_temporary : (number below : ℕ) (ty : Ty) (kind : Scalar) (value : Value) (images last : Images) (fixed : Bool) (reads : List Range) (c_world world c_later later : World) → number < below →
-      TemporaryHolds x number ty kind value world → LaterAt x images last below fixed reads c_world world c_later later → GivesAt x.frame later (Read (temporary_place x.names number)) ty value
-  reads_temporary number below ty kind value images last fixed reads c_world world c_later later p holds is_later =
-      let stays : live_block (blocks_of later) holds.local.block ≡ live_block (blocks_of world) holds.local.block = is_later.temporaries number holds.one holds.local p holds.kept_is holds.is_local in
+  -- it is read where temporaries are what they were
+  pub reads_staying : (number below : ℕ) (ty : Ty) (kind : Scalar) (value : Value) (world later : World) → number < below → TemporaryHolds x number ty kind value world → TemporariesStay x.kept x.frame below world later →
+      GivesAt x.frame later (Read (temporary_place x.names number)) ty value
+  reads_staying number below ty kind value world later p holds stay =
+      let stays : live_block (blocks_of later) holds.local.block ≡ live_block (blocks_of world) holds.local.block = stay number holds.one holds.local p holds.kept_is holds.is_local in
       let found : value_at (blocks_of later) (record { block = holds.local.block; offset = 0 }) kind ≡ Ok value =
       ap (λ (slot : Option Block). live_read slot (λ block. block_value block 0 kind)) stays ∙ holds.found in
       subst (λ (name : List ℕ). GivesAt x.frame later (Read (Local name)) ty value) holds.name_is
       (subst (λ (t : Ty). GivesAt x.frame later (Read (Local holds.one.name)) t value) holds.ty_is
       (read_comes x.frame holds.one.name holds.local kind value later holds.is_local (ap scalar_of holds.ty_is ∙ holds.kind_is) found))
+
+  -- and so later
+  pub reads_temporary : (number below : ℕ) (ty : Ty) (kind : Scalar) (value : Value) (images last : Images) (fixed : Bool) (reads : List Range) (c_world world c_later later : World) → number < below →
+      TemporaryHolds x number ty kind value world → LaterAt x images last below fixed reads c_world world c_later later → GivesAt x.frame later (Read (temporary_place x.names number)) ty value
+  reads_temporary number below ty kind value images last fixed reads c_world world c_later later p holds is_later = reads_staying number below ty kind value world later p holds is_later.temporaries

@@ -3,7 +3,7 @@
 
 ghost use Rattle.lift_does.specs.Covered.{CoveredDoes};
 
-/// Law: so it is with each expression without calls, branches, compound literals, bit-fields, and values of structure or union type.
+/// Law: so it is with each expression without calls, compound literals, bit-fields, and members of values.
 pub fn covered_does()
     ensures { CoveredDoes }
 {}
