@@ -13,6 +13,7 @@ use Rattle.cx_mean.specs.Leftmost.{one_step}
 use Rattle.cx_mean.specs.Marks.{Marks, no_marks}
 use Rattle.cx_mean.specs.Operands.{needed, CValue, scalar, designates, COperand, with_marks, Slot, Frame as CFrame, slot_of, place_in, scalar_value}
 use Rattle.cx_mean.specs.Values.{value_of_kind}
+use Rattle.cx_typed_calls.proofs.Calls.{calls_end_typed}
 use Rattle.cx_typed_runs.proofs.Owned.{object_number, shapes_owned}
 use Rattle.cx_typed_values.specs.Outcomes.{Comes}
 use Rattle.cx_typed_work.proofs.Puts.{IsLiteralAlive, slot_begins, put_comes}
@@ -158,7 +159,7 @@ module _ (a : Calling) (units steps : ℕ) (mean : PartsMean a.s a.names a.of un
       means = mean.means home refl;
       apart = mean.apart;
       bodies = subst BodiesBehave (sym here.inside.frames.bodies) (all_behave a.s.modules);
-      typed_calls = mean.calls;
+      typed_calls = calls_end_typed a.s.program a.s.statics mean.linked mean.begun;
       units = n;
       steps = m;
       promise = promise_shrinks a.s units steps n m few little mean.promise;

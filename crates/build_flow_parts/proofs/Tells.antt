@@ -7,6 +7,7 @@ use Rattle.cr_base.specs.Scalar.{IsInRange}
 use Rattle.cr_runs.specs.Runs.{Ran, came, bind}
 use Rattle.cr_world.specs.World.{World, Stop}
 use Rattle.cx_mean.specs.Operands.{Slot, Frame as CFrame}
+use Rattle.cx_typed_calls.proofs.Calls.{calls_end_typed}
 use Rattle.build_flow_lives.specs.Standing.{Calling, own_slots, Standing}
 use Rattle.build_flow_moves.specs.Parts.{objects_in}
 use Rattle.lift_does.proofs.Around.{Around, LaterAt}
@@ -58,7 +59,7 @@ module _ (a : Calling) (units steps : ℕ) (mean : PartsMean a.s a.names a.of un
     means = mean.means (home_in a.s a.one (objects_in slots ++ a.one.params)) refl;
     apart = mean.apart;
     bodies = behave;
-    typed_calls = mean.calls;
+    typed_calls = calls_end_typed a.s.program a.s.statics mean.linked mean.begun;
     units = units;
     steps = steps;
     promise = mean.promise;

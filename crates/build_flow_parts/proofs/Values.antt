@@ -6,12 +6,14 @@ use Rattle.cr_world.specs.World.{World, events_of}
 use Rattle.cx_core.specs.Trees.{CExpr, type_of}
 use Rattle.cx_core.specs.Typing.{CHome, IsTyped}
 use Rattle.cx_mean.specs.Operands.{COperand, Slot, Frame as CFrame}
+use Rattle.cx_typed_calls.proofs.Calls.{calls_end_typed}
 use Rattle.cx_typed_runs.proofs.Scenes.{scene_of, objects_append}
 use Rattle.cx_typed_leftmost.proofs.Values.{leftmost_stays_typed}
-use Rattle.cx_typed_leftmost.specs.Laws.{IsTypedEnd}
+use Rattle.cx_typed_leftmost.specs.Laws.{CallsAreTyped, IsTypedEnd}
 use Rattle.build_flow_lives.specs.Standing.{Calling, own_slots, Standing, stage_of}
 use Rattle.build_flow_moves.specs.Parts.{objects_in, value_in, EffectDone}
 use Rattle.lift_calls.proofs.Owed.{promise_shrinks}
+use Rattle.lift_calls.specs.Programs.{c_calls}
 use Rattle.lift_does.specs.Agree.{AreKeptFrom}
 use Rattle.lift_does.specs.Does.{IsAsked, Did}
 use Rattle.lift_does.specs.Here.{Here}
@@ -39,6 +41,10 @@ operand_asked e some = record { used = λ used. some; base = λ base. refl }
 module _ (a : Calling) (units steps : ℕ) (mean : PartsMean a.s a.names a.of units steps) (started : WorldsStand a.images a.c_before a.before) (params_are : map (λ (slot : Slot). slot.object) a.params ≡ a.one.params) where
   abbrev home : List ℕ → CHome
   home scope = home_in a.s a.one (scope ++ a.one.params)
+
+  -- functions that are called end typed
+  calls_typed : CallsAreTyped a.s.program a.s.statics (c_calls a.s)
+  calls_typed = calls_end_typed a.s.program a.s.statics mean.linked mean.begun
 
   -- where an expression begins
   pub here_of : (scope : List ℕ) (slots : CFrame) (c_world world : World) → objects_in slots ≡ scope → (here : Standing a slots c_world world) →
@@ -80,8 +86,8 @@ module _ (a : Calling) (units steps : ℕ) (mean : PartsMean a.s a.names a.of un
       (Evaluated asked e number scope slots c_world world here) (λ given c_end flow end is. record { did = is.0; typed = is.1 }) n m _ _
       (known events_of events_of (Did a.s (home scope) a.of.names a.names asked e number here.later (own_slots a slots) a.frame c_world world) (IsTypedEnd (home scope) (own_slots a slots ++ a.s.statics) e c_world) n m
       (value_in (stage_of a units steps) slots e c_world) (run_stmts a.frame (stmts (lifted a.of.names asked e number).body) world)
-      (λ bound. leftmost_stays_typed (home scope) (own_slots a slots) a.s.statics e c_world bound mean.calls (inl typed) begins.typed)
-      (mean.does a.s a.of.names a.names (home scope) asked e number n m (mean.means (home scope) refl) mean.apart is_asked kept (inl typed) mean.calls (promise_shrinks a.s units steps n m few little mean.promise)
+      (λ bound. leftmost_stays_typed (home scope) (c_calls a.s) (own_slots a slots) a.s.statics e c_world bound calls_typed (inl typed) begins.typed)
+      (mean.does a.s a.of.names a.names (home scope) asked e number n m (mean.means (home scope) refl) mean.apart is_asked kept (inl typed) calls_typed (promise_shrinks a.s units steps n m few little mean.promise)
       here.later (own_slots a slots) a.frame c_world world begins))
 
   -- ---- an expression whose value is dropped

@@ -5,13 +5,12 @@ use Rattle.cx_core.specs.Linked.{IsLinked}
 use Rattle.cx_core.specs.Trees.{CObject, CFun}
 use Rattle.cx_core.specs.Typing.{CHome, object_with}
 use Rattle.cx_mean.specs.Settings.{extent_in}
-use Rattle.cx_typed_leftmost.specs.Laws.{CallsAreTyped}
 use Rattle.cx_typed_runs.specs.States.{AreBegun}
 use Rattle.build_flow_nodes.specs.Parts.{BodyNames}
 use Rattle.lift_calls.specs.Calls.{Promise}
 use Rattle.lift_forms.specs.Places.{Kept}
 use Rattle.lift_calls.specs.Frames.{FunctionNames, NamesApart}
-use Rattle.lift_calls.specs.Programs.{Setting, setting_in, c_calls}
+use Rattle.lift_calls.specs.Programs.{Setting, setting_in}
 use Rattle.lift_does.specs.Agree.{NamesMean}
 use Rattle.lift_does.specs.Does.{LiftingDoes}
 use Rattle.lift_exprs.specs.Names.{type_in}
@@ -29,7 +28,6 @@ pub record PartsMean (s : Setting) (names : FunctionNames) (of : BodyNames) (uni
   pub apart : NamesApart names
   pub does : LiftingDoes
   pub promise : Promise s units steps
-  pub calls : CallsAreTyped s.program s.statics (c_calls s)
 
 -- ---- objects
 

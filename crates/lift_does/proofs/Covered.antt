@@ -1,11 +1,10 @@
 -- The expressions without calls, compound literals, bit-fields and members of values: what is written for them does what they do.
-use Rattle.std.proofs.Common.{◌≡◌, ◌⊎◌, inl, inr, ℕ, suc, ◌+◌, ◌≤◌, Bool, true, false, not, if◌then◌else◌, ◌&&◌, ◌||◌, ◌==◌, List, [], ◌∷◌, ◌++◌, length, Some, refl, sym, ap, subst, ◌∙◌, arith, length-append}
+use Rattle.std.proofs.Common.{◌≡◌, ◌⊎◌, inl, inr, ℕ, ◌+◌, Bool, true, false, not, if◌then◌else◌, ◌&&◌, ◌||◌, ◌==◌, List, [], ◌∷◌, ◌++◌, length, Some, refl, sym, ap, subst, ◌∙◌}
 use Rattle.cr_base.specs.declared.refusal.Place.{Place}
 use Rattle.cr_world.specs.World.{World}
 use Rattle.cx_core.specs.Trees.{CTy, ty, CTyForm, CExpr, expr, CForm, whole, null, object, code, load, deref, member, address, convert, unary, binary, and, or, cond, assign, assign_by, step, call, call_by, comma, literal, type_of}
 use Rattle.cx_core.specs.Typing.{CHome, IsTyped, IsLvalue, is_bit_field, width_of}
 use Rattle.cx_core.specs.Conversions.{promoted}
-use Rattle.cx_core.specs.declared.expr.Op2.{Op2}
 use Rattle.cx_typed_work.proofs.Computing.{assigned_binary}
 use Rattle.lift_does.proofs.CompoundAssignments.{assign_by_owes}
 use Rattle.lift_does.proofs.StepsByOne.{by_one_owes}
@@ -39,7 +38,7 @@ use Rattle.lift_exprs.specs.Stores.{Target, a_scalar, a_structure, is_field, tar
 use Rattle.lift_exprs.specs.Written.{Written, Both, both, in_turn, place_of_given, NodeKind, a_value, a_record, a_place, lvalue_kind, value_kind, kind_in, held_type, held_where}
 use Rattle.lift_forms.specs.Given.{Given}
 use Rattle.lift_forms.specs.Given as given_form
-use Rattle.lift_forms.specs.Operators.{Operand, given_value}
+use Rattle.lift_forms.specs.Operators.{Operand}
 use Rattle.lift_held.specs.Held.{is_void, is_record, is_lvalue, acts, is_lvalue_form, operand, operand_before, part_of, whole_of, holds_call}
 use Rattle.lift_held.specs.declared.asked.Asked.{Asked}
 use Rattle.lift_stands.specs.Stands.{Images}
@@ -376,8 +375,10 @@ module _ (x : Around) where
         let kept_three = chosen_kept x.names x.kept asked.used acting type (operand_of x.names test three.test.given) (operand_of x.names first three.first.given) (operand_of x.names second three.second.given) three from
         first_count second_count third_count are in
         choice_owes x asked type at test first second from images c w here typed asked_is.used (rises three.test from first_count) (rises three.first three.test.next second_count) (rises three.second three.first.next third_count)
-        (λ used acts_it. (part_is_taken x type first three.first.given three.second.next typed.1.1 typed.1.3.first_is (asked_is.used used) (kept_three.3 used acts_it),
-        part_is_taken x type second three.second.given three.second.next typed.1.2 typed.1.3.second_is (asked_is.used used) (kept_three.3 used acts_it)))
+        (λ used acts_it. (
+          part_is_taken x type first three.first.given three.second.next typed.1.1 typed.1.3.first_is (asked_is.used used) (kept_three.3 used acts_it),
+          part_is_taken x type second three.second.given three.second.next typed.1.2 typed.1.3.second_is (asked_is.used used) (kept_three.3 used acts_it),
+        ))
         (expr_does operand test from (used_part operand test refl (scalar_has x.home.program.types (type_of test) typed.1.3.tested)) kept_three.0 (inl typed.1.0) is.0 images c w here)
         (λ later c1 w1 there. expr_does (part_of asked.used) first three.test.next
         (record { used = λ same. subst (λ (t : CTy). is_void t ≡ false) (sym typed.1.3.first_is) (asked_is.used same); base = λ same. cc (same) }) kept_three.1 (inl typed.1.1) is.1 later c1 w1 there)
