@@ -183,7 +183,7 @@ module _ (a : Calling) (started : WorldsStand a.images a.c_before a.before) wher
   -- ---- what has returned
 
   module _ (slots : CFrame) (c_world world : World) (here : Standing a slots c_world world) where
-    all_vacant : (local : LocalBlock) → Contains a.frame.locals local → IsVacant here.later (without_objects (own_slots a slots) (blocks_of c_world)) local.block
+    pub all_vacant : (local : LocalBlock) → Contains a.frame.locals local → IsVacant here.later (without_objects (own_slots a slots) (blocks_of c_world)) local.block
     all_vacant local among number living image =
         let was = here.inside.frames.owned number local among (living.0, (fewer_live (own_slots a slots) (blocks_of c_world)).same number living.0 living.1) image in
         gone_dead (own_slots a slots) (blocks_of c_world) was.slot was.in_scope (subst (λ (x : ℕ). Lives (without_objects (own_slots a slots) (blocks_of c_world)) x) (sym was.block_is) living)

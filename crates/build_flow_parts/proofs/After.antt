@@ -112,6 +112,8 @@ module _ (a : Calling) (started : WorldsStand a.images a.c_before a.before) (apa
       record {
         local = local;
         is_local = holds.is_local;
+        to = holds.to;
+        ty_is = holds.ty_is;
         holds = ap (λ slot. live_read slot (λ block. block_value block 0 Address)) same ∙ holds.holds;
         no_image = no_image_still here.later later own c_world c_end world end here.inside.worlds keeps local.block p holds.no_image;
         place = place_still laid at holds.older holds.place;

@@ -326,6 +326,8 @@ module _ (a : Calling) (units steps : ℕ) (mean : PartsMean a.s a.names a.of un
   result_there (Some laid) (Some name) (Some at) is agrees = record {
     local = agrees.local;
     is_local = agrees.is_local;
+    to = agrees.to;
+    ty_is = agrees.ty_is;
     holds = agrees.holds;
     no_image =
         no_image_still agrees.local.block agrees.no_image

@@ -12,6 +12,7 @@ use Rattle.build_flow_parts.proofs.Begins.{begin_done}
 use Rattle.build_flow_parts.proofs.Clears.{nothing_cleared}
 use Rattle.build_flow_parts.proofs.Conditions.{test_done, choice_done}
 use Rattle.build_flow_parts.proofs.Puts.{scalar_put_done}
+use Rattle.build_flow_parts.proofs.RecordReturns.{record_return_done}
 use Rattle.build_flow_parts.proofs.Returns.{nothing_done, return_done}
 use Rattle.build_flow_parts.proofs.Values.{effect_done}
 
@@ -36,7 +37,7 @@ module _ (a : Calling) (units steps : ℕ) (mean : PartsMean a.s a.names a.of un
   returns_done : (scope : List ℕ) (e : CExpr) (number : ℕ) → ReturnMeans a units steps scope e number → ReturnDone stage scope e number
   returns_done scope e number (inl is) =
       return_done a units steps mean started params_are e number scope is.plain is.type is.result_is is.no_place is.some is.value.typed is.value.kept
-  returns_done scope e number (inr is) = is
+  returns_done scope e number (inr is) = record_return_done a units steps mean started params_are e number scope is
 
   clear_done : (scope : List ℕ) (object : ℕ) (puts : Option CPuts) → ClearMeans a units steps scope object puts → ClearDone stage scope object puts
   clear_done scope object puts (inl is) = nothing_cleared a units steps mean started params_are bits no_bits scope object puts is

@@ -111,7 +111,7 @@ module _ (a : Calling) (units steps : ℕ) (mean : PartsMean a.s a.names a.of un
     standing = stands_after a units steps mean started params_are operand e number scope slots c_world world here given c_end flow end is
 
     -- what is given stands for the operand at once
-    gives_here : GivesOperand a.s a.of.names is.did.later (own_slots a slots) a.frame end e written given.value
+    pub gives_here : GivesOperand a.s a.of.names is.did.later (own_slots a slots) a.frame end e written given.value
     gives_here =
         is.did.gives is.did.later c_end end (record {
           extends = extends_same is.did.later;

@@ -5,6 +5,7 @@ pub mod Clears
 pub mod Conditions
 pub mod Leaves
 pub mod Puts
+pub mod RecordReturns
 pub mod Returns
 pub mod Values
 pub mod Tells

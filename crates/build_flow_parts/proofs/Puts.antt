@@ -56,7 +56,7 @@ use Rattle.build_flow_parts.specs.Bodies.{ScalarPut}
 use Rattle.build_flow_parts.specs.Means.{home_in, PartsMean}
 use Rattle.build_flow_parts.proofs.After.{stands_behind}
 use Rattle.build_flow_parts.proofs.Conditions.{gives_scalar, scalar_is, standing}
-use Rattle.build_flow_parts.proofs.Values.{Evaluated, operand_asked, evaluates}
+use Rattle.build_flow_parts.proofs.Values.{around_of, Evaluated, operand_asked, evaluates}
 
 -- ---- the place of a scalar object
 
@@ -149,21 +149,7 @@ module _ (a : Calling) (units steps : ℕ) (mean : PartsMean a.s a.names a.of un
     all_slots = own_slots a slots ++ a.s.statics
 
     abbrev around : Around
-    around = record {
-      s = a.s;
-      names = a.of.names;
-      kept = a.names;
-      home = home;
-      c_frame = own_slots a slots;
-      frame = a.frame;
-      means = mean.means home refl;
-      apart = mean.apart;
-      bodies = subst BodiesBehave (sym here.inside.frames.bodies) (all_behave a.s.modules);
-      typed_calls = calls_end_typed a.s.program a.s.statics mean.linked mean.begun;
-      units = n;
-      steps = m;
-      promise = promise_shrinks a.s units steps n m few little mean.promise;
-    }
+    around = around_of a units steps mean started params_are scope slots c_world world n m few little here
 
     module _ (one : COperand) (c_end : World) (flow : Flow) (end : World) (is : Evaluated a units steps mean started params_are operand value number scope slots c_world world here one c_end flow end) where
       abbrev stands : Standing a slots c_end end

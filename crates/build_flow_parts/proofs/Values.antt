@@ -1,5 +1,5 @@
 -- Full expressions whose values are dropped, conditions, and operands of `switch`.
-use Rattle.std.proofs.Common.{◌≡◌, ◌∙◌, inl, ℕ, ◌≤◌, Bool, true, false, not, List, ◌++◌, map, refl, sym, ap}
+use Rattle.std.proofs.Common.{◌≡◌, ◌∙◌, inl, ℕ, ◌≤◌, Bool, true, false, not, List, ◌++◌, map, refl, sym, ap, subst}
 use Rattle.cr_runs.specs.Owes.{Owes}
 use Rattle.cr_runs.proofs.Rules.{weaker, known}
 use Rattle.cr_world.specs.World.{World, events_of}
@@ -14,6 +14,7 @@ use Rattle.build_flow_lives.specs.Standing.{Calling, own_slots, Standing, stage_
 use Rattle.build_flow_moves.specs.Parts.{objects_in, value_in, EffectDone}
 use Rattle.lift_calls.proofs.Owed.{promise_shrinks}
 use Rattle.lift_calls.specs.Programs.{c_calls}
+use Rattle.lift_does.proofs.Around.{Around}
 use Rattle.lift_does.specs.Agree.{AreKeptFrom}
 use Rattle.lift_does.specs.Does.{IsAsked, Did}
 use Rattle.lift_does.specs.Here.{Here}
@@ -22,6 +23,8 @@ use Rattle.lift_held.specs.Held.{is_void, operand, part_of, full}
 use Rattle.lift_held.specs.declared.asked.Asked.{Asked}
 use Rattle.lift_stands.specs.Worlds.{WorldsStand}
 use Rattle.rs_mean.specs.Run.{Flow, normal, run_stmts}
+use Rattle.rs_mean_frames.proofs.Framed.{all_behave}
+use Rattle.rs_mean_frames.specs.Behave.{BodiesBehave}
 use Rattle.rs_text.specs.Tree.{stmts}
 use Rattle.build_flow_parts.specs.Means.{home_in, PartsMean}
 use Rattle.build_flow_parts.proofs.After.{stands_behind}
@@ -43,7 +46,7 @@ module _ (a : Calling) (units steps : ℕ) (mean : PartsMean a.s a.names a.of un
   home scope = home_in a.s a.one (scope ++ a.one.params)
 
   -- functions that are called end typed
-  calls_typed : CallsAreTyped a.s.program a.s.statics (c_calls a.s)
+  pub calls_typed : CallsAreTyped a.s.program a.s.statics (c_calls a.s)
   calls_typed = calls_end_typed a.s.program a.s.statics mean.linked mean.begun
 
   -- where an expression begins
@@ -61,6 +64,24 @@ module _ (a : Calling) (units steps : ℕ) (mean : PartsMean a.s a.names a.of un
       allocated = here.inside.worlds.held.heaps.lives;
       owned = here.inside.scope.owned;
     };
+  }
+
+  -- what is known where statements run behind an expression, below other bounds
+  abbrev pub around_of : (scope : List ℕ) (slots : CFrame) (c_world world : World) (n m : ℕ) → n ≤ units → m ≤ steps → Standing a slots c_world world → Around
+  around_of scope slots c_world world n m few little here = record {
+    s = a.s;
+    names = a.of.names;
+    kept = a.names;
+    home = home scope;
+    c_frame = own_slots a slots;
+    frame = a.frame;
+    means = mean.means (home scope) refl;
+    apart = mean.apart;
+    bodies = subst BodiesBehave (sym here.inside.frames.bodies) (all_behave a.s.modules);
+    typed_calls = calls_typed;
+    units = n;
+    steps = m;
+    promise = promise_shrinks a.s units steps n m few little mean.promise;
   }
 
   -- an expression has been evaluated, and both stand behind it

@@ -1,19 +1,22 @@
 -- What is known of the parts of a body where each is written: expressions are typed and their temporaries kept, and objects are new to their scope (ISO C99, 6.2.4 and 6.8). Of
--- returns of structures and unions, objects that become zero, and initial values of parts of objects it is asked what is written for them.
+-- objects that become zero, and of initial values of parts of objects, it is asked what is written for them.
 use Rattle.std.specs.Prelude.{◌≡◌, ◌⊎◌, ℕ, true, ◌||◌, ◌+◌, false, List, [], ◌∷◌, ◌++◌, map, Option, Some, None, IfSome}
 use Rattle.cx_core.specs.Trees.{CTy, CExpr, type_of, CPut, put, CPuts, no_puts, more_puts, CObject, CStmt, stmt, CStmtForm, label, case, default, block, expression, if_then, switch, while, do_while, for_loop, goto, continue, break, returns, begin, COtherwise, no_else, else_do, CStmts, no_stmts, more_stmts}
 use Rattle.std.specs.List.{Contains}
+use Rattle.cr_base.specs.declared.layout.Laid.{Laid}
 use Rattle.cr_base.specs.declared.layout.Spot.{Spot}
 use Rattle.cr_world.specs.World.{World}
 use Rattle.cx_core.specs.Linked.{is_main}
 use Rattle.cx_core.specs.Typing.{object_with, IsTyped, IsPutOf, ArePuts}
 use Rattle.cx_mean.specs.Moves.{static_puts_of}
+use Rattle.cx_mean.specs.Settings.{extent_in}
 use Rattle.cx_mean.specs.Operands.{Slot}
 use Rattle.cx_mean.specs.State.{bottom_of}
 use Rattle.build_flow_lives.specs.Standing.{Calling, Standing, stage_of}
 use Rattle.build_flow_moves.specs.Parts.{Stage, objects_in, ReturnDone, ClearDone, put_written, PutDone, StmtDone, GivenBack}
 use Rattle.build_flow_nodes.specs.Parts.{at_end_of, leaves_bits, count_in_test, count_in_option, count_in_condition, count_in_stmt, count_in_stmts}
 use Rattle.lift_calls.specs.Calls.{result_laid}
+use Rattle.lift_calls.specs.Programs.{setting_in}
 use Rattle.lift_does.specs.Agree.{AreKeptFrom}
 use Rattle.lift_exprs.specs.Lifted.{lifted}
 use Rattle.lift_exprs.specs.Names.{type_in}
@@ -68,9 +71,18 @@ module _ (a : Calling) (units steps : ℕ) where
     pub result_is : a.tree.result ≡ Some type
     pub no_place : result_laid a.s a.one ≡ None
 
-  -- of a structure or union it is asked what is written for its return
+  -- a structure or union is given back by a function that gives one of its type
+  pub record RecordGiven (scope : List ℕ) (e : CExpr) (number : ℕ) : Type 0 where
+    pub value : ValueMeans operand scope e number
+    pub of_record : is_record (type_of e) ≡ true
+    pub laid : Laid
+    pub laid_is : extent_in (setting_in a.s) (type_of e) ≡ Some laid
+    pub place_is : result_laid a.s a.one ≡ Some laid
+    pub result_is : a.tree.result ≡ None
+    pub name_is : a.names.result ≡ Some a.of.result
+
   abbrev pub ReturnMeans : List ℕ → CExpr → ℕ → Type 0
-  ReturnMeans scope e number = ScalarGiven scope e number ⊎ ReturnDone stage scope e number
+  ReturnMeans scope e number = ScalarGiven scope e number ⊎ RecordGiven scope e number
 
   -- a scalar is stored in an object in scope that is nothing but that
   pub record ScalarPut (scope : List ℕ) (object : ℕ) (spot : Spot) (type : CTy) (e : CExpr) (number : ℕ) : Type 0 where

@@ -213,6 +213,8 @@ module _ (s : Setting) (one : CFun) (names : FunctionNames) (images later last :
       record {
         local = local;
         is_local = holds.is_local;
+        to = holds.to;
+        ty_is = holds.ty_is;
         holds = ap (λ slot. live_read slot (λ block. block_value block 0 Address)) same ∙ holds.holds;
         no_image = no_image_still later last (is_place inner) c_world c_end world end here.worlds next local.block p holds.no_image;
         place = place_still laid at holds.older holds.place;

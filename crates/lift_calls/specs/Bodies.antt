@@ -19,7 +19,7 @@ use Rattle.mem_bytes.specs.declared.value.Ptr.{Ptr}
 use Rattle.mem_bytes.specs.declared.value.Value.TheVariants.{Object}
 use Rattle.rs_mean.specs.Lookups.{LocalBlock}
 use Rattle.rs_mean.specs.Run.{Frame, Flow, run_stmts, given_by}
-use Rattle.rs_text.specs.Tree.{Ty, Stmts, FunctionTree}
+use Rattle.rs_text.specs.Tree.{Ty, Pointer, Stmts, FunctionTree}
 use Rattle.lift_calls.specs.Calls.{result_laid, ResultPlace, is_place, type_in, GivesBack}
 use Rattle.lift_calls.specs.Frames.{FunctionNames, IsLocal, FramesAgree}
 use Rattle.lift_calls.specs.Programs.{Setting, c_goes, ProgramAgrees, IsTypedScope}
@@ -30,6 +30,8 @@ use Rattle.lift_calls.specs.Programs.{Setting, c_goes, ProgramAgrees, IsTypedSco
 pub record HoldsResult (base : ℕ) (images : Images) (world : World) (frame : Frame) (laid : Laid) (name : List ℕ) (at : Ptr) : Type 0 where
   pub local : LocalBlock
   pub is_local : IsLocal frame name local
+  pub to : Ty
+  pub ty_is : local.ty ≡ Pointer to
   pub holds : value_at (blocks_of world) (record { block = local.block; offset = 0 }) Address ≡ Ok (Object at)
   pub no_image : IsNoImage images local.block
   pub place : ResultPlace images (blocks_of world) laid at

@@ -451,6 +451,8 @@ module _ (s : Setting) (one : CFun) (tree : FunctionTree) (names : FunctionNames
     result_agrees later frame c progress = record {
       local = result_local;
       is_local = subst (λ (x : List ℕ). IsLocal (frame_in s locals) x result_local) param_name_is (is_local s base (all_locals tree) result_local mean.names_differ result_among);
+      to = to;
+      ty_is = param_ty_is;
       holds = holds_value copied_now.after base 8 Address arg.value result_live refl (omega arith) tt of_address ∙ ap Ok value_is;
       no_image = λ number is.
           let owned = owned_there s one tree names copies mean images place c_world world copied_now.after has_here stands.program later frame c progress number result_local result_among is in

@@ -20,9 +20,11 @@ use Rattle.lift_forms.specs.Given as given_form
 use Rattle.lift_forms_laws.proofs.Constants.{addresses}
 use Rattle.lift_forms_laws.proofs.Runs.{cast_gives, literal_gives}
 use Rattle.lift_forms_laws.specs.Gives.{GivesAt, GivesPlace}
+use Rattle.lift_stands.proofs.Kept.{nothing_keeps}
 use Rattle.lift_stands.proofs.Loads.{read_live}
 use Rattle.lift_stands.specs.Stands.{Images, IsVacant}
-use Rattle.lift_stands.specs.Worlds.{HeldStands}
+use Rattle.lift_stands.specs.Keeps.{KeepsOthers}
+use Rattle.lift_stands.specs.Worlds.{HeldStands, WorldsStand}
 use Rattle.lift_stands_lives.proofs.Begun.{worlds_held}
 use Rattle.lift_stands_lives.proofs.Steps.{stores_aside_keep}
 use Rattle.lift_stands_lives.proofs.Stored.{written_aside}
@@ -102,7 +104,7 @@ none_left (suc n) = omega arith
 stands_at_begin : (align : ℕ) (block : Block) → align ≤ block.align → is_record_aligned align block 0 ≡ true
 stands_at_begin align block enough = rw (none_left align, le-leb align block.align enough) refl
 
-record_part : (block : Block) (size align : ℕ) (list : List Cell) → part_of block 0 size ≡ Ok list → align ≤ block.align → record_part_of block 0 size align ≡ Ok list
+pub record_part : (block : Block) (size align : ℕ) (list : List Cell) → part_of block 0 size ≡ Ok list → align ≤ block.align → record_part_of block 0 size align ≡ Ok list
 record_part block size align list part enough =
     ap (λ (r : Result (List Cell) Fault). and_then r (λ cells. if is_record_aligned align block 0 then Ok cells else Err Misaligned)) part
     ∙ ap (λ (test : Bool). if test then Ok list else Err Misaligned) (stands_at_begin align block enough)
@@ -127,6 +129,59 @@ module _ (x : Around) where
       ∙ seq_comes (run_expr x.frame (Literal (pos size) Usize)) _ world world units (typed (Integer Usize) (Whole (pos size))) (third.runs units)
       ∙ seq_comes (copies (typed (Pointer (Integer U8)) (Object from)) (typed (Pointer (Integer U8)) (Object to)) (typed (Integer Usize) (Whole (pos size)))) goes_on world (with_held (with_blocks after world.held) world) units tt
       (copies_come (typed (Pointer (Integer U8)) (Object from)) (typed (Pointer (Integer U8)) (Object to)) (typed (Integer Usize) (Whole (pos size))) world (with_blocks after world.held) units done)
+
+-- ---- a place of which C knows nothing
+
+-- a structure or union is copied to the begin of a block for which nothing that lives in C stands
+pub record CopiesRoom (x : Around) (number size align : ℕ) (source target : Expr) (list : List Cell) (images : Images) (c_world world : World) : Type 0 where
+  pub beyond : Held
+  pub comes : (units : ℕ) → runs x (copied source target size ∷ []) world units ≡ came normal (with_held beyond world) units
+  pub keeps : KeepsOthers (length (blocks_of world)) (λ k. number == k) images images c_world.held c_world.held world.held beyond
+  pub stands : WorldsStand images c_world (with_held beyond world)
+  pub block : Block
+  pub live : live_block beyond.blocks number ≡ Some block
+  pub part : part_of block 0 size ≡ Ok list
+  pub aligned : align ≤ block.align
+
+module _ (x : Around) where
+  pub copies_room : (number size align : ℕ) (block : Block) (source target : Expr) (one other : Ty) (from : Ptr) (list : List Cell) (images : Images) (c_world world : World) → WorldsStand images c_world world → live_block (blocks_of world) number ≡ Some block →
+      size ≤ size_of block → align ≤ block.align → IsVacant images (blocks_of c_world) number → GivesAt x.frame world source (Pointer one) (Object from) →
+      GivesAt x.frame world target (Pointer other) (Object (record { block = number; offset = 0 })) → part_at (blocks_of world) from size ≡ Ok list → CopiesRoom x number size align source target list images c_world world
+  copies_room number zero align block source target one other from list images c_world world worlds live inside enough free gives also found =
+      let to : Ptr = record { block = number; offset = 0 } in
+      let read = read_live (live_block (blocks_of world) from.block) (λ block. part_of block from.offset 0) list found in
+      let none : list ≡ [] = (part_ok read.0 from.offset 0 list read.2).1 in
+      record {
+        beyond = world.held;
+        comes = λ units. run_one x.frame (copied source target 0) world world units
+            (copy_comes x source target one other from to 0 world (blocks_of world) units gives also (bytes_copied world.held from to 0 (blocks_of world) refl));
+        keeps = nothing_keeps (length (blocks_of world)) (λ k. number == k) images c_world.held world.held worlds.held.memories.mapped;
+        stands = worlds;
+        block = block;
+        live = live;
+        part = part_inside block 0 0 (omega arith) ∙ ap Ok (sym none);
+        aligned = enough;
+      }
+  copies_room number (suc n) align block source target one other from list images c_world world worlds live inside enough free gives also found =
+      let to : Ptr = record { block = number; offset = 0 } in
+      let fits = copy_fits (blocks_of world) from number n block list found live inside in
+      let writes = copy_writes (blocks_of world) fits.after from to (suc n) (omega arith) fits.done in
+      let holds : HoldsCells fits.after = held_later (blocks_of world) fits.after worlds.held.memories.others_held (Later.copy from to (suc n) Later.now fits.done) in
+      let stands : HeldStands images c_world.held (with_blocks fits.after world.held) = written_aside images c_world.held world.held to (suc n) fits.after worlds.held free writes holds in
+      record {
+        beyond = with_blocks fits.after world.held;
+        comes = λ units. run_one x.frame (copied source target (suc n)) world (with_held (with_blocks fits.after world.held) world) units
+            (copy_comes x source target one other from to (suc n) world fits.after units gives also (bytes_copied world.held from to (suc n) fits.after fits.done));
+        keeps = stores_aside_keep (length (blocks_of world)) (λ k. number == k) images c_world.held world.held worlds.held.memories.mapped to (suc n) fits.after writes (λ p vacant. same_number number);
+        stands = worlds_held images images c_world world c_world.held (with_blocks fits.after world.held) worlds stands;
+        block = with_part block 0 list;
+        live = fits.live;
+        part = fits.part;
+        aligned = enough;
+      }
+    where
+      same_number : (n : ℕ) → (n == n) ≡ true
+      same_number n = grind (arith, nat_tests)
 
 -- ---- a temporary
 
@@ -161,90 +216,52 @@ module _ (x : Around) where
   pub copies_temporary : (number : ℕ) (ty : Ty) (laid : Laid) (source : Expr) (one_ty : Ty) (from : Ptr) (list : List Cell) (images : Images) (c_world world : World) → At x images c_world world →
       x.kept.temporaries number ≡ Some (record { name = x.names.temporary number; ty = ty }) → laid_of x.s.modules ty ≡ Some laid → GivesAt x.frame world source (Pointer one_ty) (Object from) → part_at (blocks_of world) from laid.size ≡ Ok list →
       CopiesTemporary x number ty laid.size laid.align source list images c_world world
-  copies_temporary number ty laid source one_ty from list images c_world world at kept_is laid_is gives found = by laid.size refl found
+  copies_temporary number ty laid source one_ty from list images c_world world at kept_is laid_is gives found =
+      let one : KeptTemporary = record { name = x.names.temporary number; ty = ty } in
+      let agrees = at.frames.temporaries number one kept_is in
+      let local = agrees.local in
+      let lives = at.frames.lives local agrees.is_local.among in
+      let same = same_laid lives.laid laid (laid_of x.s.modules ty) (ap (laid_of x.s.modules) (sym agrees.ty_is) ∙ lives.laid_is) laid_is in
+      let inside : laid.size ≤ size_of lives.block = let is = lives.size in let also = ap (λ (l : Laid). l.size) same in omega (arith, is, also) in
+      let enough : laid.align ≤ lives.block.align = let is = lives.align in let also = ap (λ (l : Laid). l.align) same in omega (arith, is, also) in
+      let copies =
+      copies_room x local.block laid.size laid.align lives.block source (AddressOf (Local one.name)) one_ty ty from list images c_world world at.worlds lives.live inside enough (λ block living f. agrees.no_image block f) gives
+      (temporary_address one.name local ty world agrees.is_local agrees.ty_is) found in
+      let after : World = with_held copies.beyond world in
+      record {
+        after = after;
+        comes = copies.comes;
+        reached = record {
+          own = λ k. local.block == k;
+          are_own = λ block is. record {
+            number = number;
+            from_is = omega arith;
+            below = omega arith;
+            one = one;
+            kept_is = kept_is;
+            local = local;
+            is_local = agrees.is_local;
+            block_is = number_equal local.block block is;
+          };
+          keeps = copies.keeps;
+          at = at_after x images images (λ k. local.block == k) c_world world c_world after at copies.keeps copies.stands at.typed;
+        };
+        holds = record {
+          one = one;
+          kept_is = kept_is;
+          name_is = refl;
+          local = local;
+          is_local = agrees.is_local;
+          ty_is = agrees.ty_is;
+          block = copies.block;
+          live = copies.live;
+          part = copies.part;
+          aligned = copies.aligned;
+        };
+      }
     where
-      by : (size : ℕ) → size ≡ laid.size → part_at (blocks_of world) from size ≡ Ok list → CopiesTemporary x number ty size laid.align source list images c_world world
-      by zero size_is part =
-          let one : KeptTemporary = record { name = x.names.temporary number; ty = ty } in
-          let agrees = at.frames.temporaries number one kept_is in
-          let lives = at.frames.lives agrees.local agrees.is_local.among in
-          let same = same_laid lives.laid laid (laid_of x.s.modules ty) (ap (laid_of x.s.modules) (sym agrees.ty_is) ∙ lives.laid_is) laid_is in
-          let to : Ptr = record { block = agrees.local.block; offset = 0 } in
-          let read = read_live (live_block (blocks_of world) from.block) (λ block. part_of block from.offset 0) list part in
-          let none : list ≡ [] = (part_ok read.0 from.offset 0 list read.2).1 in
-          let wide = reached_wider x number number number (suc number) images images c_world world c_world world (omega arith) (omega arith) (reached_none x number images c_world world at) in
-          record {
-            after = world;
-            comes = λ units. run_one x.frame (copied source (AddressOf (Local one.name)) 0) world world units
-                (copy_comes x source (AddressOf (Local one.name)) one_ty ty from to 0 world (blocks_of world) units gives (temporary_address one.name agrees.local ty world agrees.is_local agrees.ty_is)
-                (bytes_copied world.held from to 0 (blocks_of world) refl));
-            reached = wide;
-            holds = record {
-              one = one;
-              kept_is = kept_is;
-              name_is = refl;
-              local = agrees.local;
-              is_local = agrees.is_local;
-              ty_is = agrees.ty_is;
-              block = lives.block;
-              live = lives.live;
-              part = part_inside lives.block 0 0 (omega arith) ∙ ap Ok (sym none);
-              aligned = let is = lives.align in let also = ap (λ (l : Laid). l.align) same in omega (arith, is, also);
-            };
-          }
-      by (suc n) size_is part =
-          let one : KeptTemporary = record { name = x.names.temporary number; ty = ty } in
-          let agrees = at.frames.temporaries number one kept_is in
-          let one_local = agrees.local in
-          let lives = at.frames.lives one_local agrees.is_local.among in
-          let same = same_laid lives.laid laid (laid_of x.s.modules ty) (ap (laid_of x.s.modules) (sym agrees.ty_is) ∙ lives.laid_is) laid_is in
-          let to : Ptr = record { block = one_local.block; offset = 0 } in
-          let fits = copy_fits (blocks_of world) from one_local.block n lives.block list part lives.live (let is = lives.size in let also = ap (λ (l : Laid). l.size) same in omega (arith, is, also, size_is)) in
-          let writes = copy_writes (blocks_of world) fits.after from to (suc n) (omega arith) fits.done in
-          let free : IsVacant images (blocks_of c_world) one_local.block = λ block living f. agrees.no_image block f in
-          let after : World = with_held (with_blocks fits.after world.held) world in
-          let holds : HoldsCells fits.after = held_later (blocks_of world) fits.after at.worlds.held.memories.others_held (Later.copy from to (suc n) Later.now fits.done) in
-          let stands : HeldStands images c_world.held (with_blocks fits.after world.held) = written_aside images c_world.held world.held to (suc n) fits.after at.worlds.held free writes holds in
-          let keeps = stores_aside_keep (length (blocks_of world)) (λ k. one_local.block == k) images c_world.held world.held at.worlds.held.memories.mapped to (suc n) fits.after writes (λ p vacant. same_number one_local.block) in
-          record {
-            after = after;
-            comes = λ units. run_one x.frame (copied source (AddressOf (Local one.name)) (suc n)) world after units
-                (copy_comes x source (AddressOf (Local one.name)) one_ty ty from to (suc n) world fits.after units gives (temporary_address one.name one_local ty world agrees.is_local agrees.ty_is)
-                (bytes_copied world.held from to (suc n) fits.after fits.done));
-            reached = record {
-              own = λ k. one_local.block == k;
-              are_own = λ block is. record {
-                number = number;
-                from_is = omega arith;
-                below = omega arith;
-                one = one;
-                kept_is = kept_is;
-                local = one_local;
-                is_local = agrees.is_local;
-                block_is = number_equal one_local.block block is;
-              };
-              keeps = keeps;
-              at = at_after x images images (λ k. one_local.block == k) c_world world c_world after at keeps (worlds_held images images c_world world c_world.held (with_blocks fits.after world.held) at.worlds stands) at.typed;
-            };
-            holds = record {
-              one = one;
-              kept_is = kept_is;
-              name_is = refl;
-              local = one_local;
-              is_local = agrees.is_local;
-              ty_is = agrees.ty_is;
-              block = with_part lives.block 0 list;
-              live = fits.live;
-              part = fits.part;
-              aligned = let is = lives.align in let also = ap (λ (l : Laid). l.align) same in omega (arith, is, also);
-            };
-          }
-        where
-          same_number : (n : ℕ) → (n == n) ≡ true
-          same_number n = grind (arith, nat_tests)
-
-          number_equal : (n m : ℕ) → (n == m) ≡ true → n ≡ m
-          number_equal n m is = grind (arith, nat_tests, is)
+      number_equal : (n m : ℕ) → (n == m) ≡ true → n ≡ m
+      number_equal n m is = grind (arith, nat_tests, is)
 
   -- it is found where temporaries are what they were
   pub keeps_staying : (number below : ℕ) (ty : Ty) (size align : ℕ) (list : List Cell) (world later : World) → number < below → TemporaryKeeps x number ty size align list world →

@@ -39,7 +39,7 @@ part_held blocks at size align list e =
     let read = read_live (live_block blocks at.block) (λ block. record_part_of block at.offset size align) list e in
     ap (λ (slot : Option Block). live_read slot (λ block. part_of block at.offset size)) read.1 ∙ part_found read.0 at.offset size align list read.2
 
-void_record : (type : CTy) → is_record type ≡ true → is_void type ≡ false
+pub void_record : (type : CTy) → is_record type ≡ true → is_void type ≡ false
 void_record (ty (record_type number) is_const) e = refl
 void_record (ty void is_const) e = cc (e)
 void_record (ty (basic which) is_const) e = refl

@@ -129,7 +129,7 @@ assign_comes frame name one kind e from value world after units is kind_is gives
     ∙ seq_comes (run_place frame (Local name)) _ world world units (spot one.ty (Object (record { block = one.block; offset = 0 }))) ((place_of_local frame name one world is).runs units)
     ∙ seq_comes (store (spot one.ty (Object (record { block = one.block; offset = 0 }))) value) goes_on world (with_held (with_blocks after world.held) world) units tt (store_comes one.ty kind (record { block = one.block; offset = 0 }) value world after units kind_is put)
 
-read_comes : (frame : Frame) (name : List ℕ) (one : LocalBlock) (kind : Scalar) (value : Value) (world : World) → IsLocal frame name one → scalar_of one.ty ≡ Some kind → value_at (blocks_of world) (record { block = one.block; offset = 0 }) kind ≡ Ok value →
+pub read_comes : (frame : Frame) (name : List ℕ) (one : LocalBlock) (kind : Scalar) (value : Value) (world : World) → IsLocal frame name one → scalar_of one.ty ≡ Some kind → value_at (blocks_of world) (record { block = one.block; offset = 0 }) kind ≡ Ok value →
     GivesAt frame world (Read (Local name)) one.ty value
 read_comes frame name one kind value world is kind_is found = record { runs = runs_at }
   where
