@@ -113,7 +113,7 @@ bits_there type at of spot (scalar one) bits is = absurd is
 bits_there type at of spot (cells list from) bits is = absurd is
 bits_there type at of spot missing bits is = absurd is
 
-width_test : (width : ℕ) → not (width == 0) ≡ true → nat_lt 0 width ≡ true
+pub width_test : (width : ℕ) → not (width == 0) ≡ true → nat_lt 0 width ≡ true
 width_test width e = grind (arith, nat_tests)
 
 module _ (x : Around) where
