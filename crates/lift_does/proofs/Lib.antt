@@ -4,6 +4,7 @@ pub mod Assignments
 pub mod Binary
 pub mod BinaryTypes
 pub mod BitLoads
+pub mod BitNodes
 pub mod BitPlaces
 pub mod Branches
 pub mod Choices
