@@ -293,13 +293,13 @@ module _ (x : Around) where
   bytes_there images c_world world holder type spot at is some = at.program.bytes ∙ subst (λ (program : CProgram). has_bit_fields program.types ≡ true) x.means.program (bit_fields_there x.home.program.types holder spot type is some)
 
   -- what C finds in a bit-field is read from bytes
-  pub bits_read : (images : Images) (c_world world : World) (one : Ty) (given : Given) (spot : Spot) (at : Ptr) (kind : Scalar) (bits : ℕ) (of_c : Value) → At x images c_world world → images.in_bytes ≡ true → scalar_of one ≡ Some kind →
-      GivesBase images x.frame world given spot at → is_field_place spot.bit spot.width ≡ true → at.offset ≤ most_bytes → field_at (blocks_of c_world) at spot.bit spot.width ≡ Ok bits → field_value kind spot.width bits ≡ Ok of_c → IsValueOf kind of_c →
+  pub bits_read : (images : Images) (c_world world : World) (target one : Ty) (given : Given) (spot : Spot) (at : Ptr) (kind : Scalar) (bits : ℕ) (of_c : Value) → At x images c_world world → images.in_bytes ≡ true → scalar_of one ≡ Some kind →
+      GivesBase images x.frame world target given spot at → is_field_place spot.bit spot.width ≡ true → at.offset ≤ most_bytes → field_at (blocks_of c_world) at spot.bit spot.width ≡ Ok bits → field_value kind spot.width bits ≡ Ok of_c → IsValueOf kind of_c →
       GivesScalar images x.frame world one (field_form (address_of_given given) spot one) of_c
-  bits_read images c_world world one given spot at kind bits of_c here in_bytes kind_is base profile near found means of_kind =
+  bits_read images c_world world target one given spot at kind bits of_c here in_bytes kind_is base profile near found means of_kind =
       let is = profile_is spot images at base.base profile near base.below in
       let read = loads images x.frame world at base.base spot no_marks kind in_bytes base.below is (blocks_of c_world) (record { value = scalar of_c; marks = with_read (bits_of_field at spot.bit spot.width) no_marks }) (address_of_given given)
-      base.target here.worlds.held.memories base.gives (loads_again (blocks_of c_world) at spot.bit spot.width bits kind of_c profile found means) in
+      target here.worlds.held.memories base.gives (loads_again (blocks_of c_world) at spot.bit spot.width bits kind of_c profile found means) in
       let value_is : of_c ≡ Whole read.number = let same = read.is in cc (same) in
       let stands = read_stands images c_world world (address_of_given given) spot one kind read.number here kind_is (subst (IsValueOf kind) value_is of_kind) read.gives in
       subst (λ (v : Value). GivesScalar images x.frame world one (field_form (address_of_given given) spot one) v) (sym value_is)
@@ -358,7 +358,7 @@ module _ (x : Around) where
             let read = (all_back (IsSameAt (blocks_of c1) (blocks_of c_later)) node.0.reads (range ∷ []) (subst (λ (m : Marks). AllOf (IsSameAt (blocks_of c1) (blocks_of c_later)) m.reads) all_marks lasts.1.each)).0 in
             let found_later = read.fields there.0 spot.bit spot.width (field_profile spot.bit spot.width what.profile) refl ∙ what.found in
             let base = subst (λ (v : CValue). GivesOperand x.s x.names last x.c_frame x.frame later from written.given v) there.1 gave in
-            let scalar_gave = bits_read last c_later later (type_in x.names type) written.given spot there.0 kind.0 what.bits what.of_c there_at
+            let scalar_gave = bits_read last c_later later (type_in x.names (type_of of)) (type_in x.names type) written.given spot there.0 kind.0 what.bits what.of_c there_at
             (bytes_there last c_later later (type_of of) own spot there_at typed.1.0.2.1 (some_width spot.width bits)) (x.means.scalars type kind.0 kind_is) base what.profile field_place.near found_later what.means of_kind in
             subst (λ (v : CValue). GivesOperand x.s x.names last x.c_frame x.frame later e given v) (sym (ap (λ (d : CDone). d.value) (sym same) ∙ what.value_is))
             (subst (λ (g : Given). GivesScalar last x.frame later (type_in x.names type) g what.of_c) (sym (load_bits_is type own here_at of spot written.given bits)) scalar_gave));

@@ -6,6 +6,7 @@ pub mod BinaryTypes
 pub mod BitLoads
 pub mod BitNodes
 pub mod BitPlaces
+pub mod BitStores
 pub mod Branches
 pub mod Choices
 pub mod Commas
@@ -21,6 +22,7 @@ pub mod Leaves
 pub mod Loads
 pub mod Lvalues
 pub mod Members
+pub mod Narrowed
 pub mod Nodes
 pub mod Numbers
 pub mod Operands
