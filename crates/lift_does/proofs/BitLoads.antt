@@ -195,7 +195,7 @@ wide_range U64 n is = is
 wide_range Isize n is = is
 wide_range Usize n is = is
 
-whole_range : (which : IntegerTy) (n : ℤ) → IsValueOf (integer_scalar which) (Whole n) → IsInRange (integer_scalar which) n
+pub whole_range : (which : IntegerTy) (n : ℤ) → IsValueOf (integer_scalar which) (Whole n) → IsInRange (integer_scalar which) n
 whole_range I8 n is = is
 whole_range I16 n is = is
 whole_range I32 n is = is
@@ -241,7 +241,7 @@ truth_back (pos (suc zero)) memory is = refl
 truth_back (pos (suc (suc k))) memory is = let high = is.1 in absurd (omega (arith, ints, high))
 truth_back (negsuc k) memory is = let low = is.0 in absurd (omega (arith, ints, low))
 
-kind_same : (found : Option Scalar) (one other : Scalar) → found ≡ Some one → found ≡ Some other → one ≡ other
+pub kind_same : (found : Option Scalar) (one other : Scalar) → found ≡ Some one → found ≡ Some other → one ≡ other
 kind_same found one other e f = let same : Some one ≡ Some other = sym e ∙ f in cc (same)
 
 module _ (x : Around) where
@@ -281,7 +281,7 @@ module _ (x : Around) where
   field_no_pointer (Array element size) kind width bits of_c e means = refl
   field_no_pointer (Record m y) kind width bits of_c e means = refl
 
-  profile_is : (spot : Spot) (images : Images) (at base : Ptr) → is_field_place spot.bit spot.width ≡ true → at.offset ≤ most_bytes → PlaceBelow images at (behind base spot.byte) → IsBitField spot
+  pub profile_is : (spot : Spot) (images : Images) (at base : Ptr) → is_field_place spot.bit spot.width ≡ true → at.offset ≤ most_bytes → PlaceBelow images at (behind base spot.byte) → IsBitField spot
   profile_is spot images at base profile near below =
       let outer = and_parts (nat_lt spot.bit 8 && nat_le 1 spot.width) (nat_le spot.width 32) profile in
       let inner = and_parts (nat_lt spot.bit 8) (nat_le 1 spot.width) outer.0 in
@@ -307,7 +307,7 @@ module _ (x : Around) where
 
   -- ---- the load
 
-  unqualified_kind : (type : CTy) → c_scalar_of x.home.program.types (form_of_type (unqualified type)) ≡ c_scalar_of x.home.program.types (form_of_type type)
+  pub unqualified_kind : (type : CTy) → c_scalar_of x.home.program.types (form_of_type (unqualified type)) ≡ c_scalar_of x.home.program.types (form_of_type type)
   unqualified_kind (ty form is_const) = refl
 
   pub setting_kind : (type : CTy) (kind : Scalar) → scalar_in_type (setting_in x.s) type ≡ Some kind → c_scalar_of x.home.program.types (form_of_type type) ≡ Some kind

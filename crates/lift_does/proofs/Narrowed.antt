@@ -73,11 +73,11 @@ module _ (frame : Frame) (world : World) (spot : Spot) (is : IsBitField spot) (w
       subst (λ (n : ℕ). GivesAt frame world (low_bits spot e) (Integer U64) (Whole (pos n))) (low_of_word spot.width number (let a = is.most in omega (arith, a)))
       (remaining frame world (Cast e (Integer U64)) (word (2 ^ spot.width)) (residue number (2 ^ 64)) (2 ^ spot.width) as_word (word_gives frame world (2 ^ spot.width)) (pow_pos spot.width) (residue_below number (2 ^ 64) (omega arith)))
 
-  unsigned_gives : IsInRange (integer_scalar which) (pos r) → GivesAt frame world (Cast (low_bits spot e) (Integer which)) (Integer which) (Whole (pos r))
+  pub unsigned_gives : IsInRange (integer_scalar which) (pos r) → GivesAt frame world (Cast (low_bits spot e) (Integer which)) (Integer which) (Whole (pos r))
   unsigned_gives range =
       cast_gives frame world (low_bits spot e) (Integer U64) (Integer which) (Whole (pos r)) (Whole (pos r)) low_gives (ap (λ (n : ℤ). Ok (typed (Integer which) (Whole n))) (converted_same which (pos r) range))
 
-  signed_gives : IsInRange (integer_scalar which) (from_half (half spot) r) → GivesAt frame world (Cast (signed_low_bits spot e) (Integer which)) (Integer which) (Whole (from_half (half spot) r))
+  pub signed_gives : IsInRange (integer_scalar which) (from_half (half spot) r) → GivesAt frame world (Cast (signed_low_bits spot e) (Integer which)) (Integer which) (Whole (from_half (half spot) r))
   signed_gives range =
       let h = half spot in
       let some : 0 < half spot = pow_pos (spot.width - 1) in
