@@ -51,6 +51,7 @@ program_stays s images later more agrees = record {
         home_is = found.home_is;
         image = more.blocks at.block found.home.block found.image;
       };
+  bytes = more.in_bytes ∙ agrees.bytes;
 }
 
 -- ---- what isn't the piece's own

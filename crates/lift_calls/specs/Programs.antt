@@ -2,6 +2,7 @@
 -- Reference, "Functions" and "Static items").
 use Rattle.std.specs.Prelude.{◌≡◌, ℕ, List, Option, Some, None}
 use Rattle.cr_world.specs.World.{World, blocks_of}
+use Rattle.cx_core.specs.BitFields.{has_bit_fields}
 use Rattle.cx_core.specs.Trees.{CFun, CProgram}
 use Rattle.cx_core.specs.Typing.{function_with as c_function_with}
 use Rattle.cx_mean.specs.Leftmost.{CCalls, CGoes}
@@ -78,6 +79,8 @@ pub record ProgramAgrees (s : Setting) (images : Images) : Type 0 where
   -- no other function has an image
   pub others : (number : ℕ) → c_function_with number s.program.functions ≡ None → images.functions number ≡ None
   pub statics : (number : ℕ) (at : Ptr) → slot_of s.statics number ≡ Some at → StaticAgrees s images number at
+  -- where it has a bit-field member the crate holds bytes, whose bits are all set
+  pub bytes : images.in_bytes ≡ has_bit_fields s.program.types
 
 -- ---- C alone
 

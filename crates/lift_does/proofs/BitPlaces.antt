@@ -110,7 +110,7 @@ bits_there type at of spot (scalar one) bits is = absurd is
 bits_there type at of spot (cells list from) bits is = absurd is
 bits_there type at of spot missing bits is = absurd is
 
-width_test : (width : ℕ) → not (width == 0) ≡ true → nat_lt 0 width ≡ true
+pub width_test : (width : ℕ) → not (width == 0) ≡ true → nat_lt 0 width ≡ true
 width_test width e = grind (arith, nat_tests)
 
 module _ (x : Around) where
@@ -143,9 +143,8 @@ module _ (x : Around) where
             let pointer_is = pointer_below last found.at place_is.spot.at place_is.below in
             let address = subst (GivesAt x.frame later (address_of p.0) (Pointer (type_in x.names (type_of of)))) pointer_is.is (addresses x.frame later (type_in x.names (type_of of)) p.0 place_is.spot place_is.gives place_is.ty_is) in
             subst (λ (v : CValue). GivesOperand x.s x.names last x.c_frame x.frame later e (member_given x.names type of spot written.given) v) (sym (step.value_is ∙ found.is))
-            (subst (λ (g : Given). GivesBase last x.frame later g spot (behind found.at spot.byte)) (sym (bits_given_is type of spot written.given bits (lvalue_is x.home of typed.2.0)))
-            (subst (λ (g : Given). GivesBase last x.frame later (given_form.value (address_of_given g)) spot (behind found.at spot.byte)) (sym p.1) (record {
-              target = type_in x.names (type_of of);
+            (subst (λ (g : Given). GivesBase last x.frame later (type_in x.names (type_of of)) g spot (behind found.at spot.byte)) (sym (bits_given_is type of spot written.given bits (lvalue_is x.home of typed.2.0)))
+            (subst (λ (g : Given). GivesBase last x.frame later (type_in x.names (type_of of)) (given_form.value (address_of_given g)) spot (behind found.at spot.byte)) (sym p.1) (record {
               base = pointer_is.to;
               gives = address;
               below = record { block = pointer_is.below.block; offset = ap (λ (n : ℕ). n + spot.byte) pointer_is.below.offset };
@@ -171,7 +170,7 @@ module _ (x : Around) where
       (did.gives did.later c1 w1 (later_itself x did.later written.next fixed operand.marks.reads c1 w1 reached.at)) in
       let there = bits_there type at of spot operand.value bits (place_given x.home e operand.value typed good.1.0.operand_is.given) in
       let base_is = subst (λ (v : CValue). GivesOperand x.s x.names did.later x.c_frame x.frame w1 e written.given v) there.1 gave in
-      let stored = stores_temporary x written.next (Pointer target) scalars.Object (address_of_given written.given) (Pointer base_is.target) (Object base_is.base) did.later c1 w1 reached.at kept_is refl tt base_is.gives in
+      let stored = stores_temporary x written.next (Pointer target) scalars.Object (address_of_given written.given) (Pointer target) (Object base_is.base) did.later c1 w1 reached.at kept_is refl tt base_is.gives in
       let both = reached_then x from written.next (suc written.next) images did.later did.later c0 w0 c1 w1 c1 stored.after rises (omega arith) here reached stored.reached in
       end_owes x Good operand (Assign (temporary_place x.names written.next) (address_of_given written.given) ∷ []) c1 w1 stored.after stored.comes (record {
         flow_is = refl;
@@ -182,7 +181,6 @@ module _ (x : Around) where
         worlds = both.at.worlds;
         gives = λ last c_later after later. where_used used x last after e (given_form.value (Read (temporary_place x.names written.next))) operand.value (λ _.
             subst (λ (v : CValue). GivesOperand x.s x.names last x.c_frame x.frame after e (given_form.value (Read (temporary_place x.names written.next))) v) (sym there.1) (record {
-              target = target;
               base = base_is.base;
               gives = reads_staying x written.next (suc written.next) (Pointer target) scalars.Object (Object base_is.base) stored.after after (omega arith) stored.holds later.temporaries;
               below = place_stays did.later last there.0 (behind base_is.base spot.byte) later.extends base_is.below;

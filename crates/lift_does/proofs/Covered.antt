@@ -1,5 +1,6 @@
--- The expressions without calls, compound literals, bit-fields and members of values: what is written for them does what they do.
-use Rattle.std.proofs.Common.{◌≡◌, ◌⊎◌, inl, inr, ℕ, ◌+◌, Bool, true, false, not, if◌then◌else◌, ◌&&◌, ◌||◌, ◌==◌, List, [], ◌∷◌, ◌++◌, length, Some, refl, sym, ap, subst, ◌∙◌}
+use Rattle.std.proofs.Common.{◌≡◌, ◌⊎◌, inl, inr, ℕ, ◌+◌, Bool, true, false, not, if◌then◌else◌, ◌&&◌, ◌||◌, ◌==◌, List, [], ◌∷◌, ◌++◌, length, Some, refl, sym, ap, subst, ◌∙◌, suc, ◌≤◌, arith, length-append}
+-- The expressions without calls, compound literals, stores in bit-fields and members of values: what is written for them does what they do.
+use Rattle.cr_base.specs.declared.layout.Spot.{Spot}
 use Rattle.cr_base.specs.declared.refusal.Place.{Place}
 use Rattle.cr_world.specs.World.{World}
 use Rattle.cx_core.specs.Trees.{CTy, ty, CTyForm, CExpr, expr, CForm, whole, null, object, code, load, deref, member, address, convert, unary, binary, and, or, cond, assign, assign_by, step, call, call_by, comma, literal, type_of}
@@ -10,10 +11,13 @@ use Rattle.lift_does.proofs.CompoundAssignments.{assign_by_owes}
 use Rattle.lift_does.proofs.StepsByOne.{by_one_owes}
 use Rattle.lift_calls.specs.Frames.{FunctionNames}
 use Rattle.lift_does.proofs.Around.{Around, At}
-use Rattle.lift_does.proofs.Asking.{held_test, place_kind_is, value_node, place_node}
+use Rattle.lift_does.proofs.Asking.{held_test, value_node, place_node}
 use Rattle.lift_does.proofs.Assignments.{target_plain, assign_owes}
 use Rattle.lift_does.proofs.Binary.{binary_owes}
 use Rattle.lift_does.proofs.BinaryTypes.{binary_there}
+use Rattle.lift_does.proofs.BitLoads.{load_bits_owes}
+use Rattle.lift_does.proofs.BitNodes.{bits_kind_is, bits_node}
+use Rattle.lift_does.proofs.BitPlaces.{member_bits_owes}
 use Rattle.lift_does.proofs.Choices.{choice_owes, part_is_taken}
 use Rattle.lift_does.proofs.Commas.{comma_owes}
 use Rattle.lift_does.proofs.Conversions.{convert_owes}
@@ -22,15 +26,17 @@ use Rattle.lift_does.proofs.Held.{kept_front, kept_back}
 use Rattle.lift_does.proofs.Leaves.{whole_owes, null_owes, code_owes, object_owes}
 use Rattle.lift_does.proofs.Loads.{load_owes}
 use Rattle.lift_does.proofs.Numbers.{IsNumbered, turn_numbered, three_numbered, rises, pair_for, operands_of, parts_of, change_for, numbered, form_numbered}
-use Rattle.lift_does.proofs.Members.{lvalue_is, member_owes, given_is}
+use Rattle.lift_does.proofs.Lvalues.{no_width, form_place, lvalue_kind_is}
+use Rattle.lift_does.proofs.Members.{lvalue_is, member_owes}
+use Rattle.lift_does.proofs.Operands.{or_false}
 use Rattle.lift_does.proofs.Places.{deref_owes, address_owes}
 use Rattle.lift_does.proofs.RecordAssignments.{target_record, assign_record_owes}
 use Rattle.lift_does.proofs.RecordTypes.{assign_by_no_record, step_no_record}
-use Rattle.lift_does.proofs.Unary.{ExprOwes, FormOwes, unary_owes}
+use Rattle.lift_does.proofs.Unary.{form_fixed, ExprOwes, FormOwes, unary_owes}
 use Rattle.lift_does.proofs.Used.{scalar_has, unary_has, convert_has, left_has, right_has, lvalue_has, assigned_has, address_kind}
 use Rattle.lift_does.specs.Agree.{AreKeptFrom}
 use Rattle.lift_does.specs.Covered.{IsCovered, IsCoveredForm, CoveredDoes}
-use Rattle.lift_does.specs.Does.{IsAsked}
+use Rattle.lift_does.specs.Does.{IsAsked, is_fixed}
 use Rattle.lift_exprs.specs.Lifted.{lifted, lifted_form, operand_of, Deciding, where_true, where_false, decided_written, Choice, chosen_written}
 use Rattle.lift_exprs.specs.Names.{Names, type_in}
 use Rattle.lift_exprs.specs.Objects.{object_at}
@@ -38,8 +44,8 @@ use Rattle.lift_exprs.specs.Stores.{Target, a_scalar, a_structure, is_field, tar
 use Rattle.lift_exprs.specs.Written.{Written, Both, both, in_turn, place_of_given, NodeKind, a_value, a_record, a_place, lvalue_kind, value_kind, kind_in, held_type, held_where}
 use Rattle.lift_forms.specs.Given.{Given}
 use Rattle.lift_forms.specs.Given as given_form
-use Rattle.lift_forms.specs.Operators.{Operand}
-use Rattle.lift_held.specs.Held.{is_void, is_record, is_lvalue, acts, is_lvalue_form, operand, operand_before, part_of, whole_of, holds_call}
+use Rattle.lift_forms.specs.Operators.{Operand, given_value}
+use Rattle.lift_held.specs.Held.{is_void, is_record, is_lvalue, acts, is_lvalue_form, operand, operand_before, part_of, whole_of, holds_call, is_steady}
 use Rattle.lift_held.specs.declared.asked.Asked.{Asked}
 use Rattle.lift_stands.specs.Stands.{Images}
 use Rattle.rs_mean_frames.proofs.Framed.{all_behave}
@@ -158,52 +164,15 @@ module _ (x : Around) where
   value_type_is : (type : CTy) (form : CForm) → is_lvalue_form form ≡ false → held_type (kind_in x.names type form) ≡ type_in x.names type
   value_type_is type form no_lvalue = ap (λ (lvalue : Bool). held_type (if lvalue then lvalue_kind x.names type form else value_kind x.names type)) no_lvalue ∙ kind_type (is_record type) (type_in x.names type) (x.names.size_of type)
 
-  lvalue_kind_is : (type : CTy) (at : Place) (form : CForm) → is_lvalue_form form ≡ true → is_bit_field (expr type at form) ≡ false → kind_in x.names type form ≡ a_place (type_in x.names type)
-  lvalue_kind_is type at form is plainly = rw (is) (place_kind_is x.names type at form plainly)
-
-  -- an lvalue that is covered is given as a place, and is no bit-field
-  pub record IsPlaceWritten (asked : Asked) (type : CTy) (at : Place) (form : CForm) (from : ℕ) : Type 0 where
-    pub p : RustPlace
-    pub given : (lifted_form x.names asked type form from).given ≡ given_form.place p
-    pub plainly : is_bit_field (expr type at form) ≡ false
-
-  place_written : (asked : Asked) (type : CTy) (at : Place) (form : CForm) (from : ℕ) → IsLvalue x.home (expr type at form) → IsCoveredForm form → IsPlaceWritten asked type at form from
-  place_written asked type at (object number) from typed is = record { p = object_at x.names type number; given = refl; plainly = refl }
-  place_written asked type at (deref of) from typed is = record { p = _; given = refl; plainly = refl }
-  place_written asked type at (member of spot) from typed is = record {
-    p = _;
-    given = given_is x type of spot (lifted x.names (whole_of spot) of from).given is.0 is.1;
-    plainly = ap (λ (n : ℕ). not (n == 0)) is.0;
-  }
-  place_written asked type at (whole value) from typed is = absurd typed.2
-  place_written asked type at null from typed is = absurd typed.2
-  place_written asked type at (code number) from typed is = absurd typed.2
-  place_written asked type at (load of) from typed is = absurd typed.2
-  place_written asked type at (address of) from typed is = absurd typed.2
-  place_written asked type at (convert of) from typed is = absurd typed.2
-  place_written asked type at (unary op of) from typed is = absurd typed.2
-  place_written asked type at (binary op left right) from typed is = absurd typed.2
-  place_written asked type at (assign target value) from typed is = absurd typed.2
-  place_written asked type at (assign_by op computes target value) from typed is = absurd typed.2
-  place_written asked type at (step up post on) from typed is = absurd typed.2
-  place_written asked type at (comma first second) from typed is = absurd typed.2
-  place_written asked type at (and left right) from typed is = absurd typed.2
-  place_written asked type at (or left right) from typed is = absurd typed.2
-  place_written asked type at (cond test first second) from typed is = absurd typed.2
-  place_written asked type at (call callee args) from typed is = absurd is
-  place_written asked type at (call_by callee args) from typed is = absurd is
-  place_written asked type at (literal number puts) from typed is = absurd is
-
   abbrev OwesAnywhere : (asked : Asked) (e : CExpr) (from : ℕ) → Type 0
   OwesAnywhere asked e from = (images : Images) (c_world world : World) → At x images c_world world → ExprOwes x asked e from images c_world world
 
   abbrev FormAnywhere : (asked : Asked) (type : CTy) (at : Place) (form : CForm) (from : ℕ) → Type 0
   FormAnywhere asked type at form from = (images : Images) (c_world world : World) → At x images c_world world → FormOwes x asked type at form from images c_world world
 
-  node_owes : (asked : Asked) (type : CTy) (at : Place) (form : CForm) (from : ℕ) → IsAsked asked (expr type at form) → AreKeptFrom x.names x.kept from (lifted x.names asked (expr type at form) from).temporaries →
-      IsTyped x.home (expr type at form) ⊎ IsLvalue x.home (expr type at form) → IsCovered (expr type at form) →
-      (AreKeptFrom x.names x.kept from (lifted_form x.names asked type form from).temporaries → FormAnywhere asked type at form from) → OwesAnywhere asked (expr type at form) from
-  node_owes asked type at form from asked_is are (inl typed) is all =
+  value_owes : (asked : Asked) (type : CTy) (at : Place) (form : CForm) (from : ℕ) → IsAsked asked (expr type at form) → AreKeptFrom x.names x.kept from (lifted x.names asked (expr type at form) from).temporaries →
+      IsTyped x.home (expr type at form) → (AreKeptFrom x.names x.kept from (lifted_form x.names asked type form from).temporaries → FormAnywhere asked type at form from) → OwesAnywhere asked (expr type at form) from
+  value_owes asked type at form from asked_is are typed all =
       let one = lifted_form x.names asked type form from in
       let count = form_numbered x.names asked type form from in
       let own = where_kept (held_test asked type form) x.names x.kept (kind_in x.names type form) one from count are in
@@ -211,14 +180,62 @@ module _ (x : Around) where
       λ images c_world world here.
       value_node x asked type at form from images c_world world here typed no_lvalue asked_is (rises one from count)
       (λ e. subst (kept_as x.names x.kept one.next) (value_type_is type form no_lvalue) (own.1 e)) (all own.0 images c_world world here)
-  node_owes asked type at form from asked_is are (inr typed) is all =
+
+  place_owes : (asked : Asked) (type : CTy) (at : Place) (form : CForm) (from : ℕ) → IsAsked asked (expr type at form) → AreKeptFrom x.names x.kept from (lifted x.names asked (expr type at form) from).temporaries →
+      IsLvalue x.home (expr type at form) → is_bit_field (expr type at form) ≡ false → (AreKeptFrom x.names x.kept from (lifted_form x.names asked type form from).temporaries → FormAnywhere asked type at form from) → OwesAnywhere asked (expr type at form) from
+  place_owes asked type at form from asked_is are typed plainly all =
       let one = lifted_form x.names asked type form from in
       let count = form_numbered x.names asked type form from in
       let own = where_kept (held_test asked type form) x.names x.kept (kind_in x.names type form) one from count are in
-      let written = place_written asked type at form from typed is in
+      let p = form_place x asked type at form from typed plainly in
       λ images c_world world here.
-      place_node x asked type at form written.p from images c_world world here typed written.plainly written.given asked_is (rises one from count)
-      (λ e. subst (λ (kind : NodeKind). kept_as x.names x.kept one.next (held_type kind)) (lvalue_kind_is type at form (lvalue_is x.home (expr type at form) typed) written.plainly) (own.1 e)) (all own.0 images c_world world here)
+      place_node x asked type at form p.0 from images c_world world here typed plainly p.1 asked_is (rises one from count)
+      (λ e. subst (λ (kind : NodeKind). kept_as x.names x.kept one.next (held_type kind)) (lvalue_kind_is x type at form (lvalue_is x.home (expr type at form) typed) plainly) (own.1 e)) (all own.0 images c_world world here)
+
+  bits_owes : (asked : Asked) (type : CTy) (at : Place) (of : CExpr) (spot : Spot) (from : ℕ) → IsAsked asked (expr type at (member of spot)) → AreKeptFrom x.names x.kept from (lifted x.names asked (expr type at (member of spot)) from).temporaries →
+      IsLvalue x.home (expr type at (member of spot)) → not (spot.width == 0) ≡ true → (AreKeptFrom x.names x.kept from (lifted_form x.names asked type (member of spot) from).temporaries → FormAnywhere asked type at (member of spot) from) →
+      OwesAnywhere asked (expr type at (member of spot)) from
+  bits_owes asked type at of spot from asked_is are typed bits all =
+      let form = member of spot in
+      let one = lifted_form x.names asked type form from in
+      let count = form_numbered x.names asked type form from in
+      let own = where_kept (held_test asked type form) x.names x.kept (kind_in x.names type form) one from count are in
+      λ images c_world world here.
+      bits_node x asked type at of spot from images c_world world here typed bits asked_is (rises one from count)
+      (λ e. subst (λ (kind : NodeKind). kept_as x.names x.kept one.next (held_type kind)) (bits_kind_is x.names type at of spot (lvalue_is x.home (expr type at form) typed) bits) (own.1 e)) (all own.0 images c_world world here)
+
+  lvalue_owes : (asked : Asked) (type : CTy) (at : Place) (form : CForm) (from : ℕ) → IsAsked asked (expr type at form) → AreKeptFrom x.names x.kept from (lifted x.names asked (expr type at form) from).temporaries →
+      IsLvalue x.home (expr type at form) → (AreKeptFrom x.names x.kept from (lifted_form x.names asked type form from).temporaries → FormAnywhere asked type at form from) → OwesAnywhere asked (expr type at form) from
+  lvalue_owes asked type at (member of spot) from asked_is are typed all = by (not (spot.width == 0)) refl
+    where
+      by : (bits : Bool) → not (spot.width == 0) ≡ bits → OwesAnywhere asked (expr type at (member of spot)) from
+      by false plainly images c w here = place_owes asked type at (member of spot) from asked_is are typed plainly all images c w here
+      by true bits images c w here = bits_owes asked type at of spot from asked_is are typed bits all images c w here
+  lvalue_owes asked type at form from asked_is are typed all = place_owes asked type at form from asked_is are typed refl all
+
+  node_owes : (asked : Asked) (type : CTy) (at : Place) (form : CForm) (from : ℕ) → IsAsked asked (expr type at form) → AreKeptFrom x.names x.kept from (lifted x.names asked (expr type at form) from).temporaries →
+      IsTyped x.home (expr type at form) ⊎ IsLvalue x.home (expr type at form) → (AreKeptFrom x.names x.kept from (lifted_form x.names asked type form from).temporaries → FormAnywhere asked type at form from) → OwesAnywhere asked (expr type at form) from
+  node_owes asked type at form from asked_is are (inl typed) all = value_owes asked type at form from asked_is are typed all
+  node_owes asked type at form from asked_is are (inr typed) all = lvalue_owes asked type at form from asked_is are typed all
+
+  -- ---- bit-fields, and other lvalues
+
+  member_any : (asked : Asked) (type : CTy) (at : Place) (of : CExpr) (spot : Spot) (from : ℕ) (images : Images) (c w : World) → At x images c w → IsLvalue x.home (expr type at (member of spot)) → from ≤ (lifted x.names (whole_of spot) of from).next →
+      ExprOwes x (whole_of spot) of from images c w → FormOwes x asked type at (member of spot) from images c w
+  member_any asked type at of spot from images c w here typed up owes = by (not (spot.width == 0)) refl
+    where
+      by : (bits : Bool) → not (spot.width == 0) ≡ bits → FormOwes x asked type at (member of spot) from images c w
+      by false plainly = member_owes x asked type at of spot from images c w here typed (no_width spot.width plainly) up owes
+      by true bits = member_bits_owes x asked (form_fixed type (member of spot)) (is_fixed (whole_of spot) of) type at of spot from images c w here typed bits (or_false (is_steady of)) up owes
+
+  load_any : (asked : Asked) (form : CTyForm) (is_const : Bool) (at : Place) (of : CExpr) (from : ℕ) (images : Images) (c w : World) → At x images c w → IsTyped x.home (expr (ty form is_const) at (load of)) → from ≤ (lifted x.names operand of from).next →
+      ExprOwes x operand of from images c w → FormOwes x asked (ty form is_const) at (load of) from images c w
+  load_any asked form is_const at (expr own here_at (member of spot)) from images c w here typed up owes = by (not (spot.width == 0)) refl
+    where
+      by : (bits : Bool) → not (spot.width == 0) ≡ bits → FormOwes x asked (ty form is_const) at (load (expr own here_at (member of spot))) from images c w
+      by false plainly = load_owes x asked form is_const at (expr own here_at (member of spot)) from images c w here typed plainly up owes
+      by true bits = load_bits_owes x asked form is_const at own here_at of spot from images c w here typed bits up owes
+  load_any asked form is_const at (expr own here_at other) from images c w here typed up owes = load_owes x asked form is_const at (expr own here_at other) from images c w here typed refl up owes
 
   -- an assignment, by what its type is
   assign_any : (asked : Asked) (form : CTyForm) (is_const : Bool) (at : Place) (target value : CExpr) (from : ℕ) (images : Images) (c w : World) → At x images c w → IsTyped x.home (expr (ty form is_const) at (assign target value)) → is_bit_field target ≡ false →
@@ -259,7 +276,7 @@ module _ (x : Around) where
   mutual
     expr_does : (asked : Asked) (e : CExpr) (from : ℕ) → IsAsked asked e → AreKeptFrom x.names x.kept from (lifted x.names asked e from).temporaries → IsTyped x.home e ⊎ IsLvalue x.home e → IsCovered e → OwesAnywhere asked e from
     expr_does asked (expr type at form) from asked_is are typed is =
-        node_owes asked type at form from asked_is are typed is (λ own. form_does asked type at form from asked_is own typed is)
+        node_owes asked type at form from asked_is are typed (λ own. form_does asked type at form from asked_is own typed is)
 
     form_does : (asked : Asked) (type : CTy) (at : Place) (form : CForm) (from : ℕ) → IsAsked asked (expr type at form) → AreKeptFrom x.names x.kept from (lifted_form x.names asked type form from).temporaries →
         IsTyped x.home (expr type at form) ⊎ IsLvalue x.home (expr type at form) → IsCoveredForm form → FormAnywhere asked type at form from
@@ -268,14 +285,14 @@ module _ (x : Around) where
     form_does asked type at (code number) from asked_is are (inl typed) is = λ images c w here. code_owes x asked type at number from images c w here typed
     form_does asked type at (object number) from asked_is are (inr typed) is = λ images c w here. object_owes x asked type at number from images c w here typed
     form_does asked (ty form is_const) at (load of) from asked_is are (inl typed) is = λ images c w here.
-        load_owes x asked form is_const at of from images c w here typed is.0 (rises (lifted x.names operand of from) from (numbered x.names operand of from))
-        (expr_does operand of from (used_part operand of refl (lvalue_has x of typed.1.0)) are (inr typed.1.0) is.1 images c w here)
+        load_any asked form is_const at of from images c w here typed (rises (lifted x.names operand of from) from (numbered x.names operand of from))
+        (expr_does operand of from (used_part operand of refl (lvalue_has x of typed.1.0)) are (inr typed.1.0) is images c w here)
     form_does asked type at (deref of) from asked_is are (inr typed) is = λ images c w here.
         deref_owes x asked type at of from images c w here typed (rises (lifted x.names operand of from) from (numbered x.names operand of from))
         (expr_does operand of from (used_part operand of refl (ap is_void typed.2.1.pointer_is)) are (inl typed.2.0) is images c w here)
     form_does asked type at (member of spot) from asked_is are (inr typed) is = λ images c w here.
-        member_owes x asked type at of spot from images c w here typed is.0 (rises (lifted x.names (whole_of spot) of from) from (numbered x.names (whole_of spot) of from))
-        (expr_does (whole_of spot) of from (used_base (whole_of spot) of refl (lvalue_has x of typed.2.0)) are (inr typed.2.0) is.2 images c w here)
+        member_any asked type at of spot from images c w here typed (rises (lifted x.names (whole_of spot) of from) from (numbered x.names (whole_of spot) of from))
+        (expr_does (whole_of spot) of from (used_base (whole_of spot) of refl (lvalue_has x of typed.2.0)) are (inr typed.2.0) is.1 images c w here)
     form_does asked type at (address of) from asked_is are (inl typed) is = λ images c w here.
         address_owes x asked type at of from images c w here typed (address_kind x type of typed.1.0 typed.1.1) (rises (lifted x.names operand of from) from (numbered x.names operand of from))
         (expr_does operand of from (used_part operand of refl (lvalue_has x of typed.1.0)) are (inr typed.1.0) is images c w here)
@@ -345,7 +362,7 @@ module _ (x : Around) where
     form_does asked type at (comma first second) from asked_is are (inr typed) is = absurd typed.2
     form_does asked type at (object number) from asked_is are (inl typed) is = absurd typed.1
     form_does asked type at (deref of) from asked_is are (inl typed) is = absurd typed.1
-    form_does asked type at (member of spot) from asked_is are (inl typed) is = absurd (clashing (is_lvalue of) is.1 (typed_no_lvalue x.home of typed.1.0))
+    form_does asked type at (member of spot) from asked_is are (inl typed) is = absurd (clashing (is_lvalue of) is.0 (typed_no_lvalue x.home of typed.1.0))
     form_does asked type at (and left right) from asked_is are (inl typed) is = λ images c w here.
         let two = operands_of x.names left right from in
         let first_count = numbered x.names operand left from in

@@ -3,7 +3,11 @@ pub mod Asking
 pub mod Assignments
 pub mod Binary
 pub mod BinaryTypes
+pub mod BitEnds
+pub mod BitLoads
+pub mod BitNodes
 pub mod BitPlaces
+pub mod BitStores
 pub mod Branches
 pub mod Choices
 pub mod Commas
@@ -19,6 +23,7 @@ pub mod Leaves
 pub mod Loads
 pub mod Lvalues
 pub mod Members
+pub mod Narrowed
 pub mod Nodes
 pub mod Numbers
 pub mod Operands

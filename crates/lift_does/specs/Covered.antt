@@ -1,4 +1,4 @@
--- The part of the law that is proved: the expressions without calls, compound literals, bit-fields, and members of values.
+-- The part of the law that is proved: the expressions without calls, compound literals, stores in bit-fields, and members of values.
 use Rattle.std.specs.Prelude.{◌≡◌, ◌⊎◌, ℕ, true, false}
 use Rattle.cx_core.specs.Trees.{CExpr, expr, CForm, whole, null, object, code, load, deref, member, address, convert, unary, binary, and, or, cond, assign, assign_by, step, comma}
 use Rattle.cx_core.specs.Typing.{CHome, IsTyped, IsLvalue, is_bit_field}
@@ -24,9 +24,9 @@ abbrev mutual
   IsCoveredForm null = Unit {0}
   IsCoveredForm (object number) = Unit {0}
   IsCoveredForm (code number) = Unit {0}
-  IsCoveredForm (load from) = (is_bit_field from ≡ false) × IsCovered from
+  IsCoveredForm (load from) = IsCovered from
   IsCoveredForm (deref from) = IsCovered from
-  IsCoveredForm (member of spot) = (spot.width ≡ 0) × (is_lvalue of ≡ true) × IsCovered of
+  IsCoveredForm (member of spot) = (is_lvalue of ≡ true) × IsCovered of
   IsCoveredForm (address of) = IsCovered of
   IsCoveredForm (convert value) = IsCovered value
   IsCoveredForm (unary op value) = IsCovered value

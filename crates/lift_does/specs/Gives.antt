@@ -3,9 +3,8 @@ use Rattle.std.specs.Prelude.{◌≡◌, ◌⊎◌, ℕ, Bool, true, false, List
 use Rattle.cr_base.specs.declared.layout.Spot.{Spot}
 use Rattle.cr_world.specs.World.{World, blocks_of}
 use Rattle.cr_base.specs.declared.scalar.Scalar.{Scalar}
-use Rattle.cx_core.specs.Trees.{CTy, CExpr, type_of}
+use Rattle.cx_core.specs.Trees.{CTy, CExpr, expr, member, type_of}
 use Rattle.cx_mean.specs.Operands.{CValue, scalar, cells, names, designates, designates_bits, missing, Frame as CFrame, slot_of}
-use Rattle.cx_typed_work.specs.Operands.{spot_of_member}
 use Rattle.lift_calls.specs.Programs.{Setting, setting_in}
 use Rattle.lift_exprs.specs.Names.{Names, type_in}
 use Rattle.lift_exprs.specs.Written.{place_of_given, address_of_given}
@@ -52,16 +51,15 @@ abbrev pub GivesObject : Images → Frame → World → Ty → Given → Option 
 GivesObject images frame world ty given None = ⊥
 GivesObject images frame world ty given (Some at) = GivesLvalue images frame world ty given (Object at)
 
--- the address of the structure or union in which a bit-field stands, whose first byte is at a place in C
-pub record GivesBase (images : Images) (frame : Frame) (world : World) (given : Given) (spot : Spot) (at : Ptr) : Type 0 where
-  pub target : Ty
+-- the address of the structure or union of a type in which a bit-field stands, whose first byte is at a place in C
+pub record GivesBase (images : Images) (frame : Frame) (world : World) (target : Ty) (given : Given) (spot : Spot) (at : Ptr) : Type 0 where
   pub base : Ptr
   pub gives : GivesAt frame world (address_of_given given) (Pointer target) (Object base)
   pub below : PlaceBelow images at (behind base spot.byte)
 
-abbrev pub GivesField : Images → Frame → World → Given → Option Spot → Ptr → Type 0
-GivesField images frame world given None at = ⊥
-GivesField images frame world given (Some spot) at = GivesBase images frame world given spot at
+abbrev pub GivesField : Names → Images → Frame → World → Given → CExpr → Ptr → Type 0
+GivesField names_of images frame world given (expr type place (member of spot)) at = GivesBase images frame world (type_in names_of (type_of of)) given spot at
+GivesField names_of images frame world given (expr type place form) at = ⊥
 
 -- a scalar value
 pub record GivesScalar (images : Images) (frame : Frame) (world : World) (ty : Ty) (given : Given) (of_c : Value) : Type 0 where
@@ -107,7 +105,7 @@ GivesOperand s names_of images c_frame frame world e given (cells list from) =
 GivesOperand s names_of images c_frame frame world e given (names number) =
     GivesObject images frame world (type_in names_of (type_of e)) given (slot_of (c_frame ++ s.statics) number)
 GivesOperand s names_of images c_frame frame world e given (designates to) = GivesLvalue images frame world (type_in names_of (type_of e)) given to
-GivesOperand s names_of images c_frame frame world e given (designates_bits at bit width) = GivesField images frame world given (spot_of_member e) at
+GivesOperand s names_of images c_frame frame world e given (designates_bits at bit width) = GivesField names_of images frame world given e at
 GivesOperand s names_of images c_frame frame world e given missing = GivesMissing names_of frame world (type_of e) given
 
 -- where its value is used
