@@ -1,5 +1,5 @@
 -- The text of a body follows the body.
-use Rattle.std.proofs.Common.{◌≡◌, ◌∙◌, ℕ, ◌<◌, ◌^◌, true, false, [], map, sym, ap, subst}
+use Rattle.std.proofs.Common.{◌≡◌, ◌∙◌, ℕ, ◌<◌, ◌^◌, true, [], map, sym, ap, subst}
 use Rattle.cr_world.specs.World.{World}
 use Rattle.cx_core.specs.Trees.{CFun}
 use Rattle.cx_mean.specs.Operands.{Slot, Frame as CFrame}
@@ -29,11 +29,8 @@ module _ (s : Setting) (one : CFun) (tree : FunctionTree) (names : FunctionNames
     params : map (λ (slot : Slot). slot.object) a.params ≡ a.one.params
     params = is.params_are ∙ ap (λ (it : CFun). it.params) (sym is.one_is)
 
-    no_bits : a.of.names.has_bits ≡ false
-    no_bits = ap (λ (it : BodyNames). it.names.has_bits) is.of_is ∙ mean.no_bits
-
     parts_are : StmtDone (stage_of a units steps) [] 0 one.body
-    parts_are = stmt_done a units steps parts_mean is.started params (mean.no_bytes a is) no_bits one.body [] 0 (mean.body a is)
+    parts_are = stmt_done a units steps parts_mean is.started params one.body [] 0 (mean.body a is)
 
     ends_are : (c_world world : World) → Standing a [] c_world world → GivenBack (stage_of a units steps) [] (at_end_of of) (bottom_of one a.params).at_end c_world world
     ends_are c_world world here =

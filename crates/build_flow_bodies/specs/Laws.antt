@@ -1,5 +1,5 @@
 -- The law of bodies: what is written for a function follows its body, where its parts are typed and its names are kept.
-use Rattle.std.specs.Prelude.{◌≡◌, ℕ, ◌<◌, ◌^◌, true, false, [], ◌++◌, map, length}
+use Rattle.std.specs.Prelude.{◌≡◌, ℕ, ◌<◌, ◌^◌, true, [], ◌++◌, map, length}
 use Rattle.cx_core.specs.Trees.{CFun}
 use Rattle.cx_mean.specs.Operands.{Slot, Frame as CFrame}
 use Rattle.build_flow_laws.specs.Laws.{IsCalled}
@@ -24,8 +24,6 @@ pub record BodyMeans (s : Setting) (one : CFun) (tree : FunctionTree) (names : F
   pub parts : PartsMean s names of units steps
   -- the parameters and the static objects differ
   pub apart : (params : CFrame) → map (λ (slot : Slot). slot.object) params ≡ one.params → ObjectsDiffer (params ++ s.statics)
-  pub no_bits : of.names.has_bits ≡ false
-  pub no_bytes : (a : Calling) → IsCalled s one tree names of a → a.images.in_bytes ≡ false
   pub body : (a : Calling) → IsCalled s one tree names of a → StmtMeans a units steps [] 0 one.body
   pub result : (a : Calling) → IsCalled s one tree names of a → ResultMeans a
   pub fits : IsFit (graph_of (flow_of of one.body)) shape

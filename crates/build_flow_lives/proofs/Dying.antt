@@ -1,22 +1,18 @@
 -- Objects of open statements die in C, and nothing is done for them in the crate; where all have died, both have returned.
-use Rattle.std.proofs.Common.{◌≡◌, ◌≢◌, ◌∙◌, ◌⊎◌, inl, inr, ⊎_elim, ℕ, zero, suc, slice_index_or, ◌+◌, ◌<◌, ◌≤◌, ◌==◌, Bool, true, false, ◌||◌, List, [], ◌∷◌, ◌++◌, length, map, slice_set, if◌then◌else◌, Option, Some, None, refl, sym, ap, subst, arith, append_assoc}
-use Rattle.std.proofs.lemmas.Bool.{cases_eq}
+use Rattle.std.proofs.Common.{◌≡◌, ◌≢◌, ◌∙◌, ◌⊎◌, inl, inr, ⊎_elim, ℕ, zero, suc, slice_index_or, ◌<◌, ◌==◌, Bool, true, false, List, [], ◌∷◌, ◌++◌, length, map, slice_set, if◌then◌else◌, Option, Some, None, refl, sym, ap, subst, arith, append_assoc}
 use Rattle.std.proofs.lemmas.Bool.Decides.{nat_tests}
 use Rattle.std.proofs.lemmas.List.{length-set}
-use Rattle.std.proofs.lemmas.List.Elements.{Contains-append_left, Contains-append_right, Contains-append_cases}
+use Rattle.std.proofs.lemmas.List.Elements.{Contains-append_right, Contains-append_cases}
 use Rattle.std.specs.List.{Contains}
-use Rattle.cr_world.specs.Held.{Held, is_listed, with_blocks, without_block}
-use Rattle.cr_world.specs.Laws.{AreAllocated}
+use Rattle.cr_world.specs.Held.{is_listed, with_blocks, without_block}
 use Rattle.cr_world.specs.World.{World, blocks_of, with_memory, events_of}
 use Rattle.cx_mean.specs.Moves.{without_objects}
 use Rattle.cx_mean.specs.Operands.{CValue, Slot, Frame as CFrame, slot_of}
 use Rattle.cx_typed_runs.proofs.Owned.{killed_owned, killed_held, memory_without}
 use Rattle.cx_typed_runs.specs.Sites.{AreOwned}
 use Rattle.ext_calls.specs.declared.call.Made.{Made}
-use Rattle.lift_calls.specs.Bodies.{Inside, Returned}
 use Rattle.lift_calls.specs.Calls.{result_laid, is_place, type_in, GivesBack}
-use Rattle.lift_calls.specs.Frames.{FunctionNames, ObjectAgrees, IsOwned, FramesAgree}
-use Rattle.lift_calls.specs.Programs.{Setting, IsTypedScope}
+use Rattle.lift_calls.specs.Frames.{ObjectAgrees, IsOwned}
 use Rattle.lift_stands.proofs.Kept.{both_keep}
 use Rattle.lift_stands.specs.Keeps.{KeepsOthers}
 use Rattle.lift_stands.specs.Stands.{Images, image_of, Lives, IsVacant}
@@ -31,7 +27,7 @@ use Rattle.mem_bytes.proofs.Slots.{live-set_other}
 use Rattle.mem_bytes.specs.Memory.{Block, Blocks, live_block}
 use Rattle.mem_bytes.specs.declared.value.Ptr.{Ptr}
 use Rattle.rs_mean.specs.Lookups.{LocalBlock}
-use Rattle.rs_mean.specs.Run.{Frame, returned, given_by}
+use Rattle.rs_mean.specs.Run.{returned, given_by}
 use Rattle.rs_mean.specs.Values.{Typed}
 use Rattle.build_flow_lives.specs.Standing.{ObjectsDiffer, Calling, own_slots, Standing, HasReturned}
 
@@ -172,6 +168,7 @@ module _ (a : Calling) (started : WorldsStand a.images a.c_before a.before) wher
         slots = λ slot among. here.inside.slots slot (subst (λ (slots : CFrame). Contains slots slot) (sym same_slots) (Contains-append_right gone rest slot among));
         locals = here.inside.locals;
         result = here.inside.result;
+        zeros = here.inside.zeros;
         scope = record {
           memory = memory_without a.s.program gone (blocks_of c_world) here.inside.scope.memory;
           owned = killed_owned a.s.program c_world.held gone (rest ++ a.s.statics) owned_all;

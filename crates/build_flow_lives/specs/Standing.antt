@@ -1,5 +1,5 @@
 -- Where a function of C and that of the crate stand together in their bodies (ISO C99, 6.2.4, 6.8 and 6.9.1).
-use Rattle.std.specs.Prelude.{◌≡◌, ℕ, List, [], ◌∷◌, ◌++◌, Option, Some, None}
+use Rattle.std.specs.Prelude.{◌≡◌, ℕ, [], ◌∷◌, ◌++◌, Option, None}
 use Rattle.cr_world.specs.World.{World}
 use Rattle.cx_core.specs.Trees.{CFun}
 use Rattle.cx_mean.specs.Operands.{CValue, Frame as CFrame, slot_of}

@@ -1,5 +1,5 @@
--- Both stand in their bodies behind a piece that writes temporaries alone.
-use Rattle.std.proofs.Common.{◌≡◌, ◌∙◌, ℕ, suc, ◌<◌, Bool, true, false, List, [], ◌∷◌, ◌++◌, length, Option, Some, None, option_map, bytes_eq, if◌then◌else◌, refl, sym, ap, arith}
+-- Both stand in their bodies behind a piece that writes blocks of the function's own.
+use Rattle.std.proofs.Common.{◌≡◌, ◌∙◌, ℕ, suc, ◌<◌, ◌≤◌, Bool, true, false, List, [], ◌∷◌, ◌++◌, length, Option, Some, None, option_map, bytes_eq, if◌then◌else◌, refl, sym, ap, arith}
 use Rattle.std.proofs.lemmas.Slice.Eq.{bytes_eq-Decides}
 use Rattle.std.specs.List.{Contains, find}
 use Rattle.cr_base.specs.declared.layout.Laid.{Laid}
@@ -8,9 +8,9 @@ use Rattle.cr_world.specs.World.{World, blocks_of}
 use Rattle.cx_mean.specs.Operands.{Frame as CFrame}
 use Rattle.build_flow_lives.specs.Standing.{Calling, own_slots, Standing}
 use Rattle.lift_calls.proofs.Kept.{program_stays, others_keep, no_image_still, same_block, frames_stay, within}
-use Rattle.lift_calls.specs.Bodies.{HoldsResult, ResultAgrees}
+use Rattle.lift_calls.specs.Bodies.{HoldsResult, ResultAgrees, HoldsZeros}
 use Rattle.lift_calls.specs.Calls.{result_laid, ResultPlace, is_place}
-use Rattle.lift_calls.specs.Frames.{FunctionNames, NamesApart, IsLocal, FramesAgree}
+use Rattle.lift_calls.specs.Frames.{KeptTemporary, FunctionNames, NamesApart, IsLocal, FramesAgree}
 use Rattle.lift_calls.specs.Programs.{IsTypedScope}
 use Rattle.lift_does.specs.Does.{AreOwn}
 use Rattle.lift_stands.proofs.Kept.{both_keep}
@@ -56,16 +56,36 @@ one_name s names images c_frame frame c_world world frames one other first secon
 
 -- ---- behind a piece
 
-module _ (a : Calling) (started : WorldsStand a.images a.c_before a.before) (apart : NamesApart a.names)
-    (slots : CFrame) (c_world world : World) (here : Standing a slots c_world world) (later : Images) (own : ℕ → Bool) (from to : ℕ) (are_own : AreOwn a.names a.frame from to own)
+-- the blocks that a piece writes were made since the call, and are neither that of what points to the result nor one of zero bytes
+pub record IsAside (a : Calling) (own : ℕ → Bool) : Type 0 where
+  pub since : (number : ℕ) → own number ≡ true → length (blocks_of a.before) ≤ number
+  pub no_result : (name : List ℕ) (local : LocalBlock) → a.names.result ≡ Some name → IsLocal a.frame name local → own local.block ≡ true → ⊥
+  pub no_zeros : (number : ℕ) (zero : KeptTemporary) (local : LocalBlock) → a.names.zeros number ≡ Some zero → IsLocal a.frame zero.name local → own local.block ≡ true → ⊥
+
+-- so are those of temporaries
+pub own_aside : (a : Calling) (apart : NamesApart a.names) (slots : CFrame) (c_world world : World) → Standing a slots c_world world → (own : ℕ → Bool) (from to : ℕ) → AreOwn a.names a.frame from to own → IsAside a own
+own_aside a apart slots c_world world here own from to are_own = record {
+  since = λ number is.
+      let temporary = are_own number is in
+      let since = here.inside.locals temporary.local temporary.is_local.among in
+      omega (arith, since, temporary.block_is);
+  no_result = λ name local is there owns.
+      let temporary = are_own local.block owns in
+      apart.result_temporary temporary.number temporary.one name temporary.kept_is is
+      (one_name a.s a.names here.later (own_slots a slots) a.frame c_world world here.inside.frames temporary.one.name name temporary.local local temporary.is_local there temporary.block_is);
+  no_zeros = λ number zero local is there owns.
+      let temporary = are_own local.block owns in
+      apart.zero_temporary temporary.number number temporary.one zero temporary.kept_is is
+      (one_name a.s a.names here.later (own_slots a slots) a.frame c_world world here.inside.frames temporary.one.name zero.name temporary.local local temporary.is_local there temporary.block_is);
+}
+
+module _ (a : Calling) (started : WorldsStand a.images a.c_before a.before)
+    (slots : CFrame) (c_world world : World) (here : Standing a slots c_world world) (later : Images) (own : ℕ → Bool) (aside : IsAside a own)
     (c_end end : World) (keeps : KeepsOthers (length (blocks_of world)) own here.later later c_world.held c_end.held world.held end.held) (worlds : WorldsStand later c_end end)
     (scope : IsTypedScope a.s.program (own_slots a slots ++ a.s.statics) c_end) where
   -- what the piece writes was made since the call
   own_new : (number : ℕ) → number < length (blocks_of a.before) → own number ≡ true → is_place a.place number ≡ true
-  own_new number less is =
-      let temporary = are_own number is in
-      let since = here.inside.locals temporary.local temporary.is_local.among in
-      absurd (omega (arith, less, since, temporary.block_is))
+  own_new number less is = let since = aside.since number is in absurd (omega (arith, less, since))
 
   pub since_call : KeepsOthers (length (blocks_of a.before)) (is_place a.place) here.later later c_world.held c_end.held world.held end.held
   since_call =
@@ -76,16 +96,7 @@ module _ (a : Calling) (started : WorldsStand a.images a.c_before a.before) (apa
   not_own number false is none = is
 
   older_not_own : (number : ℕ) → number < length (blocks_of a.before) → own number ≡ true → ⊥
-  older_not_own number less is =
-      let temporary = are_own number is in
-      let since = here.inside.locals temporary.local temporary.is_local.among in
-      absurd (omega (arith, less, since, temporary.block_is))
-
-  result_not_own : (name : List ℕ) (local : LocalBlock) → a.names.result ≡ Some name → IsLocal a.frame name local → own local.block ≡ true → ⊥
-  result_not_own name local is there owns =
-      let temporary = are_own local.block owns in
-      apart.result_temporary temporary.number temporary.one name temporary.kept_is is
-      (one_name a.s a.names here.later (own_slots a slots) a.frame c_world world here.inside.frames temporary.one.name name temporary.local local temporary.is_local there temporary.block_is)
+  older_not_own number less is = let since = aside.since number is in omega (arith, less, since)
 
   place_still : (laid : Laid) (at : Ptr) → at.block < length (blocks_of a.before) → ResultPlace here.later (blocks_of world) laid at → ResultPlace later (blocks_of end) laid at
   place_still laid at older there =
@@ -108,7 +119,7 @@ module _ (a : Calling) (started : WorldsStand a.images a.c_before a.before) (apa
       let p = within here.later later own c_world c_end world end here.inside.worlds keeps a.s a.names (own_slots a slots) a.frame here.inside.frames local holds.is_local.among in
       let same =
       same_block here.later later own c_world c_end world end here.inside.worlds keeps local.block p holds.no_image
-      (not_own local.block (own local.block) refl (result_not_own name local is holds.is_local)) in
+      (not_own local.block (own local.block) refl (aside.no_result name local is holds.is_local)) in
       record {
         local = local;
         is_local = holds.is_local;
@@ -129,8 +140,25 @@ module _ (a : Calling) (started : WorldsStand a.images a.c_before a.before) (apa
   result_still (Some laid) None at is agrees = absurd agrees
   result_still (Some laid) (Some name) None is agrees = absurd agrees
 
-  abbrev pub stands_behind : Standing a slots c_end end
-  stands_behind = record {
+  pub zeros_still : (number : ℕ) (zero : KeptTemporary) → a.names.zeros number ≡ Some zero → HoldsZeros here.later world a.frame zero → HoldsZeros later end a.frame zero
+  zeros_still number zero is holds =
+      let local = holds.local in
+      let p = within here.later later own c_world c_end world end here.inside.worlds keeps a.s a.names (own_slots a slots) a.frame here.inside.frames local holds.is_local.among in
+      record {
+        local = local;
+        is_local = holds.is_local;
+        ty_is = holds.ty_is;
+        block = holds.block;
+        live =
+            same_block here.later later own c_world c_end world end here.inside.worlds keeps local.block p holds.no_image
+            (not_own local.block (own local.block) refl (aside.no_zeros number zero local is holds.is_local))
+            ∙ holds.live;
+        cells = holds.cells;
+        no_image = no_image_still here.later later own c_world c_end world end here.inside.worlds keeps local.block p holds.no_image;
+      }
+
+  abbrev pub stands_beside : Standing a slots c_end end
+  stands_beside = record {
     later = later;
     inside = record {
       program = program_stays a.s here.later later keeps.extends here.inside.program;
@@ -142,7 +170,15 @@ module _ (a : Calling) (started : WorldsStand a.images a.c_before a.before) (apa
       slots = here.inside.slots;
       locals = here.inside.locals;
       result = result_still (result_laid a.s a.one) a.names.result a.place refl here.inside.result;
+      zeros = λ number zero is. zeros_still number zero is (here.inside.zeros number zero is);
       scope = scope;
     };
     apart = here.apart;
   }
+
+-- behind a piece that writes temporaries alone
+abbrev pub stands_behind : (a : Calling) (started : WorldsStand a.images a.c_before a.before) (apart : NamesApart a.names) (slots : CFrame) (c_world world : World) (here : Standing a slots c_world world) (later : Images) (own : ℕ → Bool) (from to : ℕ) →
+    AreOwn a.names a.frame from to own → (c_end end : World) → KeepsOthers (length (blocks_of world)) own here.later later c_world.held c_end.held world.held end.held → WorldsStand later c_end end →
+    IsTypedScope a.s.program (own_slots a slots ++ a.s.statics) c_end → Standing a slots c_end end
+stands_behind a started apart slots c_world world here later own from to are_own =
+    stands_beside a started slots c_world world here later own (own_aside a apart slots c_world world here own from to are_own)

@@ -1,5 +1,5 @@
--- All parts of a body, in a program without bit-field members.
-use Rattle.std.proofs.Common.{◌≡◌, inl, inr, ℕ, false, List, [], ◌∷◌, ◌++◌, map, Option, Some, None}
+-- All parts of a body.
+use Rattle.std.proofs.Common.{◌≡◌, inl, inr, ℕ, List, [], ◌∷◌, ◌++◌, map, Option, Some, None}
 use Rattle.cx_core.specs.Trees.{CExpr, CPut, put, CPuts, no_puts, more_puts, CStmt, stmt, CStmtForm, label, case, default, block, expression, if_then, switch, while, do_while, for_loop, goto, continue, break, returns, begin, COtherwise, no_else, else_do, CStmts, no_stmts, more_stmts}
 use Rattle.cx_mean.specs.Moves.{static_puts_of}
 use Rattle.cx_mean.specs.Operands.{Slot}
@@ -8,23 +8,23 @@ use Rattle.build_flow_moves.specs.Parts.{Stage, BeginsDone, EffectsDone, TestsDo
 use Rattle.lift_stands.specs.Worlds.{WorldsStand}
 use Rattle.build_flow_parts.specs.Bodies.{ObjectsMean, EffectsMean, TestsMean, ReturnMeans, ClearMeans, PutMeans, PutsMean, StmtMeans, FormMeans, ElseMeans, StmtsMean}
 use Rattle.build_flow_parts.specs.Means.{PartsMean}
-use Rattle.build_flow_parts.proofs.Begins.{begin_done}
-use Rattle.build_flow_parts.proofs.Clears.{nothing_cleared}
+use Rattle.build_flow_parts.proofs.Clears.{nothing_cleared, zero_cleared}
 use Rattle.build_flow_parts.proofs.Conditions.{test_done, choice_done}
+use Rattle.build_flow_parts.proofs.Lives.{begin_done}
 use Rattle.build_flow_parts.proofs.Puts.{scalar_put_done}
 use Rattle.build_flow_parts.proofs.RecordReturns.{record_return_done}
 use Rattle.build_flow_parts.proofs.Returns.{nothing_done, return_done}
 use Rattle.build_flow_parts.proofs.Values.{effect_done}
 
 module _ (a : Calling) (units steps : ℕ) (mean : PartsMean a.s a.names a.of units steps) (started : WorldsStand a.images a.c_before a.before)
-    (params_are : map (λ (slot : Slot). slot.object) a.params ≡ a.one.params) (bits : a.images.in_bytes ≡ false) (no_bits : a.of.names.has_bits ≡ false) where
+    (params_are : map (λ (slot : Slot). slot.object) a.params ≡ a.one.params) where
   abbrev stage : Stage
   stage = stage_of a units steps
 
   begins_done : (inner objects scope : List ℕ) → ObjectsMean a units steps inner objects scope → BeginsDone stage inner objects scope
   begins_done inner [] scope all = tt
   begins_done inner (number ∷ objects) scope all =
-      (begin_done a units steps mean started bits no_bits inner number scope all.0 all.1, begins_done (inner ++ number ∷ []) objects scope all.2)
+      (begin_done a units steps mean started params_are number inner scope all.0 all.1 all.2, begins_done (inner ++ number ∷ []) objects scope all.3)
 
   effects_done : (scope : List ℕ) (value : Option CExpr) (number : ℕ) → EffectsMean a units steps scope value number → EffectsDone stage scope value number
   effects_done scope None number is = tt
@@ -40,8 +40,8 @@ module _ (a : Calling) (units steps : ℕ) (mean : PartsMean a.s a.names a.of un
   returns_done scope e number (inr is) = record_return_done a units steps mean started params_are e number scope is
 
   clear_done : (scope : List ℕ) (object : ℕ) (puts : Option CPuts) → ClearMeans a units steps scope object puts → ClearDone stage scope object puts
-  clear_done scope object puts (inl is) = nothing_cleared a units steps mean started params_are bits no_bits scope object puts is
-  clear_done scope object puts (inr is) = is
+  clear_done scope object puts (inl is) = nothing_cleared a units steps mean started params_are scope object puts is.declared is
+  clear_done scope object puts (inr is) = zero_cleared a units steps mean started params_are scope object puts is.declared is
 
   put_done : (scope : List ℕ) (object : ℕ) (one : CPut) (number : ℕ) → PutMeans a units steps scope object one number → PutDone stage scope object one number
   put_done scope object (put spot type value) number (inl is) = scalar_put_done a units steps mean started params_are scope object spot type value number is

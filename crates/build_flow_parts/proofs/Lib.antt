@@ -4,8 +4,11 @@ pub mod Bodies
 pub mod Clears
 pub mod Conditions
 pub mod Leaves
+pub mod Lives
+pub mod Objects
 pub mod Puts
 pub mod RecordReturns
 pub mod Returns
 pub mod Values
+pub mod Zeros
 pub mod Tells

@@ -13,7 +13,6 @@ use Rattle.cx_mean.specs.Leftmost.{one_step}
 use Rattle.cx_mean.specs.Marks.{Marks, no_marks}
 use Rattle.cx_mean.specs.Operands.{needed, CValue, scalar, designates, COperand, with_marks, Slot, Frame as CFrame, slot_of, place_in, scalar_value}
 use Rattle.cx_mean.specs.Values.{value_of_kind}
-use Rattle.cx_typed_calls.proofs.Calls.{calls_end_typed}
 use Rattle.cx_typed_runs.proofs.Owned.{object_number, shapes_owned}
 use Rattle.cx_typed_values.specs.Outcomes.{Comes}
 use Rattle.cx_typed_work.proofs.Puts.{IsLiteralAlive, slot_begins, put_comes}
@@ -21,7 +20,6 @@ use Rattle.cx_typed_work.proofs.Stores.{IsStoredOf}
 use Rattle.cx_typed_work.specs.Scenes.{IsAlive}
 use Rattle.build_flow_lives.specs.Standing.{Calling, own_slots, Standing, stage_of}
 use Rattle.build_flow_moves.specs.Parts.{Stage, objects_in, value_in, put_piece, PutDone}
-use Rattle.lift_calls.proofs.Owed.{promise_shrinks}
 use Rattle.lift_calls.specs.Programs.{setting_in}
 use Rattle.lift_does.proofs.Around.{Around, At, OweAs}
 use Rattle.lift_does.proofs.Assignments.{stored_is, stores_both}
@@ -49,8 +47,6 @@ use Rattle.mem_bytes.specs.declared.value.Value.TheVariants.{Object}
 use Rattle.mem_bytes.specs.Memory.{Blocks}
 use Rattle.rs_mean.specs.Run.{Flow, normal}
 use Rattle.rs_mean.specs.Scalars.{same_type}
-use Rattle.rs_mean_frames.proofs.Framed.{all_behave}
-use Rattle.rs_mean_frames.specs.Behave.{BodiesBehave}
 use Rattle.rs_text.specs.Tree.{Ty, Place as RustPlace, Assign}
 use Rattle.build_flow_parts.specs.Bodies.{ScalarPut}
 use Rattle.build_flow_parts.specs.Means.{home_in, PartsMean}

@@ -8,8 +8,7 @@ use Rattle.cx_core.specs.Trees.{CExpr, type_of}
 use Rattle.cx_core.specs.Typing.{CHome}
 use Rattle.cx_mean.specs.Leftmost.{one_step}
 use Rattle.cx_mean.specs.Operands.{CValue, scalar, cells, names, designates, designates_bits, missing, COperand, Slot, Frame as CFrame}
-use Rattle.cx_mean.specs.Settings.{extent_in}
-use Rattle.cx_mean.specs.State.{given_back, value_given}
+use Rattle.cx_mean.specs.State.{value_given}
 use Rattle.cx_typed_work.specs.Operands.{IsRecordOf, IsGivenBy}
 use Rattle.build_flow_lives.proofs.Dying.{all_vacant, keeps_without, worlds_without}
 use Rattle.build_flow_lives.specs.Standing.{Calling, own_slots, Standing, HasReturned, stage_of}
@@ -30,7 +29,7 @@ use Rattle.lift_exprs.specs.Lifted.{lifted}
 use Rattle.lift_exprs.specs.Names.{type_in}
 use Rattle.lift_exprs.specs.Written.{Written, address_of_given, copied}
 use Rattle.lift_forms_laws.specs.Gives.{GivesAt}
-use Rattle.lift_held.specs.Held.{is_void, is_record, operand, full, part_of}
+use Rattle.lift_held.specs.Held.{is_record, operand, full, part_of}
 use Rattle.lift_held.specs.declared.asked.Asked.{Asked}
 use Rattle.lift_stands.proofs.Kept.{both_keep, fewer_keep}
 use Rattle.lift_stands.specs.Keeps.{KeepsOthers}
@@ -41,12 +40,11 @@ use Rattle.mem_bytes.specs.Access.{record_part_of, live_read, part_at, record_at
 use Rattle.mem_bytes.specs.Memory.{Block, Blocks}
 use Rattle.mem_bytes.specs.declared.cell.Cell.{Cell}
 use Rattle.mem_bytes.specs.declared.value.Ptr.{Ptr}
-use Rattle.mem_bytes.specs.declared.value.Value.{Value}
 use Rattle.mem_bytes.specs.declared.value.Value.TheVariants.{Object}
 use Rattle.rs_mean.specs.Run.{Flow, normal, returned, given_by}
 use Rattle.rs_mean.specs.Scalars.{scalar_of}
 use Rattle.rs_mean.specs.World.{pure}
-use Rattle.rs_text.specs.Tree.{Ty, Pointer, Local, Expr, Read, Stmt}
+use Rattle.rs_text.specs.Tree.{Ty, Pointer, Local, Read, Stmt}
 use Rattle.build_flow_parts.specs.Bodies.{RecordGiven}
 use Rattle.build_flow_parts.specs.Means.{home_in, PartsMean}
 use Rattle.build_flow_parts.proofs.Conditions.{gives_here, standing}

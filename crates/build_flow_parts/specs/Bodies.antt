@@ -1,5 +1,5 @@
 -- What is known of the parts of a body where each is written: expressions are typed and their temporaries kept, and objects are new to their scope (ISO C99, 6.2.4 and 6.8). Of
--- objects that become zero, and of initial values of parts of objects, it is asked what is written for them.
+-- initial values of parts of objects, and of structures and unions, it is asked what is written for them.
 use Rattle.std.specs.Prelude.{◌≡◌, ◌⊎◌, ℕ, true, ◌||◌, ◌+◌, false, List, [], ◌∷◌, ◌++◌, map, Option, Some, None, IfSome}
 use Rattle.cx_core.specs.Trees.{CTy, CExpr, type_of, CPut, put, CPuts, no_puts, more_puts, CObject, CStmt, stmt, CStmtForm, label, case, default, block, expression, if_then, switch, while, do_while, for_loop, goto, continue, break, returns, begin, COtherwise, no_else, else_do, CStmts, no_stmts, more_stmts}
 use Rattle.std.specs.List.{Contains}
@@ -13,7 +13,7 @@ use Rattle.cx_mean.specs.Settings.{extent_in}
 use Rattle.cx_mean.specs.Operands.{Slot}
 use Rattle.cx_mean.specs.State.{bottom_of}
 use Rattle.build_flow_lives.specs.Standing.{Calling, Standing, stage_of}
-use Rattle.build_flow_moves.specs.Parts.{Stage, objects_in, ReturnDone, ClearDone, put_written, PutDone, StmtDone, GivenBack}
+use Rattle.build_flow_moves.specs.Parts.{Stage, objects_in, put_written, PutDone, StmtDone, GivenBack}
 use Rattle.build_flow_nodes.specs.Parts.{at_end_of, leaves_bits, count_in_test, count_in_option, count_in_condition, count_in_stmt, count_in_stmts}
 use Rattle.lift_calls.specs.Calls.{result_laid}
 use Rattle.lift_calls.specs.Programs.{setting_in}
@@ -26,7 +26,7 @@ use Rattle.lift_stands.specs.Worlds.{WorldsStand}
 use Rattle.rs_mean.specs.Scalars.{is_scalar, same_type}
 use Rattle.rs_mean.specs.Typing.{is_bits}
 use Rattle.rs_text.specs.Tree.{Ty}
-use Rattle.build_flow_parts.specs.Means.{home_in, PartsMean, ObjectMeans, NotAmong}
+use Rattle.build_flow_parts.specs.Means.{home_in, PartsMean, ObjectMeans, ZeroMeans, NotAmong}
 
 -- no value is that of a bit-field
 abbrev pub ArePlain : Option CPuts → Type 0
@@ -56,11 +56,12 @@ module _ (a : Calling) (units steps : ℕ) where
   TestsMean scope None number = Unit {0}
   TestsMean scope (Some e) number = OperandMeans scope e number
 
-  -- objects of a statement, behind those that have begun: each has a local, and none is in scope
+  -- objects of a statement, behind those that have begun: each has a local, and none is in scope; in a program with a bit-field member each can become zero
   abbrev pub ObjectsMean : (inner : List ℕ) → List ℕ → (scope : List ℕ) → Type 0
   ObjectsMean inner [] scope = Unit {0}
   ObjectsMean inner (number ∷ objects) scope =
-      ObjectMeans a.s a.names a.of number × NotAmong number (inner ++ (scope ++ objects_in (a.params ++ a.s.statics))) × ObjectsMean (inner ++ number ∷ []) objects scope
+      ObjectMeans a.s a.names a.of number × (a.of.names.has_bits ≡ true → ZeroMeans a.s a.names a.of number) × NotAmong number (inner ++ (scope ++ objects_in (a.params ++ a.s.statics)))
+      × ObjectsMean (inner ++ number ∷ []) objects scope
 
   -- a scalar is given back by a function that gives one
   pub record ScalarGiven (scope : List ℕ) (e : CExpr) (number : ℕ) : Type 0 where
@@ -105,19 +106,29 @@ module _ (a : Calling) (units steps : ℕ) where
   PutsMean scope object no_puts number = Unit {0}
   PutsMean scope object (more_puts one others) number = PutMeans scope object one number × PutsMean scope object others (put_written stage object one number).next
 
-  -- an object in scope is made anew with no bit set, and nothing is written for that
-  pub record NothingLeft (scope : List ℕ) (object : ℕ) (puts : Option CPuts) : Type 0 where
+  -- the declaration of an object in scope is reached
+  pub record IsDeclared (scope : List ℕ) (object : ℕ) (puts : Option CPuts) : Type 0 where
     pub one : CObject
     pub object_is : object_with object a.s.program.objects ≡ Some one
     pub among : Contains (scope ++ a.one.params) object
     pub typed : IfSome puts (ArePuts (home_in a.s a.one (scope ++ a.one.params)) one.type)
+
+  -- it is made anew with no bit set, and nothing is written for that
+  pub record NothingLeft (scope : List ℕ) (object : ℕ) (puts : Option CPuts) : Type 0 where
+    pub declared : IsDeclared scope object puts
+    pub no_bits : a.of.names.has_bits ≡ false
     pub leaves : leaves_bits a.of object puts ≡ false
-    pub type_is : a.of.type_of_object object ≡ one.type
+    pub type_is : a.of.type_of_object object ≡ declared.one.type
     pub plain : ArePlain puts
 
-  -- of an object that becomes zero it is asked what is written for that
+  -- or it becomes zero
+  pub record IsZeroed (scope : List ℕ) (object : ℕ) (puts : Option CPuts) : Type 0 where
+    pub declared : IsDeclared scope object puts
+    pub zero : ZeroMeans a.s a.names a.of object
+    pub written : (a.of.names.has_bits || leaves_bits a.of object puts) ≡ true
+
   abbrev pub ClearMeans : List ℕ → ℕ → Option CPuts → Type 0
-  ClearMeans scope object puts = NothingLeft scope object puts ⊎ ClearDone stage scope object puts
+  ClearMeans scope object puts = NothingLeft scope object puts ⊎ IsZeroed scope object puts
 
   abbrev mutual
     pub StmtMeans : (scope : List ℕ) → (number : ℕ) → CStmt → Type 0
@@ -154,11 +165,11 @@ module _ (a : Calling) (units steps : ℕ) where
     StmtsMean scope number no_stmts = Unit {0}
     StmtsMean scope number (more_stmts first others) = StmtMeans scope number first × StmtsMean scope (number + count_in_stmt a.of.names first) others
 
--- the parts of a statement are done, in a program without bit-field members, wherever the function was called
+-- the parts of a statement are done, wherever the function was called
 abbrev pub PartsAreDone : Type 0
 PartsAreDone =
     (a : Calling) (units steps : ℕ) → PartsMean a.s a.names a.of units steps → WorldsStand a.images a.c_before a.before → map (λ (slot : Slot). slot.object) a.params ≡ a.one.params →
-    a.images.in_bytes ≡ false → a.of.names.has_bits ≡ false → (s : CStmt) (scope : List ℕ) (number : ℕ) → StmtMeans a units steps scope number s → StmtDone (stage_of a units steps) scope number s
+    (s : CStmt) (scope : List ℕ) (number : ℕ) → StmtMeans a units steps scope number s → StmtDone (stage_of a units steps) scope number s
 
 -- ---- the end of a body
 

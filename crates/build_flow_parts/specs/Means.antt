@@ -9,11 +9,13 @@ use Rattle.cx_typed_runs.specs.States.{AreBegun}
 use Rattle.build_flow_nodes.specs.Parts.{BodyNames}
 use Rattle.lift_calls.specs.Calls.{Promise}
 use Rattle.lift_forms.specs.Places.{Kept}
-use Rattle.lift_calls.specs.Frames.{FunctionNames, NamesApart}
+use Rattle.lift_calls.specs.Frames.{KeptTemporary, FunctionNames, NamesApart}
 use Rattle.lift_calls.specs.Programs.{Setting, setting_in}
 use Rattle.lift_does.specs.Agree.{NamesMean}
 use Rattle.lift_does.specs.Does.{LiftingDoes}
 use Rattle.lift_exprs.specs.Names.{type_in}
+use Rattle.rs_mean.specs.Layout.{laid_of}
+use Rattle.rs_mean.specs.Scalars.{is_scalar}
 use Rattle.rs_text.specs.Tree.{Local}
 
 -- what an expression may name where these objects are in scope
@@ -43,6 +45,20 @@ pub record ObjectMeans (s : Setting) (names : FunctionNames) (of : BodyNames) (n
   pub name : List ℕ
   pub place_is : kept.place ≡ Local name
   pub ty_is : kept.ty ≡ type_in of.names one.type
+
+-- the local of zero bytes from which it becomes zero, as large as the object
+pub record ZerosMean (s : Setting) (names : FunctionNames) (of : BodyNames) (number : ℕ) (laid : Laid) : Type 0 where
+  pub zero : KeptTemporary
+  pub zero_is : names.zeros number ≡ Some zero
+  pub name_is : of.zeros number ≡ zero.name
+  pub laid_is : laid_of s.modules zero.ty ≡ Some laid
+
+-- it can become zero: it is a scalar, or there is such a local
+pub record ZeroMeans (s : Setting) (names : FunctionNames) (of : BodyNames) (number : ℕ) : Type 0 where
+  pub object : ObjectMeans s names of number
+  pub type_is : of.type_of_object number ≡ object.one.type
+  pub some : 0 < object.laid.size
+  pub zeros : is_scalar (type_in of.names object.one.type) ≡ false → ZerosMean s names of number object.laid
 
 -- a number is none of a list
 abbrev pub NotAmong : ℕ → List ℕ → Type 0

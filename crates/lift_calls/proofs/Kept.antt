@@ -13,7 +13,7 @@ use Rattle.lift_stands.specs.Keeps.{KeepsOthers}
 use Rattle.lift_stands.specs.Stands.{Images, image_of, Extends, Lives, IsNoImage}
 use Rattle.lift_stands.specs.Worlds.{WorldsStand}
 use Rattle.lift_stands.proofs.Kept.{both_keep}
-use Rattle.lift_calls.specs.Bodies.{HoldsResult, ResultAgrees, Inside}
+use Rattle.lift_calls.specs.Bodies.{HoldsResult, ResultAgrees, HoldsZeros, Inside}
 use Rattle.lift_calls.specs.Calls.{result_laid, ResultPlace, is_place}
 use Rattle.lift_calls.specs.Frames.{FunctionNames, KeptTemporary, TemporaryAgrees, IsOwned, LocalLives, FramesAgree}
 use Rattle.lift_calls.specs.Laws.{PlaceInside}
@@ -230,6 +230,21 @@ module _ (s : Setting) (one : CFun) (names : FunctionNames) (images later last :
   result_still (Some laid) None at e agrees = absurd agrees
   result_still (Some laid) (Some name) None e agrees = absurd agrees
 
+  zeros_still : (number : ℕ) (zero : KeptTemporary) → names.zeros number ≡ Some zero → HoldsZeros later world frame zero → HoldsZeros last end frame zero
+  zeros_still number zero e holds =
+      let local = holds.local in
+      let p = within later last (is_place inner) c_world c_end world end here.worlds next s names c_frame frame here.frames local holds.is_local.among in
+      let apart = place_apart inner local.block (λ to f. inside.no_zeros to number zero local f e holds.is_local) in
+      record {
+        local = local;
+        is_local = holds.is_local;
+        ty_is = holds.ty_is;
+        block = holds.block;
+        live = same_block later last (is_place inner) c_world c_end world end here.worlds next local.block p holds.no_image apart ∙ holds.live;
+        cells = holds.cells;
+        no_image = no_image_still later last (is_place inner) c_world c_end world end here.worlds next local.block p holds.no_image;
+      }
+
   pub inside_stays : Inside s one names images last place c_before before c_frame frame c_end end
   inside_stays = record {
     program = program_stays s later last next.extends here.program;
@@ -239,5 +254,6 @@ module _ (s : Setting) (one : CFun) (names : FunctionNames) (images later last :
     slots = here.slots;
     locals = here.locals;
     result = result_still (result_laid s one) names.result place refl here.result;
+    zeros = λ number zero e. zeros_still number zero e (here.zeros number zero e);
     scope = scope;
   }

@@ -1,5 +1,5 @@
 -- What the body of a function of the crate owes that of C (ISO C99, 6.8 and 6.9.1): from its begin, where the parameters have their arguments, to its return.
-use Rattle.std.specs.Prelude.{◌≡◌, ℕ, ◌<◌, ◌≤◌, List, [], ◌++◌, map, length, Option, Some, None, Ok}
+use Rattle.std.specs.Prelude.{◌≡◌, ℕ, ◌<◌, ◌≤◌, List, [], ◌++◌, map, length, replicate, Option, Some, None, Ok}
 use Rattle.std.specs.List.{Contains}
 use Rattle.cr_base.specs.declared.layout.Laid.{Laid}
 use Rattle.cr_base.specs.declared.scalar.Scalar.TheVariants.{Object as Address}
@@ -15,13 +15,14 @@ use Rattle.lift_stands.specs.Stands.{Images, IsNoImage, IsVacant}
 use Rattle.lift_stands.specs.Worlds.{WorldsStand}
 use Rattle.lift_stands_values.specs.Given.{align_or}
 use Rattle.mem_bytes.specs.Access.{value_at}
+use Rattle.mem_bytes.specs.Memory.{Block, live_block, size_of, byte_cell}
 use Rattle.mem_bytes.specs.declared.value.Ptr.{Ptr}
 use Rattle.mem_bytes.specs.declared.value.Value.TheVariants.{Object}
 use Rattle.rs_mean.specs.Lookups.{LocalBlock}
 use Rattle.rs_mean.specs.Run.{Frame, Flow, run_stmts, given_by}
 use Rattle.rs_text.specs.Tree.{Ty, Pointer, Stmts, FunctionTree}
 use Rattle.lift_calls.specs.Calls.{result_laid, ResultPlace, is_place, type_in, GivesBack}
-use Rattle.lift_calls.specs.Frames.{FunctionNames, IsLocal, FramesAgree}
+use Rattle.lift_calls.specs.Frames.{KeptTemporary, FunctionNames, IsLocal, FramesAgree}
 use Rattle.lift_calls.specs.Programs.{Setting, c_goes, ProgramAgrees, IsTypedScope}
 
 -- ---- inside a function
@@ -43,6 +44,16 @@ ResultAgrees base images world frame None None None = Unit {0}
 ResultAgrees base images world frame (Some laid) (Some name) (Some at) = HoldsResult base images world frame laid name at
 ResultAgrees base images world frame laid name place = ⊥
 
+-- a local holds zero bytes alone, and C knows nothing of it
+pub record HoldsZeros (images : Images) (world : World) (frame : Frame) (zero : KeptTemporary) : Type 0 where
+  pub local : LocalBlock
+  pub is_local : IsLocal frame zero.name local
+  pub ty_is : local.ty ≡ zero.ty
+  pub block : Block
+  pub live : live_block (blocks_of world) local.block ≡ Some block
+  pub cells : block.cells ≡ replicate (size_of block) (byte_cell 0)
+  pub no_image : IsNoImage images local.block
+
 -- a function of the crate stands beside one of C, which were called in the worlds before
 pub record Inside (s : Setting) (one : CFun) (names : FunctionNames) (images later : Images) (place : Option Ptr) (c_before before : World) (c_frame : CFrame)
     (frame : Frame) (c_world world : World) : Type 0 where
@@ -54,6 +65,7 @@ pub record Inside (s : Setting) (one : CFun) (names : FunctionNames) (images lat
   pub slots : (slot : Slot) → Contains c_frame slot → length (blocks_of c_before) ≤ slot.block
   pub locals : (local : LocalBlock) → Contains frame.locals local → length (blocks_of before) ≤ local.block
   pub result : ResultAgrees (length (blocks_of before)) later world frame (result_laid s one) names.result place
+  pub zeros : (number : ℕ) (zero : KeptTemporary) → names.zeros number ≡ Some zero → HoldsZeros later world frame zero
   -- in C, so that no allocation gave the block of an object in scope
   pub scope : IsTypedScope s.program (c_frame ++ s.statics) c_world
 

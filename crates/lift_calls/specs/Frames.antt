@@ -32,8 +32,10 @@ pub record FunctionNames : Type 0 where
   pub temporaries : ℕ → Option KeptTemporary
   -- the parameter that points to the place of a structure or union that it gives
   pub result : Option (List ℕ)
+  -- the local of zero bytes from which an object becomes zero, by its number
+  pub zeros : ℕ → Option KeptTemporary
 
--- no two objects are one local, no two temporaries are, and no object and a temporary; and what points to the result is none of them
+-- no two objects are one local, no two temporaries are, and no object and a temporary; and neither what points to the result nor a local of zero bytes is one of them
 pub record NamesApart (names : FunctionNames) : Type 0 where
   pub objects : (one other : ℕ) (first second : Kept) → names.objects one ≡ Some first → names.objects other ≡ Some second → first.place ≡ second.place →
       one ≡ other
@@ -43,6 +45,8 @@ pub record NamesApart (names : FunctionNames) : Type 0 where
       first.place ≡ Local second.name → ⊥
   pub result : (one : ℕ) (kept : Kept) (name : List ℕ) → names.objects one ≡ Some kept → names.result ≡ Some name → kept.place ≡ Local name → ⊥
   pub result_temporary : (one : ℕ) (kept : KeptTemporary) (name : List ℕ) → names.temporaries one ≡ Some kept → names.result ≡ Some name → kept.name ≡ name → ⊥
+  pub zero : (one other : ℕ) (kept : Kept) (zero : KeptTemporary) → names.objects one ≡ Some kept → names.zeros other ≡ Some zero → kept.place ≡ Local zero.name → ⊥
+  pub zero_temporary : (one other : ℕ) (kept zero : KeptTemporary) → names.temporaries one ≡ Some kept → names.zeros other ≡ Some zero → kept.name ≡ zero.name → ⊥
 
 -- the block and the type of a local or a static object
 abbrev pub home_in : Frame → Place → Option Home

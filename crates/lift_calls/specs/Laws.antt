@@ -22,7 +22,7 @@ use Rattle.rs_text.specs.Tree.{Ty, FunctionTree}
 use Rattle.lift_calls.specs.Bodies.{Inside, Returned}
 use Rattle.lift_calls.specs.Calls.{result_laid, is_place, CallMeets, CallStands, CallsOwe, Promise}
 use Rattle.lift_calls.specs.Entries.{ProgramMeets}
-use Rattle.lift_calls.specs.Frames.{FunctionNames, IsLocal, FramesAgree}
+use Rattle.lift_calls.specs.Frames.{KeptTemporary, FunctionNames, IsLocal, FramesAgree}
 use Rattle.lift_calls.specs.Programs.{Setting, c_calls, crate_bodies, ProgramAgrees, IsTypedScope}
 
 -- ---- bounds
@@ -48,10 +48,12 @@ CallNodesOwe =
 
 -- ---- over a call
 
--- the place of the result of a called function is one of the locals of the function that calls, and not that which points to its own result
+-- the place of the result of a called function is one of the locals of the function that calls, and neither that which points to its own result nor one of zero bytes
 pub record PlaceInside (names : FunctionNames) (frame : Frame) (before : World) (inner : Option Ptr) : Type 0 where
   pub since : (at : Ptr) → inner ≡ Some at → length (blocks_of before) ≤ at.block
   pub no_result : (at : Ptr) (name : List ℕ) (local : LocalBlock) → inner ≡ Some at → names.result ≡ Some name → IsLocal frame name local →
+      local.block ≢ at.block
+  pub no_zeros : (at : Ptr) (number : ℕ) (zero : KeptTemporary) (local : LocalBlock) → inner ≡ Some at → names.zeros number ≡ Some zero → IsLocal frame zero.name local →
       local.block ≢ at.block
 
 pub record CallsKeep : Type 0 where

@@ -17,10 +17,10 @@ use Rattle.cx_typed_work.proofs.Memories.{typed_value}
 use Rattle.cx_typed_work.specs.Operands.{IsValueOfType}
 use Rattle.cx_typed_work.specs.Scenes.{IsTypedCell, IsTypedMemory}
 use Rattle.lift_calls.specs.Calls.{is_place}
-use Rattle.lift_calls.specs.Frames.{FunctionNames, NamesApart}
+use Rattle.lift_calls.specs.Frames.{KeptTemporary, FunctionNames, NamesApart}
 use Rattle.lift_calls.specs.Programs.{Setting, setting_in}
 use Rattle.lift_calls_entry.proofs.Fresh.{block_with}
-use Rattle.lift_calls_entry.proofs.Locals.{LaidBlock}
+use Rattle.lift_calls_entry.proofs.Locals.{LaidBlock, ZeroLocal}
 use Rattle.lift_calls_entry.proofs.Stored.{HasCells, of_number, of_cells, IsStoredParam}
 use Rattle.lift_stands.proofs.Images.{cells_stay}
 use Rattle.lift_stands.proofs.Kept.{nothing_keeps, both_keep}
@@ -60,6 +60,7 @@ module _ (s : Setting) (names : FunctionNames) (images : Images) (place : Option
     pub held : HoldsCells memory
     pub lays : (local : LocalBlock) → Contains locals local → LaidBlock s.modules memory local
     pub since : (local : LocalBlock) → Contains locals local → length (blocks_of world) ≤ local.block
+    pub zeros : (number : ℕ) (it : KeptTemporary) → names.zeros number ≡ Some it → ZeroLocal memory locals (record { name = it.name; ty = it.ty })
     pub single : (one other : LocalBlock) → Contains locals one → Contains locals other → one.block ≡ other.block → one ≡ other
 
   -- a local holds what stands for the argument of a parameter

@@ -8,7 +8,7 @@ use Rattle.cr_world.specs.World.{World, blocks_of}
 use Rattle.cx_core.specs.Trees.{CFun}
 use Rattle.cx_mean.specs.Operands.{Slot, Frame as CFrame, slot_of}
 use Rattle.lift_calls.proofs.Kept.{program_stays}
-use Rattle.lift_calls.specs.Bodies.{ResultAgrees}
+use Rattle.lift_calls.specs.Bodies.{ResultAgrees, HoldsZeros}
 use Rattle.lift_calls.specs.Calls.{result_laid}
 use Rattle.lift_calls.specs.Entries.{frame_in, EntryMeets}
 use Rattle.lift_calls.specs.Frames.{KeptTemporary, FunctionNames, home_in, IsHome, ObjectAgrees, IsOwned, LocalLives, IsLocal, TemporaryAgrees, FramesAgree}
@@ -143,6 +143,21 @@ module _ (s : Setting) (one : CFun) (tree : FunctionTree) (names : FunctionNames
               has.apart.both owned.slot.object number owned.kept it owned.kept_is is (owned.place_is ∙ ap Local there.name_is);
         }
 
+    zeros_there : (number : ℕ) (it : KeptTemporary) → names.zeros number ≡ Some it → HoldsZeros later entered frame it
+    zeros_there number it is =
+        let there = has.zeros number it is in
+        record {
+          local = there.local;
+          is_local = subst (λ (x : List ℕ). IsLocal frame x there.local) there.name_is (local_is there.local there.among);
+          ty_is = there.ty_is;
+          block = there.block;
+          live = there.live;
+          cells = there.cells;
+          no_image = λ block image.
+              let owned = owned_there block there.local there.among image in
+              has.apart.zero owned.slot.object number owned.kept it owned.kept_is is (owned.place_is ∙ ap Local there.name_is);
+        }
+
     frames_there : FramesAgree s names later c_frame frame c entered
     frames_there = record {
       modules = refl;
@@ -169,6 +184,7 @@ module _ (s : Setting) (one : CFun) (tree : FunctionTree) (names : FunctionNames
         slots = λ held among. (progress.slots held among).since;
         locals = has.since;
         result = result;
+        zeros = zeros_there;
         scope = record { memory = progress.typed; owned = progress.owned };
       };
     }

@@ -28,7 +28,7 @@ use Rattle.lift_calls_entry.specs.Laws.{EntriesOwe}
 use Rattle.lift_calls_entry.proofs.Begun.{HasBegun, ParamHeld, ParamsHeld, Progress, at_first, goes_on}
 use Rattle.lift_calls_entry.proofs.Entered.{entry_meets, owned_there}
 use Rattle.lift_calls_entry.proofs.Fresh.{block_with, seq_comes, in_some, locals_from, IsPassed, ArePassed, AreZero, params_begin, locals_begin}
-use Rattle.lift_calls_entry.proofs.Locals.{is_among, one_block, is_local, AreLaid, laid_block, live_seam, locals_join}
+use Rattle.lift_calls_entry.proofs.Locals.{is_among, one_block, is_local, AreLaid, laid_block, live_seam, locals_join, ZeroLocal, zero_local}
 use Rattle.lift_calls_entry.proofs.Passed.{holds_value, plain_passed, record_passed}
 use Rattle.lift_calls_entry.proofs.Prologue.{older_live, all_held, AreThere, Copying, Copied, all_copied}
 use Rattle.lift_calls_entry.proofs.Stored.{param_begun, ParamBegun, IsBroken}
@@ -274,6 +274,20 @@ module _ (s : Setting) (one : CFun) (tree : FunctionTree) (names : FunctionNames
     older : (number : ℕ) → number < base → live_block (first blocks zeros) number ≡ live_block (blocks_of world) number
     older number less = older_live (blocks_of world) (blocks ++ zeros) number less
 
+    zero_begun : (it : LocalTree) → Contains tree.locals it → ZeroLocal (first blocks zeros) locals it
+    zero_begun it there =
+        let here = zero_local s.modules (blocks_of world ++ in_some blocks) tree.locals zeros it zero there in
+        let among : Contains (locals_from (base + length tree.params) tree.locals) here.local = subst (λ (n : ℕ). Contains (locals_from n tree.locals) here.local) begun_number here.among in
+        record {
+          local = here.local;
+          among = subst (λ (list : List LocalBlock). Contains list here.local) (sym (locals_join base tree.params tree.locals)) (Contains-append_right (locals_from base tree.params) (locals_from (base + length tree.params) tree.locals) here.local among);
+          name_is = here.name_is;
+          ty_is = here.ty_is;
+          block = here.block;
+          live = ap (λ (memory : Blocks). live_block memory here.local.block) (sym memories_join) ∙ here.live;
+          cells = here.cells;
+        }
+
     has_begun : (copied : Copied s names images place c_world world tree.params tree.locals (first blocks zeros) one.params args copies (first blocks zeros)) → HasBegun s names images place c_world world locals copied.after
     has_begun copied = record {
       start = stands.worlds;
@@ -283,6 +297,20 @@ module _ (s : Setting) (one : CFun) (tree : FunctionTree) (names : FunctionNames
       held = copied.copying.held;
       lays = copied.copying.lays;
       since = λ local among. (is_among base (all_locals tree) local among).behind;
+      zeros = λ number it is.
+          let begun = zero_begun (record { name = it.name; ty = it.ty }) (mean.zeros number it is) in
+          record {
+            local = begun.local;
+            among = begun.among;
+            name_is = begun.name_is;
+            ty_is = begun.ty_is;
+            block = begun.block;
+            live = copied.others begun.local.block (λ of_object.
+                let same : of_object.local ≡ begun.local = one_block base (all_locals tree) of_object.local begun.local of_object.among begun.among of_object.block_is in
+                mean.apart.zero of_object.object number _ it of_object.kept_is is (ap (λ (l : LocalBlock). Local l.name) same ∙ ap Local begun.name_is))
+                ∙ begun.live;
+            cells = begun.cells;
+          };
       single = one_block base (all_locals tree);
     }
 

@@ -1,14 +1,15 @@
 -- The parameters and locals of a function of the crate, whose blocks follow one another: each is found by its name, lives with its layout, and has a block of its own.
-use Rattle.std.proofs.Common.{◌≡◌, ◌∙◌, ℕ, zero, suc, ◌+◌, ◌<◌, ◌≤◌, Bool, true, List, [], ◌∷◌, ◌++◌, length, Some, refl, sym, ap, subst, arith, append_assoc, length-append, option_map, bytes_eq, if◌then◌else◌}
+use Rattle.std.proofs.Common.{◌≡◌, ◌∙◌, ℕ, zero, suc, ◌+◌, ◌<◌, ◌≤◌, Bool, true, List, [], ◌∷◌, ◌++◌, length, replicate, Some, refl, sym, ap, subst, arith, append_assoc, length-append, option_map, bytes_eq, if◌then◌else◌}
 use Rattle.std.specs.List.{Contains, find}
+use Rattle.std.proofs.lemmas.List.{length-replicate}
 use Rattle.std.proofs.lemmas.Slice.Eq.{bytes_eq-Decides}
 use Rattle.cr_base.specs.declared.layout.Laid.{Laid}
 use Rattle.lift_calls.specs.Entries.{frame_in}
 use Rattle.lift_calls.specs.Frames.{IsLocal}
 use Rattle.lift_calls.specs.Programs.{Setting}
 use Rattle.lift_calls_entry.specs.Entry.{NamesDiffer}
-use Rattle.lift_calls_entry.proofs.Fresh.{locals_from, in_some}
-use Rattle.mem_bytes.specs.Memory.{Block, Blocks, live_block, size_of}
+use Rattle.lift_calls_entry.proofs.Fresh.{locals_from, in_some, AreZero}
+use Rattle.mem_bytes.specs.Memory.{Block, Blocks, live_block, size_of, byte_cell}
 use Rattle.rs_mean.specs.Layout.{laid_of}
 use Rattle.rs_mean.specs.Lookups.{LocalBlock, home_of}
 use Rattle.rs_text.specs.Tree.{LocalTree, ModuleTree}
@@ -139,3 +140,40 @@ laid_block modules base (one ∷ list) (block ∷ blocks) local are (suc k, less
   where
     one_longer : (all : Blocks) (new : Block) → suc (length all) ≡ length (all ++ Some new ∷ [])
     one_longer all new = let long = length-append all (Some new ∷ []) in omega (arith, long)
+
+-- ---- locals that hold zeros
+
+-- a local of the function's own, in a memory where it has begun
+pub record ZeroLocal (memory : Blocks) (locals : List LocalBlock) (it : LocalTree) : Type 0 where
+  pub local : LocalBlock
+  pub among : Contains locals local
+  pub name_is : local.name ≡ it.name
+  pub ty_is : local.ty ≡ it.ty
+  pub block : Block
+  pub live : live_block memory local.block ≡ Some block
+  pub cells : block.cells ≡ replicate (size_of block) (byte_cell 0)
+
+pub zero_local : (modules : List ModuleTree) (base : Blocks) (list : List LocalTree) (blocks : List Block) (it : LocalTree) → AreZero modules list blocks → Contains list it → ZeroLocal (base ++ in_some blocks) (locals_from (length base) list) it
+zero_local modules base [] blocks it are there = absurd (let less : there.0 < 0 = there.1 in omega (arith, less))
+zero_local modules base (one ∷ list) [] it are there = absurd are
+zero_local modules base (one ∷ list) (block ∷ blocks) it are (zero, less, same) = record {
+  local = record { name = one.name; ty = one.ty; block = length base };
+  among = (0, omega arith, refl);
+  name_is = ap (λ (l : LocalTree). l.name) same;
+  ty_is = ap (λ (l : LocalTree). l.ty) same;
+  block = block;
+  live = live_seam base block blocks;
+  cells = subst (λ (b : Block). b.cells ≡ replicate (size_of b) (byte_cell 0)) (sym are.2) (ap (λ (n : ℕ). replicate n (byte_cell 0)) (sym (length-replicate are.0.size (byte_cell 0))));
+}
+zero_local modules base (one ∷ list) (block ∷ blocks) it are (suc k, less, same) =
+    let rest = zero_local modules (base ++ Some block ∷ []) list blocks it are.3 (k, omega (arith, less), same) in
+    let longer : length (base ++ Some block ∷ []) ≡ suc (length base) = (let long = length-append base (Some block ∷ []) in omega (arith, long)) in
+    record {
+      local = rest.local;
+      among = (let inner = subst (λ (n : ℕ). Contains (locals_from n list) rest.local) longer rest.among in (suc inner.0, (let l = inner.1 in omega (arith, l)), inner.2));
+      name_is = rest.name_is;
+      ty_is = rest.ty_is;
+      block = rest.block;
+      live = ap (λ (memory : Blocks). live_block memory rest.local.block) (sym (append_assoc base (Some block ∷ []) (in_some blocks))) ∙ rest.live;
+      cells = rest.cells;
+    }

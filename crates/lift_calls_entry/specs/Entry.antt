@@ -117,4 +117,5 @@ pub record EntryMeans (s : Setting) (one : CFun) (tree : FunctionTree) (names : 
   pub kept : (number : ℕ) (it : Kept) → names.objects number ≡ Some it → IsStaticKept s it ⊎ IsLocalKept tree it
   pub statics : (number : ℕ) (path : RPath) → s.objects number ≡ Some path → (it : Kept) × (names.objects number ≡ Some it) × (it.place ≡ Static path.home path.name)
   pub temporaries : (number : ℕ) (it : KeptTemporary) → names.temporaries number ≡ Some it → Contains tree.locals (record { name = it.name; ty = it.ty })
+  pub zeros : (number : ℕ) (it : KeptTemporary) → names.zeros number ≡ Some it → Contains tree.locals (record { name = it.name; ty = it.ty })
   pub apart : NamesApart names

@@ -10,7 +10,7 @@ use Rattle.cr_world.specs.Known.{accessed_as}
 use Rattle.lift_calls.specs.Frames.{KeptTemporary, IsLocal}
 use Rattle.lift_does.proofs.Around.{Around, At, Reached, runs}
 use Rattle.lift_does.proofs.Operands.{one_spot}
-use Rattle.lift_does.proofs.Reaching.{at_after, reached_none, reached_wider}
+use Rattle.lift_does.proofs.Reaching.{at_after}
 use Rattle.lift_does.proofs.Runs.{run_one}
 use Rattle.lift_does.proofs.Temporaries.{seq_comes, place_of_local}
 use Rattle.lift_does.specs.Gives.{IsNoDeref, AddressesBased}
@@ -58,7 +58,7 @@ copied_into : (others : Blocks) (source to : Ptr) (count : ℕ) (from : Block) (
 copied_into others source to count from None = refl
 copied_into others source to count from (Some block) = refl
 
-copy_changes : (others : Blocks) (source to : Ptr) (n : ℕ) (from : Block) → live_block others source.block ≡ Some from →
+pub copy_changes : (others : Blocks) (source to : Ptr) (n : ℕ) (from : Block) → live_block others source.block ≡ Some from →
     after_copy others source to (suc n) ≡ live_change others to.block (λ block. block_with_copy block to.offset from source.offset (suc n))
 copy_changes others source to n from live =
     let some : (suc n == 0) ≡ false = ne_eqb (suc n) 0 (λ none. omega arith) in
@@ -66,13 +66,14 @@ copy_changes others source to n from live =
     ∙ ap (λ slot. copied_between others source to (suc n) slot (live_block others to.block)) live
     ∙ copied_into others source to (suc n) from (live_block others to.block)
 
-record CopyFits (others : Blocks) (source : Ptr) (number n : ℕ) (target : Block) (list : List Cell) : Type 0 where
-  after : Blocks
-  done : after_copy others source (record { block = number; offset = 0 }) (suc n) ≡ Ok after
-  live : live_block after number ≡ Some (with_part target 0 list)
-  part : part_of (with_part target 0 list) 0 (suc n) ≡ Ok list
+pub record CopyFits (others : Blocks) (source : Ptr) (number n : ℕ) (target : Block) (list : List Cell) : Type 0 where
+  pub after : Blocks
+  pub is : after ≡ slice_set others number (Some (with_part target 0 list))
+  pub done : after_copy others source (record { block = number; offset = 0 }) (suc n) ≡ Ok after
+  pub live : live_block after number ≡ Some (with_part target 0 list)
+  pub part : part_of (with_part target 0 list) 0 (suc n) ≡ Ok list
 
-copy_fits : (others : Blocks) (source : Ptr) (number n : ℕ) (target : Block) (list : List Cell) → part_at others source (suc n) ≡ Ok list → live_block others number ≡ Some target → suc n ≤ size_of target → CopyFits others source number n target list
+pub copy_fits : (others : Blocks) (source : Ptr) (number n : ℕ) (target : Block) (list : List Cell) → part_at others source (suc n) ≡ Ok list → live_block others number ≡ Some target → suc n ≤ size_of target → CopyFits others source number n target list
 copy_fits others source number n target list found live inside =
     let to : Ptr = record { block = number; offset = 0 } in
     let read = read_live (live_block others source.block) (λ block. part_of block source.offset (suc n)) list found in
@@ -86,12 +87,13 @@ copy_fits others source number n target list found live inside =
     let lives = live-set_same others number (with_part target 0 list) (live_within others number target live) in
     record {
       after = after;
+      is = refl;
       done = done;
       live = lives;
       part = sym (ap (λ (slot : Option Block). live_read slot (λ block. part_of block 0 (suc n))) lives) ∙ (copy_stands others after source to (suc n) (omega arith) done ∙ found);
     }
 
-bytes_copied : (other : Held) (source to : Ptr) (count : ℕ) (beyond : Blocks) → after_copy other.blocks source to count ≡ Ok beyond → copy_of (Object source) (Object to) (Whole (pos count)) other ≡ Ok (record { value = tt; held = with_blocks beyond other })
+pub bytes_copied : (other : Held) (source to : Ptr) (count : ℕ) (beyond : Blocks) → after_copy other.blocks source to count ≡ Ok beyond → copy_of (Object source) (Object to) (Whole (pos count)) other ≡ Ok (record { value = tt; held = with_blocks beyond other })
 bytes_copied other source to zero beyond e =
     let same : other.blocks ≡ beyond = cc (e) in
     ap (λ m. Ok (record { value = tt; held = with_blocks m other })) same
@@ -206,7 +208,7 @@ pub record CopiesTemporary (x : Around) (number : ℕ) (ty : Ty) (size align : �
 
 module _ (x : Around) where
   -- the address of a temporary
-  temporary_address : (name : List ℕ) (one : LocalBlock) (ty : Ty) (world : World) → IsLocal x.frame name one → one.ty ≡ ty → GivesAt x.frame world (AddressOf (Local name)) (Pointer ty) (Object (record { block = one.block; offset = 0 }))
+  pub temporary_address : (name : List ℕ) (one : LocalBlock) (ty : Ty) (world : World) → IsLocal x.frame name one → one.ty ≡ ty → GivesAt x.frame world (AddressOf (Local name)) (Pointer ty) (Object (record { block = one.block; offset = 0 }))
   temporary_address name one ty world is ty_is =
       addresses x.frame world ty (Local name) (spot one.ty (Object (record { block = one.block; offset = 0 }))) (place_of_local x.frame name one world is) ty_is
 

@@ -1,4 +1,4 @@
-use Rattle.std.proofs.Common.{◌≡◌, ◌⊎◌, inl, inr, ℕ, ◌+◌, Bool, true, false, not, if◌then◌else◌, ◌&&◌, ◌||◌, ◌==◌, List, [], ◌∷◌, ◌++◌, length, Some, refl, sym, ap, subst, ◌∙◌, suc, ◌≤◌, arith, length-append}
+use Rattle.std.proofs.Common.{◌≡◌, ◌⊎◌, inl, inr, ℕ, ◌+◌, Bool, true, false, not, if◌then◌else◌, ◌&&◌, ◌||◌, ◌==◌, List, [], ◌∷◌, ◌++◌, length, Some, refl, sym, ap, subst, ◌∙◌, ◌≤◌}
 -- The expressions without calls, compound literals, stores in bit-fields and members of values: what is written for them does what they do.
 use Rattle.cr_base.specs.declared.layout.Spot.{Spot}
 use Rattle.cr_base.specs.declared.refusal.Place.{Place}
@@ -39,18 +39,17 @@ use Rattle.lift_does.specs.Covered.{IsCovered, IsCoveredForm, CoveredDoes}
 use Rattle.lift_does.specs.Does.{IsAsked, is_fixed}
 use Rattle.lift_exprs.specs.Lifted.{lifted, lifted_form, operand_of, Deciding, where_true, where_false, decided_written, Choice, chosen_written}
 use Rattle.lift_exprs.specs.Names.{Names, type_in}
-use Rattle.lift_exprs.specs.Objects.{object_at}
 use Rattle.lift_exprs.specs.Stores.{Target, a_scalar, a_structure, is_field, target_of, held_store, plain_store, old_value, stored, stored_value, Change, changed, changed_first, stepped, step_by_one, promoted_type, target_type}
-use Rattle.lift_exprs.specs.Written.{Written, Both, both, in_turn, place_of_given, NodeKind, a_value, a_record, a_place, lvalue_kind, value_kind, kind_in, held_type, held_where}
+use Rattle.lift_exprs.specs.Written.{Written, Both, both, in_turn, place_of_given, NodeKind, a_value, a_record, lvalue_kind, value_kind, kind_in, held_type, held_where}
 use Rattle.lift_forms.specs.Given.{Given}
 use Rattle.lift_forms.specs.Given as given_form
-use Rattle.lift_forms.specs.Operators.{Operand, given_value}
+use Rattle.lift_forms.specs.Operators.{Operand}
 use Rattle.lift_held.specs.Held.{is_void, is_record, is_lvalue, acts, is_lvalue_form, operand, operand_before, part_of, whole_of, holds_call, is_steady}
 use Rattle.lift_held.specs.declared.asked.Asked.{Asked}
 use Rattle.lift_stands.specs.Stands.{Images}
 use Rattle.rs_mean_frames.proofs.Framed.{all_behave}
 use Rattle.rs_mean_frames.specs.Behave.{BodiesBehave}
-use Rattle.rs_text.specs.Tree.{Ty, Place as RustPlace, Expr, Read}
+use Rattle.rs_text.specs.Tree.{Ty, Expr, Read}
 
 -- ---- the temporaries that are kept
 

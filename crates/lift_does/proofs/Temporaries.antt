@@ -72,7 +72,7 @@ scalar_laid modules (Record m x) laid kind e f = cc (e)
 
 -- ---- a value fits
 
-zero_aligned : (size align : ℕ) → 0 < size → align ≡ size → (0 % size == 0 && nat_le size align) ≡ true
+pub zero_aligned : (size align : ℕ) → 0 < size → align ≡ size → (0 % size == 0 && nat_le size align) ≡ true
 zero_aligned zero align some same = elim some [ ]
 zero_aligned (suc n) align some same =
     let none : 0 % suc n ≡ 0 = omega arith in
@@ -120,7 +120,7 @@ store_comes ty kind at value world after units kind_is put =
     ap (λ (k : Option Scalar). after_step world units (in_memory tt world.held (stored_as world.held.blocks true k (Object at) value))) kind_is
     ∙ ap (λ (found : Result Blocks Fault). after_step world units (in_memory tt world.held (or_cause cause_of found))) put
 
-assign_comes : (frame : Frame) (name : List ℕ) (one : LocalBlock) (kind : Scalar) (e : Expr) (from : Ty) (value : Value) (world : World) (after : Blocks) (units : ℕ) → IsLocal frame name one → scalar_of one.ty ≡ Some kind →
+pub assign_comes : (frame : Frame) (name : List ℕ) (one : LocalBlock) (kind : Scalar) (e : Expr) (from : Ty) (value : Value) (world : World) (after : Blocks) (units : ℕ) → IsLocal frame name one → scalar_of one.ty ≡ Some kind →
     GivesAt frame world e from value → after_put (blocks_of world) (record { block = one.block; offset = 0 }) kind value ≡ Ok after →
     run_stmt frame (Assign (Local name) e) world units ≡ came normal (with_held (with_blocks after world.held) world) units
 unfolding pure
