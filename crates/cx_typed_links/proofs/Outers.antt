@@ -204,13 +204,18 @@ module _ (units : List CUnit) (typed : AreTypedUnits units) where
         name_is = sym ((bytes_eq-Decides name found.thing.name).0 named.1);
       }
 
+  without_second : (first second third : Bool) → ((first && second) && third) ≡ true → (first && third) ≡ true
+  without_second true true third is = is
+  without_second true false third is = cc (is)
+  without_second false second third is = cc (is)
+
   declared_either : (name : List ℕ) (found : CFound COuter) (first : Option (CFound COuter)) → first_unit (prototyped_function name) 0 units ≡ first
       → or_other first (first_unit (declared_function name) 0 units) ≡ Some found → IsFirstDeclared units name found
   declared_either name found None is there =
       declared_by name found (is_named name) (λ known passes. passes) (first_is (declared_function name) 0 units found there)
   declared_either name found (Some one) is there =
       declared_by name found (λ known. (is_external known.linkage && is_prototype known) && bytes_eq name known.name)
-      (λ known passes. let parts = both passes in together_true (both parts.0).0 parts.1) (first_is (prototyped_function name) 0 units found (is ∙ there))
+      (λ known passes. without_second (is_external known.linkage) (is_prototype known) (bytes_eq name known.name) passes) (first_is (prototyped_function name) 0 units found (is ∙ there))
 
   pub first_declared : (name : List ℕ) (found : CFound COuter) → outer_of_name units name ≡ Some found → IsFirstDeclared units name found
   first_declared name found is = declared_either name found (first_unit (prototyped_function name) 0 units) refl is
