@@ -225,21 +225,19 @@ module _ (x : Around) where
 
   -- ---- a temporary, and then the bytes
 
-  pub bits_end : (used fixed : Bool) (type : CTy) (at : Place) (form : CForm) (one : Written) (from : ℕ) (images last : Images) (c0 w0 c2 w2 : World) (holder : Ty) (given : Given) (spot : Spot) (place : Ptr) (marks : Marks) (kind : Scalar) (number : ℤ) (e : Expr)
-      (found : CStored) (result_marks : Marks) → (st : StoredBits (blocks_of c2) place spot.bit spot.width marks (scalar (Whole number)) kind found) →
-      st.number ≡ number → IsValueOf kind st.of_c → At x images c0 w0 → Reached x from one.next images last c0 w0 c2 w2 → from ≤ one.next → last.in_bytes ≡ true → IsBitField spot → scalar_of (type_in x.names type) ≡ Some kind → (kind ≡ scalars.Truth → spot.width ≤ 1) →
+  pub bits_end : (used fixed : Bool) (type : CTy) (at : Place) (form : CForm) (one : Written) (from : ℕ) (images last : Images) (c0 w0 c2 w2 : World) (holder : Ty) (given : Given) (spot : Spot) (place : Ptr) (marks : Marks) (new : CValue) (kind : Scalar) (e : Expr)
+      (found : CStored) (result_marks : Marks) → (st : StoredBits (blocks_of c2) place spot.bit spot.width marks new kind found) → IsValueOf kind st.of_c → At x images c0 w0 → Reached x from one.next images last c0 w0 c2 w2 → from ≤ one.next → last.in_bytes ≡ true → IsBitField spot → scalar_of (type_in x.names type) ≡ Some kind → (kind ≡ scalars.Truth → spot.width ≤ 1) →
       x.kept.temporaries one.next ≡ Some (record { name = x.names.temporary one.next; ty = type_in x.names type }) →
       ((c_later later : World) → At x last c_later later → TemporariesStay x.kept x.frame one.next w2 later → KeepsObjects c2.held c_later.held → GivesBase last x.frame later holder given spot place) →
-      GivesAt x.frame w2 e (type_in x.names type) (Whole number) →
+      GivesAt x.frame w2 e (type_in x.names type) (Whole st.number) →
       OweAs x (DidOf x used fixed (expr type at form) (held_store x.names used (a_field (address_of_given given) spot (type_in x.names type)) e one) from images c0 w0)
       (came (record { type = type; value = found.value; marks = result_marks }) (with_memory found.blocks c2))
       (Assign (temporary_place x.names one.next) (settled used (a_field (address_of_given given) spot (type_in x.names type)) e) ∷ bit_write (address_of_given given) spot (Read (temporary_place x.names one.next))) w2
-  bits_end used fixed type at form one from images last c0 w0 c2 w2 holder given spot place marks kind number e found result_marks st number_is of_value here reached rises in_bytes is kind_is truth_width kept_is bases gives =
+  bits_end used fixed type at form one from images last c0 w0 c2 w2 holder given spot place marks new kind e found result_marks st of_value here reached rises in_bytes is kind_is truth_width kept_is bases gives =
       let target = type_in x.names type in
       let base_is = address_of_given given in
       let temporary = temporary_place x.names one.next in
-      let settle = settle_number used w2 target e base_is spot kind number st.of_c is kind_is truth_width gives (subst (λ (n : ℤ). IsValueOf kind (Whole n)) number_is st.of_kind)
-      (subst (λ (n : ℤ). field_value kind spot.width (residue n (2 ^ spot.width)) ≡ Ok st.of_c) number_is st.means) of_value in
+      let settle = settle_number used w2 target e base_is spot kind st.number st.of_c is kind_is truth_width gives st.of_kind st.means of_value in
       let first = settled used (a_field base_is spot target) e in
       let stored_it = stores_temporary x one.next target kind first target (Whole settle.settles) last c2 w2 reached.at kept_is kind_is settle.of_kind settle.gives in
       let w3 = stored_it.after in
@@ -250,7 +248,7 @@ module _ (x : Around) where
       bases (with_memory part c2) (with_held (with_blocks beyond w3.held) w3) midst.at (λ k kept_one local p kept_it is_local. beside k kept_one local p kept_it is_local ∙ stay k kept_one local p kept_it is_local) midst.keeps)
       (λ part beyond midst left.
       reads_staying x one.next (suc one.next) target kind (Whole settle.settles) w3 (with_held (with_blocks beyond w3.held) w3) (omega arith) stored_it.holds (temporaries_beside x (suc one.next) last c2 w3 part beyond stored_it.reached.at left))
-      (number_casts target kind settle.settles kind_is settle.of_kind) (st.again settle.settles (kind_of_number kind settle.settles settle.of_kind) (settle.low ∙ ap (λ (n : ℤ). residue n (2 ^ spot.width)) (sym number_is))) in
+      (number_casts target kind settle.settles kind_is settle.of_kind) (st.again settle.settles (kind_of_number kind settle.settles settle.of_kind) settle.low) in
       let after = with_held (with_blocks writes.beyond w3.held) w3 in
       let reached3 = reached_then x from one.next (suc one.next) images last last c0 w0 c2 w2 c2 w3 rises (omega arith) here reached stored_it.reached in
       let after_stay = temporaries_beside x (suc one.next) last c2 w3 found.blocks writes.beyond stored_it.reached.at writes.left in

@@ -3,6 +3,7 @@ pub mod Asking
 pub mod Assignments
 pub mod Binary
 pub mod BinaryTypes
+pub mod BitAssignments
 pub mod BitEnds
 pub mod BitLoads
 pub mod BitNodes
