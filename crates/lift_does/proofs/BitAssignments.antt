@@ -68,7 +68,7 @@ pub target_bits : (names_of : Names) (type own : CTy) (at : Place) (of : CExpr) 
     target_of names_of type (expr own at (member of spot)) given ≡ a_field (address_of_given given) spot (type_in names_of type)
 target_bits names_of type own at of spot given bits = rw (width_test spot.width bits) refl
 
-needed_is : (found : Option Scalar) (one : Scalar) → needed found ≡ Ok one → found ≡ Some one
+pub needed_is : (found : Option Scalar) (one : Scalar) → needed found ≡ Ok one → found ≡ Some one
 needed_is (Some other) one e = let same : other ≡ one = cc (e) in ap Some same
 needed_is None one e = cc (e)
 
@@ -162,6 +162,6 @@ module _ (x : Around) where
       let bases = base_at target value own here_at of spot there.0 from images mid last c0 w0 c1 w1 c2 w2 one other refl did there.1 more in
       let base = bases c2 w2 at2 (λ number kept_one local p is_kept is_local. refl) (objects_stay c2) in
       subst (λ (d : CDone). OweAs x Good (came (record { type = type; value = d.value; marks = d.marks }) (with_memory d.blocks c2)) rest w2) same
-      (bits_end x asked.used fixed type at (assign target value) (in_turn two given_form.nothing) from images last c0 w0 c2 w2 (type_in x.names (type_of of)) two.first.given spot there.0 node_is.0 other.value kind.0 e found.0 found.0.marks what (known.values what.number what.of_c what.means) here reached (omega (arith, rises, more))
+      (bits_end x asked.used fixed type at (assign target value) (in_turn two given_form.nothing) from images last c0 w0 c2 w2 (type_in x.names (type_of of)) two.first.given spot there.0 node_is.0 other.value kind.0 e found.0 found.0.value found.0.marks (λ is_used. refl) what (known.values what.number what.of_c what.means) here reached (omega (arith, rises, more))
       (bytes_there x last c2 w2 (type_of of) own spot at2 typed.1.0.2.1 (some_width spot.width bits))
       (profile_is x spot last there.0 base.base what.profile field_place.near base.below) (x.means.scalars type kind.0 kind_is) known.few kept_is bases number_gave)))))

@@ -9,6 +9,7 @@ pub mod BitLoads
 pub mod BitNodes
 pub mod BitPlaces
 pub mod BitStores
+pub mod BitUpdates
 pub mod Branches
 pub mod Choices
 pub mod Commas
