@@ -34,6 +34,7 @@ use Rattle.lift_does.proofs.Reaching.{reached_then, temporaries_stay}
 use Rattle.lift_does.proofs.RecordAssignments.{temporaries_beside}
 use Rattle.lift_does.proofs.Runs.{run_behind, step_owes, end_owes, same_events}
 use Rattle.lift_does.proofs.Sameness.{scalar_same, binary_same}
+use Rattle.lift_does.proofs.Steady.{SameSize, sizes_last}
 use Rattle.lift_does.proofs.Temporaries.{stores_temporary, reads_staying}
 use Rattle.lift_does.proofs.Updates.{ScalarConverted, scalar_conversion, scalar_void, IsOperator, IsComputed, computed_is, change_of, changed_gives, kept_type}
 use Rattle.lift_does.specs.Gives.{GivesBase, GivesScalar, GivesOperand}
@@ -182,3 +183,80 @@ module _ (x : Around) where
       let ends = bits_end x used fixed type at form one from images last c0 w0 c2 w2 holder given spot is.place what.marks (scalar what.value) is.kind new_e what.one result marks (λ is_used. what.result_is ∙ ap (λ (b : Bool). update_value b now.update.old what.one.value) (front is_used)) st (is.values st.number st.of_c st.means) here reached rises is.in_bytes
       (profile_is x spot last is.place base.base is.profile is.near base.below) (x.means.scalars type is.kind is.kind_is) is.few kept_is is.base gives in
       subst (λ (blocks : Blocks). OweAs x Good (came (record { type = type; value = result; marks = marks }) (with_memory blocks c2)) rest w2) (sym what.blocks_are) ends)
+
+  -- ---- behind its operand: the old value is given
+
+  -- what C computed it computes in the midst of the store
+  computed_again : (computes : CTy) (op : Op2) (of_right : CTyped) (c2 later : World) (old new : Value) → ((value : Value) → SameSize c2 later value) → IsComputed x computes op of_right (blocks_of c2) old new → IsComputed x computes op of_right (blocks_of later) old new
+  computed_again computes op of_right c2 later old new same is = record {
+    left = is.left;
+    left_is = record { kind = is.left_is.kind; kind_is = is.left_is.kind_is; found = scalar_same c2 later is.left_is.kind old (same old) ∙ is.left_is.found };
+    left_in = is.left_in;
+    found = binary_same c2 later (setting_in x.s) op computes computes of_right.type is.left of_right.value (same is.left) (same of_right.value) ∙ is.found;
+    new_in = is.new_in;
+  }
+
+  converted_again : (type : CTy) (c2 later : World) (old new : Value) → ((value : Value) → SameSize c2 later value) → ScalarConverted (setting_in x.s) type (blocks_of c2) old new → ScalarConverted (setting_in x.s) type (blocks_of later) old new
+  converted_again type c2 later old new same is = record { kind = is.kind; kind_is = is.kind_is; found = scalar_same c2 later is.kind old (same old) ∙ is.found }
+
+  pub bits_behind : (fixed : Bool) (type : CTy) (at : Place) (form : CForm) (one : Written) (list : List Stmt) (from : ℕ) (images last : Images) (c0 w0 c2 w2 : World) (holder : Ty) (given : Given) (spot : Spot) (right : Operand) (now : CUpdating) → At x images c0 w0 →
+      Reached x from one.next images last c0 w0 c2 w2 → from ≤ one.next → kept_type x one.next type → now.update.is_postfix ≡ true → BitsUpdating type now.update holder given spot right one.next last c2 w2 →
+      ((w : World) → OperandStands last x.frame w right now.update.right.value) →
+      OweAs x (DidOf x true fixed (expr type at form) (then_takes (type_in x.names type) list (given_form.value (Read (temporary_place x.names one.next))) one) from images c0 w0) (c_update (setting_in x.s) (scope x) at type now c2)
+      (Assign (temporary_place x.names one.next) (given_value (field_form (address_of_given given) spot (type_in x.names type)))
+      ∷ bit_write (address_of_given given) spot (bits_changed type now.update right (given_form.value (Read (temporary_place x.names one.next))))) w2
+  bits_behind fixed type at form one list from images last c0 w0 c2 w2 holder given spot right now here reached rises kept_is behind is rights =
+      let T = type_in x.names type in
+      let temporary = temporary_place x.names one.next in
+      let base_is = address_of_given given in
+      let old_form = field_form base_is spot T in
+      let first = given_value old_form in
+      let new_e = bits_changed type now.update right (given_form.value (Read temporary)) in
+      let rest = Assign temporary first ∷ bit_write base_is spot new_e in
+      let Good = DidOf x true fixed (expr type at form) (then_takes T list (given_form.value (Read temporary)) one) from images c0 w0 in
+      let kind_there_is = x.means.scalars type is.kind is.kind_is in
+      let old = old_bits type now.update holder given spot right one.next last c2 w2 reached.at is in
+      let old_v = value_gives last x.frame w2 (record { ty = T; given = old_form }) now.update.old old.stands in
+      let stored_it = stores_temporary x one.next T is.kind first T old_v.other last c2 w2 reached.at kept_is kind_there_is (given_in_range last is.kind now.update.old old_v.other old_v.below is.old_of_kind) old_v.gives in
+      let w3 = stored_it.after in
+      let stay = temporaries_stay x one.next (suc one.next) last last c2 w2 c2 w3 reached.at stored_it.reached in
+      bits_stages Good at type now rest holder given spot right one.next last c2 w2 reached.at is (λ result marks made what.
+      let st = bits_stored_is (blocks_of c2) is.place spot.bit spot.width what.marks (scalar what.value) is.kind what.one what.stores in
+      let base3 = is.base c2 w3 stored_it.reached.at stay (objects_stay c2) in
+      let writes = bits_written x last c2 w3 holder T given spot is.place what.marks is.kind st.number new_e what.one stored_it.reached.at is.in_bytes (profile_is x spot last is.place base3.base is.profile is.near base3.below) base3
+      (λ part beyond midst left.
+      let beside = temporaries_beside x one.next last c2 w3 part beyond stored_it.reached.at left in
+      is.base (with_memory part c2) (with_held (with_blocks beyond w3.held) w3) midst.at (λ k kept_one local p kept_it is_local. beside k kept_one local p kept_it is_local ∙ stay k kept_one local p kept_it is_local) midst.keeps)
+      (λ part beyond midst left.
+      let w4 = with_held (with_blocks beyond w3.held) w3 in
+      let same : (value : Value) → SameSize c2 (with_memory part c2) value = λ value.
+      sizes_last x.home.program false [] c2 (with_memory part c2) (scope x) value reached.at.typed.owned (midst.keeps, record { each = tt; shapes = midst.shapes }) (λ f. cc (f)) in
+      let reads_it = reads_staying x one.next (suc one.next) T is.kind old_v.other w3 w4 (omega arith) stored_it.holds (temporaries_beside x (suc one.next) last c2 w3 part beyond stored_it.reached.at left) in
+      let new_gave = changed_gives x last (with_memory part c2) w4 type now.update.computes now.update.op now.update.right right (given_form.value (Read temporary)) now.update.old what.new what.value midst.at is.operator is.old_in
+      (record { stands = record { other = old_v.other; gives = reads_it; below = old_v.below }; based = other_based x w4 (given_form.value (Read temporary)) (λ q e. cc (e)) }) (rights w4)
+      (computed_again now.update.computes now.update.op now.update.right c2 (with_memory part c2) now.update.old what.new same what.computed) (converted_again type c2 (with_memory part c2) what.new what.value same what.converted) in
+      stored_number last w4 new_e T what.value new_gave.other st.number st.new_is new_gave.below new_gave.gives)
+      (number_casts x T is.kind st.number kind_there_is st.of_kind)
+      (subst (λ (v : CValue). stored_bits (blocks_of c2) is.place spot.bit spot.width what.marks v is.kind ≡ Ok what.one) st.new_is what.stores) in
+      let after = with_held (with_blocks writes.beyond w3.held) w3 in
+      let reached3 = reached_then x from one.next (suc one.next) images last last c0 w0 c2 w2 c2 w3 rises (omega arith) here reached stored_it.reached in
+      let after_stay = temporaries_beside x (suc one.next) last c2 w3 what.one.blocks writes.beyond stored_it.reached.at writes.left in
+      let result_is : result ≡ scalar now.update.old = what.result_is ∙ ap (λ (b : Bool). update_value b now.update.old what.one.value) behind in
+      subst (λ (blocks : Blocks). OweAs x Good (came (record { type = type; value = result; marks = marks }) (with_memory blocks c2)) rest w2) (sym what.blocks_are)
+      (end_owes x Good (record { type = type; value = result; marks = marks }) rest (with_memory what.one.blocks c2) w2 after
+      (λ units. run_behind x.frame (Assign temporary first ∷ []) (bit_write base_is spot new_e) w2 w3 units (stored_it.comes units) ∙ writes.runs units) (record {
+        flow_is = refl;
+        later = last;
+        own = reached3.own;
+        are_own = reached3.are_own;
+        keeps = both_keep (length (blocks_of w0)) reached3.own images last last c0.held c2.held (with_blocks what.one.blocks c2.held) w0.held w3.held (with_blocks writes.beyond w3.held) here.worlds.held.memories.mapped
+            reached3.at.worlds.held.memories.mapped reached3.keeps (writes.left.keeps (length (blocks_of w0)) reached3.own);
+        worlds = worlds_held last last c2 w3 (with_blocks what.one.blocks c2.held) (with_blocks writes.beyond w3.held) reached3.at.worlds writes.left.stands;
+        gives = λ end c_later later is_later.
+            let reads_it = reads_staying x one.next (suc one.next) T is.kind old_v.other w3 later (omega arith) stored_it.holds
+            (λ k kept_one local p kept_it is_local. is_later.temporaries k kept_one local p kept_it is_local ∙ after_stay k kept_one local p kept_it is_local) in
+            subst (λ (v : CValue). GivesOperand x.s x.names end x.c_frame x.frame later (expr type at form) (given_form.value (Read temporary)) v) (sym result_is) (record {
+              stands = record { other = old_v.other; gives = reads_it; below = value_stays last end now.update.old old_v.other is_later.extends old_v.below };
+              based = other_based x later (given_form.value (Read temporary)) (λ q e. cc (e));
+            });
+      })))
