@@ -103,7 +103,7 @@ module _ (x : Around) where
       }
 
   -- the base is given wherever both have come
-  base_at : (target value : CExpr) (own : CTy) (here_at : Place) (of : CExpr) (spot : Spot) (place : Ptr) (from : ℕ) (images mid last : Images) (c0 w0 c1 w1 c2 w2 : World) (one other : COperand) → target ≡ expr own here_at (member of spot) →
+  pub base_at : (target value : CExpr) (own : CTy) (here_at : Place) (of : CExpr) (spot : Spot) (place : Ptr) (from : ℕ) (images mid last : Images) (c0 w0 c1 w1 c2 w2 : World) (one other : COperand) → target ≡ expr own here_at (member of spot) →
       TwoDid x true true target (pair_of x target value from).first true (is_fixed operand value) value (pair_of x target value from).second from images c0 w0 one other mid last c1 w1 c2 w2 → one.value ≡ designates_bits place spot.bit spot.width →
       (pair_of x target value from).first.next ≤ (pair_of x target value from).second.next → (c_later later : World) → At x last c_later later → TemporariesStay x.kept x.frame (pair_of x target value from).second.next w2 later → KeepsObjects c2.held c_later.held →
       GivesBase last x.frame later (type_in x.names (type_of of)) (pair_of x target value from).first.given spot place

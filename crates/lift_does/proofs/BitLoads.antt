@@ -162,7 +162,7 @@ bits_loaded_is blocks at bit width marks kind one e =
     }
 
 -- it is found again where its bits are the same
-loads_again : (blocks : Blocks) (at : Ptr) (bit width bits : ℕ) (kind : Scalar) (of_c : Value) → is_field_place bit width ≡ true → field_at blocks at bit width ≡ Ok bits → field_value kind width bits ≡ Ok of_c →
+pub loads_again : (blocks : Blocks) (at : Ptr) (bit width bits : ℕ) (kind : Scalar) (of_c : Value) → is_field_place bit width ≡ true → field_at blocks at bit width ≡ Ok bits → field_value kind width bits ≡ Ok of_c →
     loaded_bits blocks at bit width no_marks kind ≡ Ok (record { value = scalar of_c; marks = with_read (bits_of_field at bit width) no_marks })
 loads_again blocks at bit width bits kind of_c profile found means =
     let read = read_live (live_block blocks at.block) (λ block. block_field block at.offset bit width) bits found in

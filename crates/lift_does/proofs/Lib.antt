@@ -4,6 +4,7 @@ pub mod Assignments
 pub mod Binary
 pub mod BinaryTypes
 pub mod BitAssignments
+pub mod BitCompounds
 pub mod BitEnds
 pub mod BitLoads
 pub mod BitNodes
