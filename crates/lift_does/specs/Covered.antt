@@ -1,7 +1,7 @@
--- The part of the law that is proved: the expressions without calls, compound literals, stores in bit-fields, and members of values.
+-- The part of the law that is proved: the expressions without calls, compound literals, and members of values.
 use Rattle.std.specs.Prelude.{◌≡◌, ◌⊎◌, ℕ, true, false}
 use Rattle.cx_core.specs.Trees.{CExpr, expr, CForm, whole, null, object, code, load, deref, member, address, convert, unary, binary, and, or, cond, assign, assign_by, step, comma}
-use Rattle.cx_core.specs.Typing.{CHome, IsTyped, IsLvalue, is_bit_field}
+use Rattle.cx_core.specs.Typing.{CHome, IsTyped, IsLvalue}
 use Rattle.cx_typed_leftmost.specs.Laws.{CallsAreTyped}
 use Rattle.lift_calls.specs.Calls.{Promise}
 use Rattle.lift_calls.specs.Frames.{FunctionNames, NamesApart}
@@ -31,9 +31,9 @@ abbrev mutual
   IsCoveredForm (convert value) = IsCovered value
   IsCoveredForm (unary op value) = IsCovered value
   IsCoveredForm (binary op left right) = IsCovered left × IsCovered right
-  IsCoveredForm (assign target value) = (is_bit_field target ≡ false) × IsCovered target × IsCovered value
-  IsCoveredForm (assign_by op computes target value) = (is_bit_field target ≡ false) × IsCovered target × IsCovered value
-  IsCoveredForm (step up post on) = (is_bit_field on ≡ false) × IsCovered on
+  IsCoveredForm (assign target value) = IsCovered target × IsCovered value
+  IsCoveredForm (assign_by op computes target value) = IsCovered target × IsCovered value
+  IsCoveredForm (step up post on) = IsCovered on
   IsCoveredForm (comma first second) = IsCovered first × IsCovered second
   IsCoveredForm (and left right) = IsCovered left × IsCovered right
   IsCoveredForm (or left right) = IsCovered left × IsCovered right
