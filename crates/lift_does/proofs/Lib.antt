@@ -1,3 +1,4 @@
+pub mod Alignments
 pub mod Around
 pub mod Asking
 pub mod Assignments
