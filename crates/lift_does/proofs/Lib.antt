@@ -45,5 +45,6 @@ pub mod Taken
 pub mod Temporaries
 pub mod Types
 pub mod Unary
+pub mod ValueMembers
 pub mod Updates
 pub mod Used

@@ -182,7 +182,7 @@ module _ (x : Around) where
   scalar_based blocks (Array element size) kind at e = cc
   scalar_based blocks (Record m y) kind at e = cc (e)
 
-  load_comes : (world : World) (p : RustPlace) (spot : Spot) (one : Ty) (kind : Scalar) (to : Ptr) (other : Value) → GivesPlace x.frame world p spot → spot.ty ≡ one → spot.at ≡ Object to → spot.is_based ≡ true → scalar_of one ≡ Some kind →
+  pub load_comes : (world : World) (p : RustPlace) (spot : Spot) (one : Ty) (kind : Scalar) (to : Ptr) (other : Value) → GivesPlace x.frame world p spot → spot.ty ≡ one → spot.at ≡ Object to → spot.is_based ≡ true → scalar_of one ≡ Some kind →
       value_at (blocks_of world) to kind ≡ Ok other → GivesAt x.frame world (Read p) one other
   load_comes world p spot one kind to other gives ty_is at_is based_is kind_is found = record {
     runs = λ units. seq_is (run_place x.frame p) rust_load world units spot (gives.runs units)

@@ -109,6 +109,7 @@ module _ (x : Around) where
                 below = cells_stay images last list holds.cells extends holds.below;
               };
               based = keeps_based x number (type_in x.names type) is.laid.size is.laid.align holds.cells later kept_it;
+              form = (_, refl);
             };
       }
   record_taken part missing given number images c_world world at typed of_record (inr is) kept_is gave =
