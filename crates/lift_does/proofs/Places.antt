@@ -173,7 +173,7 @@ module _ (x : Around) where
   -- ---- loads
 
   -- what a scalar lvalue is based on is the place itself
-  scalar_based : (blocks : Blocks) (one : Ty) (kind : Scalar) (at : Value) → scalar_of one ≡ Some kind → is_base x.frame.modules blocks one at ≡ true
+  pub scalar_based : (blocks : Blocks) (one : Ty) (kind : Scalar) (at : Value) → scalar_of one ≡ Some kind → is_base x.frame.modules blocks one at ≡ true
   scalar_based blocks (Integer which) kind at e = refl
   scalar_based blocks Boolean kind at e = refl
   scalar_based blocks (Pointer target) kind at e = refl

@@ -53,7 +53,7 @@ clash : (b : Bool) → b ≡ true → b ≡ false → ⊥
 clash b one other = let both : true ≡ false = sym one ∙ other in cc (both)
 
 module _ (x : Around) where
-  record_there : (type : CTy) (laid : Laid) → extent_in (setting_of x.home.program) type ≡ Some laid → extent_in (setting_in x.s) type ≡ Some laid
+  pub record_there : (type : CTy) (laid : Laid) → extent_in (setting_of x.home.program) type ≡ Some laid → extent_in (setting_in x.s) type ≡ Some laid
   record_there type laid e = subst (λ (program : CProgram). extent_in (setting_of program) type ≡ Some laid) x.means.program e
 
   to_room : (world : World) (type : CTy) (given : Given) → is_record type ≡ true → GivesRoom x.frame world (type_in x.names type) (x.names.size_of type) given → GivesMissing x.names x.frame world type given
