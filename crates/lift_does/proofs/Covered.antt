@@ -1,4 +1,4 @@
--- The expressions without calls, compound literals and members of values: what is written for them does what they do.
+-- The expressions without calls and compound literals: what is written for them does what they do.
 use Rattle.std.proofs.Common.{◌≡◌, ◌⊎◌, inl, inr, ℕ, suc, ◌+◌, ◌≤◌, Bool, true, false, not, if◌then◌else◌, ◌&&◌, ◌||◌, ◌==◌, List, [], ◌∷◌, ◌++◌, length, Some, refl, sym, ap, subst, ◌∙◌, arith, length-append}
 use Rattle.cr_base.specs.declared.layout.Spot.{Spot}
 use Rattle.cr_base.specs.declared.refusal.Place.{Place}
@@ -6,6 +6,9 @@ use Rattle.cr_world.specs.World.{World}
 use Rattle.cx_core.specs.Trees.{CTy, ty, CTyForm, CExpr, expr, CForm, whole, null, object, code, load, deref, member, address, convert, unary, binary, and, or, cond, assign, assign_by, step, call, call_by, comma, literal, type_of}
 use Rattle.cx_core.specs.Typing.{CHome, IsTyped, IsLvalue, is_bit_field, width_of}
 use Rattle.cx_core.specs.Conversions.{promoted}
+use Rattle.cx_core.specs.Trees.{CTypes, CMember, void, basic, enum_type, pointer, array, record_type, function, form_of_type}
+use Rattle.cx_core.specs.ValidTypes.{member_of}
+use Rattle.lift_does.proofs.ValueMembers.{value_member_owes}
 use Rattle.cx_core.specs.declared.expr.Op2.{Op2}
 use Rattle.cx_typed_work.proofs.Computing.{assigned_binary}
 use Rattle.lift_does.proofs.CompoundAssignments.{assign_by_owes}
@@ -162,8 +165,15 @@ used_part asked e plainly has = record { used = λ _. has; base = λ same. let c
 used_base : (asked : Asked) (e : CExpr) → asked.used ≡ true → is_void (type_of e) ≡ false → IsAsked asked e
 used_base asked e used has = record { used = λ _. has; base = λ _. used }
 
-clashing : (b : Bool) → b ≡ true → b ≡ false → ⊥
-clashing b one other = let clash : true ≡ false = sym one ∙ other in cc (clash)
+-- what has a member has a value
+holder_has : (types : CTypes) (holder : CTy) (index : ℕ) (one : CMember) → member_of types (form_of_type holder) index ≡ Some one → is_void holder ≡ false
+holder_has types (ty void is_const) index one e = cc (e)
+holder_has types (ty (basic which) is_const) index one e = refl
+holder_has types (ty (enum_type number) is_const) index one e = refl
+holder_has types (ty (pointer to) is_const) index one e = refl
+holder_has types (ty (array element length) is_const) index one e = refl
+holder_has types (ty (record_type number) is_const) index one e = refl
+holder_has types (ty (function result params variadic) is_const) index one e = refl
 
 no_truth : false ≡ true → ⊥
 no_truth e = cc (e)
@@ -461,7 +471,7 @@ module _ (x : Around) where
     target_does : (asked : Asked) (e : CExpr) (from : ℕ) → IsAsked asked e → AreKeptFrom x.names x.kept from (lifted x.names asked e from).temporaries → IsLvalue x.home e → IsCovered e → is_bit_field e ≡ true → FixedAnywhere asked e from
     target_does asked (expr type at (member of spot)) from asked_is are typed is bits = λ images c w here.
         target_owes asked type at of spot from asked_is are typed bits images c w here (λ own.
-        base_does (whole_of spot) of from (used_base (whole_of spot) of refl (lvalue_has x of typed.2.0)) own typed.2.0 is.1 bits images c w here (holder_plain x.home type of spot here.typed.scene.linked.types typed.2.0 typed.2.1))
+        base_does (whole_of spot) of from (used_base (whole_of spot) of refl (lvalue_has x of typed.2.0)) own typed.2.0 is bits images c w here (holder_plain x.home type of spot here.typed.scene.linked.types typed.2.0 typed.2.1))
     target_does asked (expr type at other) from asked_is are typed is bits = absurd (no_truth bits)
 
     expr_does : (asked : Asked) (e : CExpr) (from : ℕ) → IsAsked asked e → AreKeptFrom x.names x.kept from (lifted x.names asked e from).temporaries → IsTyped x.home e ⊎ IsLvalue x.home e → IsCovered e → OwesAnywhere asked e from
@@ -482,7 +492,7 @@ module _ (x : Around) where
         (expr_does operand of from (used_part operand of refl (ap is_void typed.2.1.pointer_is)) are (inl typed.2.0) is images c w here)
     form_does asked type at (member of spot) from asked_is are (inr typed) is = λ images c w here.
         member_any asked type at of spot from images c w here typed (rises (lifted x.names (whole_of spot) of from) from (numbered x.names (whole_of spot) of from))
-        (expr_does (whole_of spot) of from (used_base (whole_of spot) of refl (lvalue_has x of typed.2.0)) are (inr typed.2.0) is.1 images c w here)
+        (expr_does (whole_of spot) of from (used_base (whole_of spot) of refl (lvalue_has x of typed.2.0)) are (inr typed.2.0) is images c w here)
     form_does asked type at (address of) from asked_is are (inl typed) is = λ images c w here.
         address_owes x asked type at of from images c w here typed (address_kind x type of typed.1.0 typed.1.1) (rises (lifted x.names operand of from) from (numbered x.names operand of from))
         (expr_does operand of from (used_part operand of refl (lvalue_has x of typed.1.0)) are (inr typed.1.0) is images c w here)
@@ -538,7 +548,9 @@ module _ (x : Around) where
     form_does asked type at (comma first second) from asked_is are (inr typed) is = absurd typed.2
     form_does asked type at (object number) from asked_is are (inl typed) is = absurd typed.1
     form_does asked type at (deref of) from asked_is are (inl typed) is = absurd typed.1
-    form_does asked type at (member of spot) from asked_is are (inl typed) is = absurd (clashing (is_lvalue of) is.0 (typed_no_lvalue x.home of typed.1.0))
+    form_does asked (ty form is_const) at (member of spot) from asked_is are (inl typed) is = λ images c w here.
+        value_member_owes x asked form is_const at of spot from images c w here typed (typed_no_lvalue x.home of typed.1.0) (rises (lifted x.names (whole_of spot) of from) from (numbered x.names (whole_of spot) of from))
+        (expr_does (whole_of spot) of from (used_base (whole_of spot) of refl (holder_has x.home.program.types (type_of of) typed.1.1.member.index typed.1.1.member.one typed.1.1.member.member_is)) are (inl typed.1.0) is images c w here)
     form_does asked type at (and left right) from asked_is are (inl typed) is = λ images c w here.
         let two = operands_of x.names left right from in
         let first_count = numbered x.names operand left from in

@@ -1,5 +1,5 @@
--- The part of the law that is proved: the expressions without calls, compound literals, and members of values.
-use Rattle.std.specs.Prelude.{◌≡◌, ◌⊎◌, ℕ, true, false}
+-- The part of the law that is proved: the expressions without calls and compound literals.
+use Rattle.std.specs.Prelude.{◌⊎◌, ℕ}
 use Rattle.cx_core.specs.Trees.{CExpr, expr, CForm, whole, null, object, code, load, deref, member, address, convert, unary, binary, and, or, cond, assign, assign_by, step, comma}
 use Rattle.cx_core.specs.Typing.{CHome, IsTyped, IsLvalue}
 use Rattle.cx_typed_leftmost.specs.Laws.{CallsAreTyped}
@@ -10,7 +10,6 @@ use Rattle.lift_does.specs.Agree.{NamesMean, AreKeptFrom}
 use Rattle.lift_does.specs.Does.{IsAsked, Does}
 use Rattle.lift_exprs.specs.Lifted.{lifted}
 use Rattle.lift_exprs.specs.Names.{Names}
-use Rattle.lift_held.specs.Held.{is_lvalue}
 use Rattle.lift_held.specs.declared.asked.Asked.{Asked}
 
 -- ---- what is covered
@@ -26,7 +25,7 @@ abbrev mutual
   IsCoveredForm (code number) = Unit {0}
   IsCoveredForm (load from) = IsCovered from
   IsCoveredForm (deref from) = IsCovered from
-  IsCoveredForm (member of spot) = (is_lvalue of ≡ true) × IsCovered of
+  IsCoveredForm (member of spot) = IsCovered of
   IsCoveredForm (address of) = IsCovered of
   IsCoveredForm (convert value) = IsCovered value
   IsCoveredForm (unary op value) = IsCovered value
