@@ -103,20 +103,28 @@ module _ (x : Around) where
           (λ of_c last c1 w1 there given gave. record_taken x (expr type at form) of_c one.given one.next last c1 w1 there typed r given (kept_is e) gave) owes)
 
   -- an lvalue that is no bit-field
-  pub place_node : (asked : Asked) (type : CTy) (at : Place) (form : CForm) (p : RustPlace) (from : ℕ) (images : Images) (c0 w0 : World) → At x images c0 w0 → IsLvalue x.home (expr type at form) → is_bit_field (expr type at form) ≡ false →
-      (lifted_form x.names asked type form from).given ≡ given_form.place p → IsAsked asked (expr type at form) → from ≤ (lifted_form x.names asked type form from).next →
+  pub place_node_as : (asked : Asked) (fixed more : Bool) (type : CTy) (at : Place) (form : CForm) (p : RustPlace) (from : ℕ) (images : Images) (c0 w0 : World) → At x images c0 w0 → IsLvalue x.home (expr type at form) → is_bit_field (expr type at form) ≡ false →
+      (lifted_form x.names asked type form from).given ≡ given_form.place p → IsAsked asked (expr type at form) → (asked.used ≡ true → more ≡ true → held_test asked type form ≡ false → fixed ≡ true) → from ≤ (lifted_form x.names asked type form from).next →
       (held_test asked type form ≡ true → x.kept.temporaries (lifted_form x.names asked type form from).next ≡ Some (record { name = x.names.temporary (lifted_form x.names asked type form from).next; ty = Pointer (type_in x.names type) })) →
-      FormOwes x asked type at form from images c0 w0 → ExprOwes x asked (expr type at form) from images c0 w0
-  place_node asked type at form p from images c0 w0 here typed plainly given_is asked_is rises kept_is owes = by (held_test asked type form) refl
+      PartOwes x asked.used fixed (expr type at form) (lifted_form x.names asked type form from) from images c0 w0 →
+      PartOwes x asked.used more (expr type at form) (held_where (held_test asked type form) x.names (kind_in x.names type form) (lifted_form x.names asked type form from)) from images c0 w0
+  place_node_as asked fixed more type at form p from images c0 w0 here typed plainly given_is asked_is lasts rises kept_is owes = by (held_test asked type form) refl
     where
       kind_is : kind_in x.names type form ≡ a_place (type_in x.names type)
       kind_is = rw (lvalue_is x.home (expr type at form) typed) (place_kind_is x.names type at form plainly)
 
       by : (test : Bool) → held_test asked type form ≡ test →
-          PartOwes x asked.used (is_fixed asked (expr type at form)) (expr type at form) (held_where test x.names (kind_in x.names type form) (lifted_form x.names asked type form from)) from images c0 w0
-      by false e = not_held x asked.used (form_fixed type form) (is_fixed asked (expr type at form)) (expr type at form) (lifted_form x.names asked type form from) from images c0 w0
-          (λ used lasts. held_fixed asked type at form used lasts e) owes
+          PartOwes x asked.used more (expr type at form) (held_where test x.names (kind_in x.names type form) (lifted_form x.names asked type form from)) from images c0 w0
+      by false e = not_held x asked.used fixed more (expr type at form) (lifted_form x.names asked type form from) from images c0 w0
+          (λ used same. lasts used same e) owes
       by true e =
           let used = held_used asked type form asked_is.base e in
-          subst (λ (kind : NodeKind). PartOwes x asked.used (is_fixed asked (expr type at form)) (expr type at form) (then_held x.names kind (lifted_form x.names asked type form from)) from images c0 w0) (sym kind_is)
-          (place_held x asked.used (form_fixed type form) (is_fixed asked (expr type at form)) (expr type at form) (lifted_form x.names asked type form from) p from images c0 w0 here typed plainly given_is used rises (kept_is e) owes)
+          subst (λ (kind : NodeKind). PartOwes x asked.used more (expr type at form) (then_held x.names kind (lifted_form x.names asked type form from)) from images c0 w0) (sym kind_is)
+          (place_held x asked.used fixed more (expr type at form) (lifted_form x.names asked type form from) p from images c0 w0 here typed plainly given_is used rises (kept_is e) owes)
+
+  pub place_node : (asked : Asked) (type : CTy) (at : Place) (form : CForm) (p : RustPlace) (from : ℕ) (images : Images) (c0 w0 : World) → At x images c0 w0 → IsLvalue x.home (expr type at form) → is_bit_field (expr type at form) ≡ false →
+      (lifted_form x.names asked type form from).given ≡ given_form.place p → IsAsked asked (expr type at form) → from ≤ (lifted_form x.names asked type form from).next →
+      (held_test asked type form ≡ true → x.kept.temporaries (lifted_form x.names asked type form from).next ≡ Some (record { name = x.names.temporary (lifted_form x.names asked type form from).next; ty = Pointer (type_in x.names type) })) →
+      FormOwes x asked type at form from images c0 w0 → ExprOwes x asked (expr type at form) from images c0 w0
+  place_node asked type at form p from images c0 w0 here typed plainly given_is asked_is rises kept_is owes =
+      place_node_as asked (form_fixed type form) (is_fixed asked (expr type at form)) type at form p from images c0 w0 here typed plainly given_is asked_is (λ used lasts not_it. held_fixed asked type at form used lasts not_it) rises kept_is owes

@@ -193,7 +193,7 @@ module _ (x : Around) where
   settle_number true world (Array element size) e base spot kind number of_c is kind_is truth_width gives of_kind means of_value = cc (kind_is)
   settle_number true world (Record m y) e base spot kind number of_c is kind_is truth_width gives of_kind means of_value = cc (kind_is)
 
-  number_casts : (target : Ty) (kind : Scalar) (n : ℤ) → scalar_of target ≡ Some kind → IsValueOf kind (Whole n) → casts target (Integer U64) ≡ true
+  pub number_casts : (target : Ty) (kind : Scalar) (n : ℤ) → scalar_of target ≡ Some kind → IsValueOf kind (Whole n) → casts target (Integer U64) ≡ true
   number_casts (Integer which) kind n e is = refl
   number_casts Boolean kind n e is = refl
   number_casts (Pointer to) kind n e is = let same : scalars.Object ≡ kind = cc (e) in absurd (subst (λ (k : Scalar). IsValueOf k (Whole n)) (sym same) is)
@@ -205,7 +205,7 @@ module _ (x : Around) where
   -- ---- the bytes
 
   -- what both have behind it
-  bits_written : (last : Images) (c_world world : World) (holder target : Ty) (given : Given) (spot : Spot) (place : Ptr) (marks : Marks) (kind : Scalar) (number : ℤ) (s : Expr) (found : CStored) → At x last c_world world → last.in_bytes ≡ true → IsBitField spot →
+  pub bits_written : (last : Images) (c_world world : World) (holder target : Ty) (given : Given) (spot : Spot) (place : Ptr) (marks : Marks) (kind : Scalar) (number : ℤ) (s : Expr) (found : CStored) → At x last c_world world → last.in_bytes ≡ true → IsBitField spot →
       (base : GivesBase last x.frame world holder given spot place) → ((part beyond : Blocks) → Midst x last c_world world part beyond → LeftStanding last c_world.held world.held part beyond → GivesBase last x.frame (with_held (with_blocks beyond world.held) world) holder given spot place) →
       ((part beyond : Blocks) → Midst x last c_world world part beyond → LeftStanding last c_world.held world.held part beyond → GivesAt x.frame (with_held (with_blocks beyond world.held) world) s target (Whole number)) →
       casts target (Integer U64) ≡ true → stored_bits (blocks_of c_world) place spot.bit spot.width marks (scalar (Whole number)) kind ≡ Ok found →
@@ -224,21 +224,19 @@ module _ (x : Around) where
 
   -- ---- a temporary, and then the bytes
 
-  pub bits_end : (used fixed : Bool) (type : CTy) (at : Place) (form : CForm) (one : Written) (from : ℕ) (images last : Images) (c0 w0 c2 w2 : World) (holder : Ty) (given : Given) (spot : Spot) (place : Ptr) (marks : Marks) (kind : Scalar) (number : ℤ) (e : Expr)
-      (found : CStored) (result_marks : Marks) → (st : StoredBits (blocks_of c2) place spot.bit spot.width marks (scalar (Whole number)) kind found) →
-      st.number ≡ number → IsValueOf kind st.of_c → At x images c0 w0 → Reached x from one.next images last c0 w0 c2 w2 → from ≤ one.next → last.in_bytes ≡ true → IsBitField spot → scalar_of (type_in x.names type) ≡ Some kind → (kind ≡ scalars.Truth → spot.width ≤ 1) →
+  pub bits_end : (used fixed : Bool) (type : CTy) (at : Place) (form : CForm) (one : Written) (from : ℕ) (images last : Images) (c0 w0 c2 w2 : World) (holder : Ty) (given : Given) (spot : Spot) (place : Ptr) (marks : Marks) (new : CValue) (kind : Scalar) (e : Expr)
+      (found : CStored) (result : CValue) (result_marks : Marks) → (used ≡ true → result ≡ found.value) → (st : StoredBits (blocks_of c2) place spot.bit spot.width marks new kind found) → IsValueOf kind st.of_c → At x images c0 w0 → Reached x from one.next images last c0 w0 c2 w2 → from ≤ one.next → last.in_bytes ≡ true → IsBitField spot → scalar_of (type_in x.names type) ≡ Some kind → (kind ≡ scalars.Truth → spot.width ≤ 1) →
       x.kept.temporaries one.next ≡ Some (record { name = x.names.temporary one.next; ty = type_in x.names type }) →
       ((c_later later : World) → At x last c_later later → TemporariesStay x.kept x.frame one.next w2 later → KeepsObjects c2.held c_later.held → GivesBase last x.frame later holder given spot place) →
-      GivesAt x.frame w2 e (type_in x.names type) (Whole number) →
+      GivesAt x.frame w2 e (type_in x.names type) (Whole st.number) →
       OweAs x (DidOf x used fixed (expr type at form) (held_store x.names used (a_field (address_of_given given) spot (type_in x.names type)) e one) from images c0 w0)
-      (came (record { type = type; value = found.value; marks = result_marks }) (with_memory found.blocks c2))
+      (came (record { type = type; value = result; marks = result_marks }) (with_memory found.blocks c2))
       (Assign (temporary_place x.names one.next) (settled used (a_field (address_of_given given) spot (type_in x.names type)) e) ∷ bit_write (address_of_given given) spot (Read (temporary_place x.names one.next))) w2
-  bits_end used fixed type at form one from images last c0 w0 c2 w2 holder given spot place marks kind number e found result_marks st number_is of_value here reached rises in_bytes is kind_is truth_width kept_is bases gives =
+  bits_end used fixed type at form one from images last c0 w0 c2 w2 holder given spot place marks new kind e found result result_marks result_is st of_value here reached rises in_bytes is kind_is truth_width kept_is bases gives =
       let target = type_in x.names type in
       let base_is = address_of_given given in
       let temporary = temporary_place x.names one.next in
-      let settle = settle_number used w2 target e base_is spot kind number st.of_c is kind_is truth_width gives (subst (λ (n : ℤ). IsValueOf kind (Whole n)) number_is st.of_kind)
-      (subst (λ (n : ℤ). field_value kind spot.width (residue n (2 ^ spot.width)) ≡ Ok st.of_c) number_is st.means) of_value in
+      let settle = settle_number used w2 target e base_is spot kind st.number st.of_c is kind_is truth_width gives st.of_kind st.means of_value in
       let first = settled used (a_field base_is spot target) e in
       let stored_it = stores_temporary x one.next target kind first target (Whole settle.settles) last c2 w2 reached.at kept_is kind_is settle.of_kind settle.gives in
       let w3 = stored_it.after in
@@ -249,11 +247,11 @@ module _ (x : Around) where
       bases (with_memory part c2) (with_held (with_blocks beyond w3.held) w3) midst.at (λ k kept_one local p kept_it is_local. beside k kept_one local p kept_it is_local ∙ stay k kept_one local p kept_it is_local) midst.keeps)
       (λ part beyond midst left.
       reads_staying x one.next (suc one.next) target kind (Whole settle.settles) w3 (with_held (with_blocks beyond w3.held) w3) (omega arith) stored_it.holds (temporaries_beside x (suc one.next) last c2 w3 part beyond stored_it.reached.at left))
-      (number_casts target kind settle.settles kind_is settle.of_kind) (st.again settle.settles (kind_of_number kind settle.settles settle.of_kind) (settle.low ∙ ap (λ (n : ℤ). residue n (2 ^ spot.width)) (sym number_is))) in
+      (number_casts target kind settle.settles kind_is settle.of_kind) (st.again settle.settles (kind_of_number kind settle.settles settle.of_kind) settle.low) in
       let after = with_held (with_blocks writes.beyond w3.held) w3 in
       let reached3 = reached_then x from one.next (suc one.next) images last last c0 w0 c2 w2 c2 w3 rises (omega arith) here reached stored_it.reached in
       let after_stay = temporaries_beside x (suc one.next) last c2 w3 found.blocks writes.beyond stored_it.reached.at writes.left in
-      end_owes x (DidOf x used fixed (expr type at form) (held_store x.names used (a_field base_is spot target) e one) from images c0 w0) (record { type = type; value = found.value; marks = result_marks })
+      end_owes x (DidOf x used fixed (expr type at form) (held_store x.names used (a_field base_is spot target) e one) from images c0 w0) (record { type = type; value = result; marks = result_marks })
       (Assign temporary first ∷ bit_write base_is spot (Read temporary)) (with_memory found.blocks c2) w2 after
       (λ units. run_behind x.frame (Assign temporary first ∷ []) (bit_write base_is spot (Read temporary)) w2 w3 units (stored_it.comes units) ∙ writes.runs units) (record {
         flow_is = refl;
@@ -263,10 +261,10 @@ module _ (x : Around) where
         keeps = both_keep (length (blocks_of w0)) reached3.own images last last c0.held c2.held (with_blocks found.blocks c2.held) w0.held w3.held (with_blocks writes.beyond w3.held) here.worlds.held.memories.mapped reached3.at.worlds.held.memories.mapped
             reached3.keeps (writes.left.keeps (length (blocks_of w0)) reached3.own);
         worlds = worlds_held last last c2 w3 (with_blocks found.blocks c2.held) (with_blocks writes.beyond w3.held) reached3.at.worlds writes.left.stands;
-        gives = λ end c_later later is_later. where_used used x end later (expr type at form) (given_where used (Read temporary)) found.value (λ is_used.
+        gives = λ end c_later later is_later. where_used used x end later (expr type at form) (given_where used (Read temporary)) result (λ is_used.
             let reads_it = reads_staying x one.next (suc one.next) target kind (Whole settle.settles) w3 later (omega arith) stored_it.holds
             (λ k kept_one local p kept_it is_local. is_later.temporaries k kept_one local p kept_it is_local ∙ after_stay k kept_one local p kept_it is_local) in
-            subst (λ (v : CValue). GivesOperand x.s x.names end x.c_frame x.frame later (expr type at form) (given_where used (Read temporary)) v) (sym (st.value_is ∙ ap scalar (settle.value_is is_used)))
+            subst (λ (v : CValue). GivesOperand x.s x.names end x.c_frame x.frame later (expr type at form) (given_where used (Read temporary)) v) (sym (result_is is_used ∙ (st.value_is ∙ ap scalar (settle.value_is is_used))))
             (subst (λ (u : Bool). GivesOperand x.s x.names end x.c_frame x.frame later (expr type at form) (given_where u (Read temporary)) (scalar (Whole settle.settles))) (sym is_used) (record {
               stands = record { other = Whole settle.settles; gives = reads_it; below = ValueBelow.same_number settle.settles };
               based = other_based x later (given_form.value (Read temporary)) (λ q same. cc (same));

@@ -159,7 +159,7 @@ bits_loaded_is blocks at bit width marks kind one e =
     }
 
 -- it is found again where its bits are the same
-loads_again : (blocks : Blocks) (at : Ptr) (bit width bits : ℕ) (kind : Scalar) (of_c : Value) → is_field_place bit width ≡ true → field_at blocks at bit width ≡ Ok bits → field_value kind width bits ≡ Ok of_c →
+pub loads_again : (blocks : Blocks) (at : Ptr) (bit width bits : ℕ) (kind : Scalar) (of_c : Value) → is_field_place bit width ≡ true → field_at blocks at bit width ≡ Ok bits → field_value kind width bits ≡ Ok of_c →
     loaded_bits blocks at bit width no_marks kind ≡ Ok (record { value = scalar of_c; marks = with_read (bits_of_field at bit width) no_marks })
 loads_again blocks at bit width bits kind of_c profile found means =
     let read = read_live (live_block blocks at.block) (λ block. block_field block at.offset bit width) bits found in
@@ -243,7 +243,7 @@ kind_same found one other e f = let same : Some one ≡ Some other = sym e ∙ f
 
 module _ (x : Around) where
   -- the number that bytes give is given as a value of the declared type
-  read_stands : (images : Images) (c_world world : World) (base : Expr) (spot : Spot) (one : Ty) (kind : Scalar) (number : ℤ) → At x images c_world world → scalar_of one ≡ Some kind → IsValueOf kind (Whole number) →
+  pub read_stands : (images : Images) (c_world world : World) (base : Expr) (spot : Spot) (one : Ty) (kind : Scalar) (number : ℤ) → At x images c_world world → scalar_of one ≡ Some kind → IsValueOf kind (Whole number) →
       GivesAt x.frame world (bit_read base spot (has_sign kind)) (Integer (read_type (has_sign kind))) (Whole number) → GivenStands images x.frame world one (field_form base spot one) (Whole number)
   read_stands images c_world world base spot (Integer which) kind number at kind_is of_kind gives =
       let same : integer_scalar which ≡ kind = cc (kind_is) in
@@ -269,7 +269,7 @@ module _ (x : Around) where
   read_stands images c_world world base spot (Array element size) kind number at kind_is of_kind gives = cc (kind_is)
   read_stands images c_world world base spot (Record m y) kind number at kind_is of_kind gives = cc (kind_is)
 
-  field_no_pointer : (one : Ty) (kind : Scalar) (width bits : ℕ) (of_c : Value) → scalar_of one ≡ Some kind → field_value kind width bits ≡ Ok of_c → is_pointer one ≡ false
+  pub field_no_pointer : (one : Ty) (kind : Scalar) (width bits : ℕ) (of_c : Value) → scalar_of one ≡ Some kind → field_value kind width bits ≡ Ok of_c → is_pointer one ≡ false
   field_no_pointer (Pointer target) kind width bits of_c e means = let same : scalars.Object ≡ kind = cc (e) in let odd = subst (λ (k : Scalar). field_value k width bits ≡ Ok of_c) (sym same) means in cc (odd)
   field_no_pointer (Integer which) kind width bits of_c e means = refl
   field_no_pointer Boolean kind width bits of_c e means = refl

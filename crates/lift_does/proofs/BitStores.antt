@@ -127,6 +127,7 @@ module _ (x : Around) where
   pub record Midst (last : Images) (c_world world : World) (part beyond : Blocks) : Type 0 where
     pub at : At x last (with_memory part c_world) (with_held (with_blocks beyond world.held) world)
     pub keeps : KeepsObjects c_world.held (with_blocks part c_world.held)
+    pub shapes : AreSameShapes (blocks_of c_world) part
 
   pub in_the_midst : (last : Images) (c_world world : World) (at : Ptr) (bit many field : ℕ) (part beyond : Blocks) → At x last c_world world → after_put_bits (blocks_of c_world) at bit many field ≡ Ok part → LeftStanding last c_world.held world.held part beyond →
       Midst last c_world world part beyond
@@ -143,4 +144,5 @@ module _ (x : Around) where
           lives = λ number within unlisted. shapes.each number;
           not_allocated = λ number within unlisted. unlisted;
         };
+        shapes = shapes;
       }

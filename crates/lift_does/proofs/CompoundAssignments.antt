@@ -56,16 +56,16 @@ use Rattle.lift_forms.specs.Given as given_form
 
 -- ---- results, turned round
 
-abbrev typed_as : CTy → Value → CTyped
+abbrev pub typed_as : CTy → Value → CTyped
 typed_as type value = record { type = type; value = value }
 
-abbrev assigned_change : Op2 → CTy → CTyped → COperand → CChange
+abbrev pub assigned_change : Op2 → CTy → CTyped → COperand → CChange
 assigned_change op computes right one = record { op = op; computes = computes; right = right; target = one; is_postfix = false }
 
 abbrev ok_change : CChange → Result CChange CWhy
 ok_change change = Ok change
 
-same_change : (one other : CChange) → ok_change one ≡ ok_change other → one ≡ other
+pub same_change : (one other : CChange) → ok_change one ≡ ok_change other → one ≡ other
 same_change one other e = cc (e)
 
 -- what a change goes on with behind its load
@@ -86,7 +86,7 @@ updating_of change old marks = record {
 abbrev ok_updating : CUpdating → Result CUpdating CWhy
 ok_updating now = Ok now
 
-same_updating : (one other : CUpdating) → ok_updating one ≡ ok_updating other → one ≡ other
+pub same_updating : (one other : CUpdating) → ok_updating one ≡ ok_updating other → one ≡ other
 same_updating one other e = cc (e)
 
 module _ (x : Around) where
@@ -147,7 +147,7 @@ module _ (x : Around) where
   pub lvalue_in : (e : CExpr) → IsLvalue x.home e → IsTypeIn x.home.program.types x.home.unit (type_of e)
   lvalue_in (expr type at form) is = is.0
 
-  assigned_operator : (type : CTy) (at : Place) (op : Op2) (computes : CTy) (target value : CExpr) (of_c : Value) (given : Given) (last : Images) (c2 w2 : World) → At x last c2 w2 → IsTyped x.home (expr type at (assign_by op computes target value)) →
+  pub assigned_operator : (type : CTy) (at : Place) (op : Op2) (computes : CTy) (target value : CExpr) (of_c : Value) (given : Given) (last : Images) (c2 w2 : World) → At x last c2 w2 → IsTyped x.home (expr type at (assign_by op computes target value)) →
       IsScalarIn x.home.program (type_of value) of_c → IsOperator x type computes op (record { type = type_of value; value = of_c }) (operand_of x.names value given)
   assigned_operator type at op computes target value of_c given last c2 w2 here typed of =
       let types = x.home.program.types in

@@ -1,22 +1,28 @@
-use Rattle.std.proofs.Common.{◌≡◌, ◌⊎◌, inl, inr, ℕ, ◌+◌, Bool, true, false, not, if◌then◌else◌, ◌&&◌, ◌||◌, ◌==◌, List, [], ◌∷◌, ◌++◌, length, Some, refl, sym, ap, subst, ◌∙◌, ◌≤◌}
--- The expressions without calls, compound literals, stores in bit-fields and members of values: what is written for them does what they do.
+-- The expressions without calls and compound literals: what is written for them does what they do.
+use Rattle.std.proofs.Common.{◌≡◌, ◌⊎◌, inl, inr, ℕ, suc, ◌+◌, ◌≤◌, Bool, true, false, not, if◌then◌else◌, ◌&&◌, ◌||◌, ◌==◌, List, [], ◌∷◌, ◌++◌, length, Some, refl, sym, ap, subst, ◌∙◌, arith, length-append}
 use Rattle.cr_base.specs.declared.layout.Spot.{Spot}
 use Rattle.cr_base.specs.declared.refusal.Place.{Place}
 use Rattle.cr_world.specs.World.{World}
 use Rattle.cx_core.specs.Trees.{CTy, ty, CTyForm, CExpr, expr, CForm, whole, null, object, code, load, deref, member, address, convert, unary, binary, and, or, cond, assign, assign_by, step, call, call_by, comma, literal, type_of}
 use Rattle.cx_core.specs.Typing.{CHome, IsTyped, IsLvalue, is_bit_field, width_of}
 use Rattle.cx_core.specs.Conversions.{promoted}
+use Rattle.cx_core.specs.Trees.{CTypes, CMember, void, basic, enum_type, pointer, array, record_type, function, form_of_type}
+use Rattle.cx_core.specs.ValidTypes.{member_of}
+use Rattle.lift_does.proofs.ValueMembers.{value_member_owes}
+use Rattle.cx_core.specs.declared.expr.Op2.{Op2}
 use Rattle.cx_typed_work.proofs.Computing.{assigned_binary}
 use Rattle.lift_does.proofs.CompoundAssignments.{assign_by_owes}
 use Rattle.lift_does.proofs.StepsByOne.{by_one_owes}
 use Rattle.lift_calls.specs.Frames.{FunctionNames}
 use Rattle.lift_does.proofs.Around.{Around, At}
-use Rattle.lift_does.proofs.Asking.{held_test, value_node, place_node}
+use Rattle.lift_does.proofs.Asking.{held_test, value_node, place_node, place_node_as}
 use Rattle.lift_does.proofs.Assignments.{target_plain, assign_owes}
 use Rattle.lift_does.proofs.Binary.{binary_owes}
 use Rattle.lift_does.proofs.BinaryTypes.{binary_there}
 use Rattle.lift_does.proofs.BitLoads.{load_bits_owes}
-use Rattle.lift_does.proofs.BitNodes.{bits_kind_is, bits_node}
+use Rattle.lift_does.proofs.BitAssignments.{target_bits, assign_bits_owes}
+use Rattle.lift_does.proofs.BitCompounds.{assign_by_bits_owes, by_one_bits_owes}
+use Rattle.lift_does.proofs.BitNodes.{bits_kind_is, bits_node, bits_node_as}
 use Rattle.lift_does.proofs.BitPlaces.{member_bits_owes}
 use Rattle.lift_does.proofs.Choices.{choice_owes, part_is_taken}
 use Rattle.lift_does.proofs.Commas.{comma_owes}
@@ -28,6 +34,8 @@ use Rattle.lift_does.proofs.Loads.{load_owes}
 use Rattle.lift_does.proofs.Numbers.{IsNumbered, turn_numbered, three_numbered, rises, pair_for, operands_of, parts_of, change_for, numbered, form_numbered}
 use Rattle.lift_does.proofs.Lvalues.{no_width, form_place, lvalue_kind_is}
 use Rattle.lift_does.proofs.Members.{lvalue_is, member_owes}
+use Rattle.lift_does.proofs.Lvalues.{holder_plain}
+use Rattle.lift_does.proofs.Nodes.{PartOwes}
 use Rattle.lift_does.proofs.Operands.{or_false}
 use Rattle.lift_does.proofs.Places.{deref_owes, address_owes}
 use Rattle.lift_does.proofs.RecordAssignments.{target_record, assign_record_owes}
@@ -39,8 +47,9 @@ use Rattle.lift_does.specs.Covered.{IsCovered, IsCoveredForm, CoveredDoes}
 use Rattle.lift_does.specs.Does.{IsAsked, is_fixed}
 use Rattle.lift_exprs.specs.Lifted.{lifted, lifted_form, operand_of, Deciding, where_true, where_false, decided_written, Choice, chosen_written}
 use Rattle.lift_exprs.specs.Names.{Names, type_in}
-use Rattle.lift_exprs.specs.Stores.{Target, a_scalar, a_structure, is_field, target_of, held_store, plain_store, old_value, stored, stored_value, Change, changed, changed_first, stepped, step_by_one, promoted_type, target_type}
-use Rattle.lift_exprs.specs.Written.{Written, Both, both, in_turn, place_of_given, NodeKind, a_value, a_record, lvalue_kind, value_kind, kind_in, held_type, held_where}
+use Rattle.lift_exprs.specs.Objects.{object_at}
+use Rattle.lift_exprs.specs.Stores.{Target, a_scalar, a_structure, a_field, is_field, target_of, held_store, plain_store, old_value, stored, stored_value, Change, changed, changed_first, stepped, step_by_one, promoted_type, target_type}
+use Rattle.lift_exprs.specs.Written.{Written, Both, both, in_turn, place_of_given, address_of_given, NodeKind, a_value, a_record, a_place, lvalue_kind, value_kind, kind_in, held_type, held_where}
 use Rattle.lift_forms.specs.Given.{Given}
 use Rattle.lift_forms.specs.Given as given_form
 use Rattle.lift_forms.specs.Operators.{Operand}
@@ -86,6 +95,10 @@ step_kept names_of kept false post target change written from is are = stored_ke
 
 kept_used : (used : Bool) (M : Type 0) → ((used || false) ≡ true → M) → used ≡ true → M
 kept_used used M all is = all (rw is refl)
+
+kept_field : (used : Bool) (M : Type 0) → ((used || true) ≡ true → M) → M
+kept_field true M all = all refl
+kept_field false M all = all refl
 
 second_kept : (names_of : Names) (kept : FunctionNames) (two : Both) (given : Given) (from : ℕ) → IsNumbered two.first from → AreKeptFrom names_of kept from (in_turn two given).temporaries → AreKeptFrom names_of kept two.first.next two.second.temporaries
 second_kept names_of kept two given from is are = subst (λ (n : ℕ). AreKeptFrom names_of kept n two.second.temporaries) (sym is) (kept_back names_of kept from two.first.temporaries two.second.temporaries are)
@@ -152,8 +165,48 @@ used_part asked e plainly has = record { used = λ _. has; base = λ same. let c
 used_base : (asked : Asked) (e : CExpr) → asked.used ≡ true → is_void (type_of e) ≡ false → IsAsked asked e
 used_base asked e used has = record { used = λ _. has; base = λ _. used }
 
-clashing : (b : Bool) → b ≡ true → b ≡ false → ⊥
-clashing b one other = let clash : true ≡ false = sym one ∙ other in cc (clash)
+-- what has a member has a value
+holder_has : (types : CTypes) (holder : CTy) (index : ℕ) (one : CMember) → member_of types (form_of_type holder) index ≡ Some one → is_void holder ≡ false
+holder_has types (ty void is_const) index one e = cc (e)
+holder_has types (ty (basic which) is_const) index one e = refl
+holder_has types (ty (enum_type number) is_const) index one e = refl
+holder_has types (ty (pointer to) is_const) index one e = refl
+holder_has types (ty (array element length) is_const) index one e = refl
+holder_has types (ty (record_type number) is_const) index one e = refl
+holder_has types (ty (function result params variadic) is_const) index one e = refl
+
+no_truth : false ≡ true → ⊥
+no_truth e = cc (e)
+
+-- what a bit-field stands in is held, or is a named object
+base_held : (others base : Bool) → base ≡ true → ((others || base) && true) ≡ false → ⊥
+base_held true true is e = cc (e)
+base_held false true is e = cc (e)
+base_held others false is e = cc (is)
+
+base_lasts : (asked : Asked) (home : CHome) (type : CTy) (at : Place) (form : CForm) → asked.is_base ≡ true → IsLvalue home (expr type at form) → held_test asked type form ≡ false → form_fixed type form ≡ true
+base_lasts asked home type at (object number) base is e = refl
+base_lasts asked home type at (deref from) base is e = absurd (base_held (asked.used && (asked.pinned && not (is_steady from))) (asked.is_base && true) (rw (base) refl) e)
+base_lasts asked home type at (member of spot) base is e =
+    absurd (base_held (asked.used && (asked.pinned && not (is_steady of))) (asked.is_base && (is_lvalue of && true)) (rw (base, lvalue_is home (expr type at (member of spot)) is) refl) e)
+base_lasts asked home type at (literal number puts) base is e = absurd (base_held (asked.used && (asked.pinned && true)) (asked.is_base && true) (rw (base) refl) e)
+base_lasts asked home type at (whole value) base is e = absurd is.2
+base_lasts asked home type at null base is e = absurd is.2
+base_lasts asked home type at (code number) base is e = absurd is.2
+base_lasts asked home type at (load from) base is e = absurd is.2
+base_lasts asked home type at (address of) base is e = absurd is.2
+base_lasts asked home type at (convert value) base is e = absurd is.2
+base_lasts asked home type at (unary op value) base is e = absurd is.2
+base_lasts asked home type at (binary op left right) base is e = absurd is.2
+base_lasts asked home type at (and left right) base is e = absurd is.2
+base_lasts asked home type at (or left right) base is e = absurd is.2
+base_lasts asked home type at (cond test first second) base is e = absurd is.2
+base_lasts asked home type at (assign target value) base is e = absurd is.2
+base_lasts asked home type at (assign_by op computes target value) base is e = absurd is.2
+base_lasts asked home type at (step up post on) base is e = absurd is.2
+base_lasts asked home type at (call callee args) base is e = absurd is.2
+base_lasts asked home type at (call_by callee args) base is e = absurd is.2
+base_lasts asked home type at (comma first second) base is e = absurd is.2
 
 module _ (x : Around) where
   kind_type : (record_type : Bool) (one : Ty) (size : ℕ) → held_type (if record_type then a_record one size else a_value one) ≡ one
@@ -217,6 +270,34 @@ module _ (x : Around) where
   node_owes asked type at form from asked_is are (inl typed) all = value_owes asked type at form from asked_is are typed all
   node_owes asked type at form from asked_is are (inr typed) all = lvalue_owes asked type at form from asked_is are typed all
 
+  -- given whatever is stored
+  abbrev FixedAnywhere : (asked : Asked) (e : CExpr) (from : ℕ) → Type 0
+  FixedAnywhere asked e from = (images : Images) (c_world world : World) → At x images c_world world → PartOwes x asked.used true e (lifted x.names asked e from) from images c_world world
+
+  base_owes : (asked : Asked) (type : CTy) (at : Place) (form : CForm) (from : ℕ) → IsAsked asked (expr type at form) → AreKeptFrom x.names x.kept from (lifted x.names asked (expr type at form) from).temporaries →
+      IsLvalue x.home (expr type at form) → asked.is_base ≡ true → (images : Images) (c w : World) → At x images c w → is_bit_field (expr type at form) ≡ false →
+      (AreKeptFrom x.names x.kept from (lifted_form x.names asked type form from).temporaries → FormAnywhere asked type at form from) → PartOwes x asked.used true (expr type at form) (lifted x.names asked (expr type at form) from) from images c w
+  base_owes asked type at form from asked_is are typed base images c w here plainly all =
+      let one = lifted_form x.names asked type form from in
+      let count = form_numbered x.names asked type form from in
+      let own = where_kept (held_test asked type form) x.names x.kept (kind_in x.names type form) one from count are in
+      let p = form_place x asked type at form from typed plainly in
+      place_node_as x asked (form_fixed type form) true type at form p.0 from images c w here typed plainly p.1 asked_is (λ _ _ not_it. base_lasts asked x.home type at form base typed not_it) (rises one from count)
+      (λ e. subst (λ (kind : NodeKind). kept_as x.names x.kept one.next (held_type kind)) (lvalue_kind_is x type at form (lvalue_is x.home (expr type at form) typed) plainly) (own.1 e)) (all own.0 images c w here)
+
+  target_owes : (asked : Asked) (type : CTy) (at : Place) (of : CExpr) (spot : Spot) (from : ℕ) → IsAsked asked (expr type at (member of spot)) → AreKeptFrom x.names x.kept from (lifted x.names asked (expr type at (member of spot)) from).temporaries →
+      IsLvalue x.home (expr type at (member of spot)) → not (spot.width == 0) ≡ true → (images : Images) (c w : World) → At x images c w →
+      (AreKeptFrom x.names x.kept from (lifted_form x.names asked type (member of spot) from).temporaries → PartOwes x true true of (lifted x.names (whole_of spot) of from) from images c w) →
+      PartOwes x asked.used true (expr type at (member of spot)) (lifted x.names asked (expr type at (member of spot)) from) from images c w
+  target_owes asked type at of spot from asked_is are typed bits images c w here all =
+      let form = member of spot in
+      let one = lifted_form x.names asked type form from in
+      let count = form_numbered x.names asked type form from in
+      let own = where_kept (held_test asked type form) x.names x.kept (kind_in x.names type form) one from count are in
+      bits_node_as x asked true true type at of spot from images c w here typed bits asked_is (λ _ _ _. refl) (rises one from count)
+      (λ e. subst (λ (kind : NodeKind). kept_as x.names x.kept one.next (held_type kind)) (bits_kind_is x.names type at of spot (lvalue_is x.home (expr type at form) typed) bits) (own.1 e))
+      (member_bits_owes x asked true true type at of spot from images c w here typed bits (λ _. refl) (rises (lifted x.names (whole_of spot) of from) from (numbered x.names (whole_of spot) of from)) (all own.0))
+
   -- ---- bit-fields, and other lvalues
 
   member_any : (asked : Asked) (type : CTy) (at : Place) (of : CExpr) (spot : Spot) (from : ℕ) (images : Images) (c w : World) → At x images c w → IsLvalue x.home (expr type at (member of spot)) → from ≤ (lifted x.names (whole_of spot) of from).next →
@@ -237,12 +318,12 @@ module _ (x : Around) where
   load_any asked form is_const at (expr own here_at other) from images c w here typed up owes = load_owes x asked form is_const at (expr own here_at other) from images c w here typed refl up owes
 
   -- an assignment, by what its type is
-  assign_any : (asked : Asked) (form : CTyForm) (is_const : Bool) (at : Place) (target value : CExpr) (from : ℕ) (images : Images) (c w : World) → At x images c w → IsTyped x.home (expr (ty form is_const) at (assign target value)) → is_bit_field target ≡ false →
+  assign_plainly : (asked : Asked) (form : CTyForm) (is_const : Bool) (at : Place) (target value : CExpr) (from : ℕ) (images : Images) (c w : World) → At x images c w → IsTyped x.home (expr (ty form is_const) at (assign target value)) → is_bit_field target ≡ false →
       AreKeptFrom x.names x.kept from (lifted_form x.names asked (ty form is_const) (assign target value) from).temporaries →
       (AreKeptFrom x.names x.kept from (pair_for x.names target value from).first.temporaries → ExprOwes x (operand_before (holds_call value)) target from images c w) →
       (AreKeptFrom x.names x.kept (pair_for x.names target value from).first.next (pair_for x.names target value from).second.temporaries →
       (later : Images) (c1 w1 : World) → At x later c1 w1 → ExprOwes x operand value (pair_for x.names target value from).first.next later c1 w1) → FormOwes x asked (ty form is_const) at (assign target value) from images c w
-  assign_any asked form is_const at target value from images c w here typed plainly are targets values = by (is_record (ty form is_const)) refl
+  assign_plainly asked form is_const at target value from images c w here typed plainly are targets values = by (is_record (ty form is_const)) refl
     where
       first_count : IsNumbered (pair_for x.names target value from).first from
       first_count = numbered x.names (operand_before (holds_call value)) target from
@@ -272,7 +353,127 @@ module _ (x : Around) where
           (kept_used asked.used (kept_as x.names x.kept two.second.next (type_in x.names (ty form is_const))) kept_it.1)
           (targets (kept_front x.names x.kept from two.first.temporaries two.second.temporaries kept_it.0)) (values (second_kept x.names x.kept two given_form.nothing from first_count kept_it.0))
 
+  -- in a bit-field, and elsewhere
+  assign_any : (asked : Asked) (form : CTyForm) (is_const : Bool) (at : Place) (target value : CExpr) (from : ℕ) (images : Images) (c w : World) → At x images c w → IsTyped x.home (expr (ty form is_const) at (assign target value)) →
+      AreKeptFrom x.names x.kept from (lifted_form x.names asked (ty form is_const) (assign target value) from).temporaries →
+      (AreKeptFrom x.names x.kept from (pair_for x.names target value from).first.temporaries → ExprOwes x (operand_before (holds_call value)) target from images c w) →
+      (is_bit_field target ≡ true → AreKeptFrom x.names x.kept from (pair_for x.names target value from).first.temporaries → PartOwes x true true target (pair_for x.names target value from).first from images c w) →
+      (AreKeptFrom x.names x.kept (pair_for x.names target value from).first.next (pair_for x.names target value from).second.temporaries →
+      (later : Images) (c1 w1 : World) → At x later c1 w1 → ExprOwes x operand value (pair_for x.names target value from).first.next later c1 w1) → FormOwes x asked (ty form is_const) at (assign target value) from images c w
+  assign_any asked form is_const at (expr own here_at (member of spot)) value from images c w here typed are targets fixed_targets values = by (not (spot.width == 0)) refl
+    where
+      by : (bits : Bool) → not (spot.width == 0) ≡ bits → FormOwes x asked (ty form is_const) at (assign (expr own here_at (member of spot)) value) from images c w
+      by false plainly = assign_plainly asked form is_const at (expr own here_at (member of spot)) value from images c w here typed plainly are targets values
+      by true bits =
+          let target = expr own here_at (member of spot) in
+          let two = pair_for x.names target value from in
+          let T = type_in x.names (ty form is_const) in
+          let to = a_field (address_of_given two.first.given) spot T in
+          let first_count = numbered x.names (operand_before (holds_call value)) target from in
+          let second_count = numbered x.names operand value two.first.next in
+          let kept_it = stored_kept x.names x.kept asked.used to (stored_value to two.second.given) (in_turn two given_form.nothing) from (turn_numbered two given_form.nothing from first_count second_count)
+          (subst (λ (target_is : Target). AreKeptFrom x.names x.kept from (stored x.names asked.used target_is (stored_value target_is two.second.given) (in_turn two given_form.nothing)).temporaries)
+          (target_bits x.names (ty form is_const) own here_at of spot two.first.given bits) are) in
+          assign_bits_owes x asked form is_const at own here_at of spot value from images c w here typed bits (rises two.first from first_count) (rises two.second two.first.next second_count)
+          (kept_field asked.used (kept_as x.names x.kept two.second.next T) kept_it.1)
+          (fixed_targets bits (kept_front x.names x.kept from two.first.temporaries two.second.temporaries kept_it.0)) (values (second_kept x.names x.kept two given_form.nothing from first_count kept_it.0))
+  assign_any asked form is_const at (expr own here_at other) value from images c w here typed are targets fixed_targets values = assign_plainly asked form is_const at (expr own here_at other) value from images c w here typed refl are targets values
+
+  -- `op=`
+  assign_by_plainly : (asked : Asked) (form : CTyForm) (is_const : Bool) (at : Place) (op : Op2) (computes : CTy) (target value : CExpr) (from : ℕ) (images : Images) (c w : World) → At x images c w →
+      IsTyped x.home (expr (ty form is_const) at (assign_by op computes target value)) → is_bit_field target ≡ false →
+      AreKeptFrom x.names x.kept from (lifted_form x.names asked (ty form is_const) (assign_by op computes target value) from).temporaries →
+      (AreKeptFrom x.names x.kept from (pair_for x.names target value from).first.temporaries → ExprOwes x (operand_before (holds_call value)) target from images c w) →
+      (AreKeptFrom x.names x.kept (pair_for x.names target value from).first.next (pair_for x.names target value from).second.temporaries →
+      (later : Images) (c1 w1 : World) → At x later c1 w1 → ExprOwes x operand value (pair_for x.names target value from).first.next later c1 w1) → FormOwes x asked (ty form is_const) at (assign_by op computes target value) from images c w
+  assign_by_plainly asked form is_const at op computes target value from images c w here typed plainly are targets values =
+      let two = pair_for x.names target value from in
+      let change = change_for x.names op computes value two.second.given in
+      let no_record = assign_by_no_record x.home.program.types op (ty form is_const) computes target (type_of value) typed.1.2 in
+      let first_count = numbered x.names (operand_before (holds_call value)) target from in
+      let second_count = numbered x.names operand value two.first.next in
+      let T = type_in x.names (ty form is_const) in
+      let p = place_of_given two.first.given in
+      let kept_two = stored_kept x.names x.kept asked.used (a_scalar p T) (changed change T (given_form.value (Read p))) (in_turn two given_form.nothing) from (turn_numbered two given_form.nothing from first_count second_count)
+      (subst (λ (to : Target). AreKeptFrom x.names x.kept from (changed_first x.names asked.used to change (in_turn two given_form.nothing)).temporaries) (target_plain x.names (ty form is_const) target two.first.given plainly no_record) are) in
+      assign_by_owes x asked form is_const at op computes target value from images c w here typed plainly no_record (rises two.first from first_count) (rises two.second two.first.next second_count)
+      (kept_used asked.used (kept_as x.names x.kept two.second.next T) kept_two.1)
+      (targets (kept_front x.names x.kept from two.first.temporaries two.second.temporaries kept_two.0))
+      (values (second_kept x.names x.kept two given_form.nothing from first_count kept_two.0))
+
+  assign_by_any : (asked : Asked) (form : CTyForm) (is_const : Bool) (at : Place) (op : Op2) (computes : CTy) (target value : CExpr) (from : ℕ) (images : Images) (c w : World) → At x images c w →
+      IsTyped x.home (expr (ty form is_const) at (assign_by op computes target value)) →
+      AreKeptFrom x.names x.kept from (lifted_form x.names asked (ty form is_const) (assign_by op computes target value) from).temporaries →
+      (AreKeptFrom x.names x.kept from (pair_for x.names target value from).first.temporaries → ExprOwes x (operand_before (holds_call value)) target from images c w) →
+      (is_bit_field target ≡ true → AreKeptFrom x.names x.kept from (pair_for x.names target value from).first.temporaries → PartOwes x true true target (pair_for x.names target value from).first from images c w) →
+      (AreKeptFrom x.names x.kept (pair_for x.names target value from).first.next (pair_for x.names target value from).second.temporaries →
+      (later : Images) (c1 w1 : World) → At x later c1 w1 → ExprOwes x operand value (pair_for x.names target value from).first.next later c1 w1) → FormOwes x asked (ty form is_const) at (assign_by op computes target value) from images c w
+  assign_by_any asked form is_const at op computes (expr own here_at (member of spot)) value from images c w here typed are targets fixed_targets values = by (not (spot.width == 0)) refl
+    where
+      by : (bits : Bool) → not (spot.width == 0) ≡ bits → FormOwes x asked (ty form is_const) at (assign_by op computes (expr own here_at (member of spot)) value) from images c w
+      by false plainly = assign_by_plainly asked form is_const at op computes (expr own here_at (member of spot)) value from images c w here typed plainly are targets values
+      by true bits =
+          let target = expr own here_at (member of spot) in
+          let two = pair_for x.names target value from in
+          let change = change_for x.names op computes value two.second.given in
+          let T = type_in x.names (ty form is_const) in
+          let to = a_field (address_of_given two.first.given) spot T in
+          let first_count = numbered x.names (operand_before (holds_call value)) target from in
+          let second_count = numbered x.names operand value two.first.next in
+          let kept_it = stored_kept x.names x.kept asked.used to (changed change T (old_value to)) (in_turn two given_form.nothing) from (turn_numbered two given_form.nothing from first_count second_count)
+          (subst (λ (target_is : Target). AreKeptFrom x.names x.kept from (changed_first x.names asked.used target_is change (in_turn two given_form.nothing)).temporaries)
+          (target_bits x.names (ty form is_const) own here_at of spot two.first.given bits) are) in
+          assign_by_bits_owes x asked form is_const at op computes own here_at of spot value from images c w here typed bits (rises two.first from first_count) (rises two.second two.first.next second_count)
+          (kept_field asked.used (kept_as x.names x.kept two.second.next T) kept_it.1)
+          (fixed_targets bits (kept_front x.names x.kept from two.first.temporaries two.second.temporaries kept_it.0)) (values (second_kept x.names x.kept two given_form.nothing from first_count kept_it.0))
+  assign_by_any asked form is_const at op computes (expr own here_at other) value from images c w here typed are targets fixed_targets values =
+      assign_by_plainly asked form is_const at op computes (expr own here_at other) value from images c w here typed refl are targets values
+
+  -- `++` and `--`
+  step_plainly : (asked : Asked) (form : CTyForm) (is_const : Bool) (at : Place) (up post : Bool) (on : CExpr) (from : ℕ) (images : Images) (c w : World) → At x images c w →
+      IsTyped x.home (expr (ty form is_const) at (step up post on)) → is_bit_field on ≡ false → AreKeptFrom x.names x.kept from (lifted_form x.names asked (ty form is_const) (step up post on) from).temporaries →
+      (AreKeptFrom x.names x.kept from (lifted x.names operand on from).temporaries → ExprOwes x operand on from images c w) → FormOwes x asked (ty form is_const) at (step up post on) from images c w
+  step_plainly asked form is_const at up post on from images c w here typed plainly are owes =
+      let one = lifted x.names operand on from in
+      let count = numbered x.names operand on from in
+      let no_record = step_no_record x.home.program.types (ty form is_const) typed.1.1.stepped in
+      let T = type_in x.names (ty form is_const) in
+      let kept_one = step_kept x.names x.kept asked.used post (a_scalar (place_of_given one.given) T) (step_by_one up (promoted_type T (width_of on))) one from count
+      (subst (λ (to : Target). AreKeptFrom x.names x.kept from (stepped x.names asked.used post to (step_by_one up (promoted_type (target_type to) (width_of on))) one).temporaries)
+      (target_plain x.names (ty form is_const) on one.given plainly no_record) are) in
+      by_one_owes x asked form is_const at up post on from images c w here typed plainly no_record (rises one from count) (kept_used asked.used (kept_as x.names x.kept one.next T) kept_one.1) (owes kept_one.0)
+
+  step_any : (asked : Asked) (form : CTyForm) (is_const : Bool) (at : Place) (up post : Bool) (on : CExpr) (from : ℕ) (images : Images) (c w : World) → At x images c w →
+      IsTyped x.home (expr (ty form is_const) at (step up post on)) → AreKeptFrom x.names x.kept from (lifted_form x.names asked (ty form is_const) (step up post on) from).temporaries →
+      (AreKeptFrom x.names x.kept from (lifted x.names operand on from).temporaries → ExprOwes x operand on from images c w) →
+      (is_bit_field on ≡ true → AreKeptFrom x.names x.kept from (lifted x.names operand on from).temporaries → PartOwes x true true on (lifted x.names operand on from) from images c w) → FormOwes x asked (ty form is_const) at (step up post on) from images c w
+  step_any asked form is_const at up post (expr own here_at (member of spot)) from images c w here typed are owes fixed_owes = by (not (spot.width == 0)) refl
+    where
+      by : (bits : Bool) → not (spot.width == 0) ≡ bits → FormOwes x asked (ty form is_const) at (step up post (expr own here_at (member of spot))) from images c w
+      by false plainly = step_plainly asked form is_const at up post (expr own here_at (member of spot)) from images c w here typed plainly are owes
+      by true bits =
+          let on = expr own here_at (member of spot) in
+          let one = lifted x.names operand on from in
+          let count = numbered x.names operand on from in
+          let T = type_in x.names (ty form is_const) in
+          let kept_one = step_kept x.names x.kept asked.used post (a_field (address_of_given one.given) spot T) (step_by_one up (promoted_type T (width_of on))) one from count
+          (subst (λ (to : Target). AreKeptFrom x.names x.kept from (stepped x.names asked.used post to (step_by_one up (promoted_type (target_type to) (width_of on))) one).temporaries)
+          (target_bits x.names (ty form is_const) own here_at of spot one.given bits) are) in
+          by_one_bits_owes x asked form is_const at up post own here_at of spot from images c w here typed bits (rises one from count) (kept_field asked.used (kept_as x.names x.kept one.next T) kept_one.1) (fixed_owes bits kept_one.0)
+  step_any asked form is_const at up post (expr own here_at other) from images c w here typed are owes fixed_owes = step_plainly asked form is_const at up post (expr own here_at other) from images c w here typed refl are owes
+
   mutual
+    base_does : (asked : Asked) (e : CExpr) (from : ℕ) → IsAsked asked e → AreKeptFrom x.names x.kept from (lifted x.names asked e from).temporaries → IsLvalue x.home e → IsCovered e → asked.is_base ≡ true → (images : Images) (c w : World) → At x images c w →
+        is_bit_field e ≡ false → PartOwes x asked.used true e (lifted x.names asked e from) from images c w
+    base_does asked (expr type at form) from asked_is are typed is base images c w here plainly =
+        base_owes asked type at form from asked_is are typed base images c w here plainly (λ own. form_does asked type at form from asked_is own (inr typed) is)
+
+    target_does : (asked : Asked) (e : CExpr) (from : ℕ) → IsAsked asked e → AreKeptFrom x.names x.kept from (lifted x.names asked e from).temporaries → IsLvalue x.home e → IsCovered e → is_bit_field e ≡ true → FixedAnywhere asked e from
+    target_does asked (expr type at (member of spot)) from asked_is are typed is bits = λ images c w here.
+        target_owes asked type at of spot from asked_is are typed bits images c w here (λ own.
+        base_does (whole_of spot) of from (used_base (whole_of spot) of refl (lvalue_has x of typed.2.0)) own typed.2.0 is bits images c w here (holder_plain x.home type of spot here.typed.scene.linked.types typed.2.0 typed.2.1))
+    target_does asked (expr type at other) from asked_is are typed is bits = absurd (no_truth bits)
+
     expr_does : (asked : Asked) (e : CExpr) (from : ℕ) → IsAsked asked e → AreKeptFrom x.names x.kept from (lifted x.names asked e from).temporaries → IsTyped x.home e ⊎ IsLvalue x.home e → IsCovered e → OwesAnywhere asked e from
     expr_does asked (expr type at form) from asked_is are typed is =
         node_owes asked type at form from asked_is are typed (λ own. form_does asked type at form from asked_is own typed is)
@@ -291,7 +492,7 @@ module _ (x : Around) where
         (expr_does operand of from (used_part operand of refl (ap is_void typed.2.1.pointer_is)) are (inl typed.2.0) is images c w here)
     form_does asked type at (member of spot) from asked_is are (inr typed) is = λ images c w here.
         member_any asked type at of spot from images c w here typed (rises (lifted x.names (whole_of spot) of from) from (numbered x.names (whole_of spot) of from))
-        (expr_does (whole_of spot) of from (used_base (whole_of spot) of refl (lvalue_has x of typed.2.0)) are (inr typed.2.0) is.1 images c w here)
+        (expr_does (whole_of spot) of from (used_base (whole_of spot) of refl (lvalue_has x of typed.2.0)) are (inr typed.2.0) is images c w here)
     form_does asked type at (address of) from asked_is are (inl typed) is = λ images c w here.
         address_owes x asked type at of from images c w here typed (address_kind x type of typed.1.0 typed.1.1) (rises (lifted x.names operand of from) from (numbered x.names operand of from))
         (expr_does operand of from (used_part operand of refl (lvalue_has x of typed.1.0)) are (inr typed.1.0) is images c w here)
@@ -310,35 +511,21 @@ module _ (x : Around) where
         (λ later c1 w1 there. expr_does operand right (pair_for x.names left right from).first.next (used_part operand right refl (right_has x op type (type_of left) (type_of right) (binary_there x images c w here op type (type_of left) (type_of right) typed.1.2)))
         (second_kept x.names x.kept (pair_for x.names left right from) given_form.nothing from (numbered x.names (operand_before (holds_call right)) left from) are) (inl typed.1.1) is.1 later c1 w1 there)
     form_does asked (ty form is_const) at (assign target value) from asked_is are (inl typed) is = λ images c w here.
-        assign_any asked form is_const at target value from images c w here typed is.0 are
-        (λ kept_it. expr_does (operand_before (holds_call value)) target from (used_part (operand_before (holds_call value)) target refl (lvalue_has x target typed.1.0)) kept_it (inr typed.1.0) is.1 images c w here)
-        (λ kept_it later c1 w1 there. expr_does operand value (pair_for x.names target value from).first.next (used_part operand value refl (assigned_has x (ty form is_const) target value typed.1.0 typed.1.2)) kept_it (inl typed.1.1) is.2 later c1 w1 there)
+        assign_any asked form is_const at target value from images c w here typed are
+        (λ kept_it. expr_does (operand_before (holds_call value)) target from (used_part (operand_before (holds_call value)) target refl (lvalue_has x target typed.1.0)) kept_it (inr typed.1.0) is.0 images c w here)
+        (λ bits kept_it. target_does (operand_before (holds_call value)) target from (used_part (operand_before (holds_call value)) target refl (lvalue_has x target typed.1.0)) kept_it typed.1.0 is.0 bits images c w here)
+        (λ kept_it later c1 w1 there. expr_does operand value (pair_for x.names target value from).first.next (used_part operand value refl (assigned_has x (ty form is_const) target value typed.1.0 typed.1.2)) kept_it (inl typed.1.1) is.1 later c1 w1 there)
     form_does asked (ty form is_const) at (assign_by op computes target value) from asked_is are (inl typed) is = λ images c w here.
-        let two = pair_for x.names target value from in
-        let change = change_for x.names op computes value two.second.given in
-        let no_record = assign_by_no_record x.home.program.types op (ty form is_const) computes target (type_of value) typed.1.2 in
-        let first_count = numbered x.names (operand_before (holds_call value)) target from in
-        let second_count = numbered x.names operand value two.first.next in
-        let T = type_in x.names (ty form is_const) in
-        let p = place_of_given two.first.given in
-        let kept_two = stored_kept x.names x.kept asked.used (a_scalar p T) (changed change T (given_form.value (Read p))) (in_turn two given_form.nothing) from (turn_numbered two given_form.nothing from first_count second_count)
-        (subst (λ (to : Target). AreKeptFrom x.names x.kept from (changed_first x.names asked.used to change (in_turn two given_form.nothing)).temporaries) (target_plain x.names (ty form is_const) target two.first.given is.0 no_record) are) in
-        let there = binary_there x images c w here op computes computes (type_of value)
-        (assigned_binary x.home.program.types op computes (promoted x.home.program.types (type_of target) (width_of target)) (type_of value) typed.1.2.computed) in
-        assign_by_owes x asked form is_const at op computes target value from images c w here typed is.0 no_record (rises two.first from first_count) (rises two.second two.first.next second_count)
-        (kept_used asked.used (kept_as x.names x.kept two.second.next T) kept_two.1)
-        (expr_does (operand_before (holds_call value)) target from (used_part (operand_before (holds_call value)) target refl (lvalue_has x target typed.1.0)) (kept_front x.names x.kept from two.first.temporaries two.second.temporaries kept_two.0) (inr typed.1.0) is.1 images c w here)
-        (λ later c1 w1 there_later. expr_does operand value two.first.next (used_part operand value refl (right_has x op computes computes (type_of value) there)) (second_kept x.names x.kept two given_form.nothing from first_count kept_two.0) (inl typed.1.1) is.2 later c1 w1 there_later)
+        assign_by_any asked form is_const at op computes target value from images c w here typed are
+        (λ kept_it. expr_does (operand_before (holds_call value)) target from (used_part (operand_before (holds_call value)) target refl (lvalue_has x target typed.1.0)) kept_it (inr typed.1.0) is.0 images c w here)
+        (λ bits kept_it. target_does (operand_before (holds_call value)) target from (used_part (operand_before (holds_call value)) target refl (lvalue_has x target typed.1.0)) kept_it typed.1.0 is.0 bits images c w here)
+        (λ kept_it later c1 w1 there. expr_does operand value (pair_for x.names target value from).first.next
+        (used_part operand value refl (right_has x op computes computes (type_of value) (binary_there x images c w here op computes computes (type_of value)
+        (assigned_binary x.home.program.types op computes (promoted x.home.program.types (type_of target) (width_of target)) (type_of value) typed.1.2.computed)))) kept_it (inl typed.1.1) is.1 later c1 w1 there)
     form_does asked (ty form is_const) at (step up post on) from asked_is are (inl typed) is = λ images c w here.
-        let one = lifted x.names operand on from in
-        let count = numbered x.names operand on from in
-        let no_record = step_no_record x.home.program.types (ty form is_const) typed.1.1.stepped in
-        let T = type_in x.names (ty form is_const) in
-        let kept_one = step_kept x.names x.kept asked.used post (a_scalar (place_of_given one.given) T) (step_by_one up (promoted_type T (width_of on))) one from count
-        (subst (λ (to : Target). AreKeptFrom x.names x.kept from (stepped x.names asked.used post to (step_by_one up (promoted_type (target_type to) (width_of on))) one).temporaries)
-        (target_plain x.names (ty form is_const) on one.given is.0 no_record) are) in
-        by_one_owes x asked form is_const at up post on from images c w here typed is.0 no_record (rises one from count) (kept_used asked.used (kept_as x.names x.kept one.next T) kept_one.1)
-        (expr_does operand on from (used_part operand on refl (lvalue_has x on typed.1.0)) kept_one.0 (inr typed.1.0) is.1 images c w here)
+        step_any asked form is_const at up post on from images c w here typed are
+        (λ kept_it. expr_does operand on from (used_part operand on refl (lvalue_has x on typed.1.0)) kept_it (inr typed.1.0) is images c w here)
+        (λ bits kept_it. target_does operand on from (used_part operand on refl (lvalue_has x on typed.1.0)) kept_it typed.1.0 is bits images c w here)
     form_does asked type at (comma first second) from asked_is are (inl typed) is = λ images c w here.
         let two = both (λ number. lifted x.names (part_of false) first number) (λ number. lifted x.names (part_of asked.used) second number) from in
         let first_count = numbered x.names (part_of false) first from in
@@ -361,7 +548,9 @@ module _ (x : Around) where
     form_does asked type at (comma first second) from asked_is are (inr typed) is = absurd typed.2
     form_does asked type at (object number) from asked_is are (inl typed) is = absurd typed.1
     form_does asked type at (deref of) from asked_is are (inl typed) is = absurd typed.1
-    form_does asked type at (member of spot) from asked_is are (inl typed) is = absurd (clashing (is_lvalue of) is.0 (typed_no_lvalue x.home of typed.1.0))
+    form_does asked (ty form is_const) at (member of spot) from asked_is are (inl typed) is = λ images c w here.
+        value_member_owes x asked form is_const at of spot from images c w here typed (typed_no_lvalue x.home of typed.1.0) (rises (lifted x.names (whole_of spot) of from) from (numbered x.names (whole_of spot) of from))
+        (expr_does (whole_of spot) of from (used_base (whole_of spot) of refl (holder_has x.home.program.types (type_of of) typed.1.1.member.index typed.1.1.member.one typed.1.1.member.member_is)) are (inl typed.1.0) is images c w here)
     form_does asked type at (and left right) from asked_is are (inl typed) is = λ images c w here.
         let two = operands_of x.names left right from in
         let first_count = numbered x.names operand left from in

@@ -1,13 +1,17 @@
+pub mod Alignments
 pub mod Around
 pub mod Asking
 pub mod Assignments
 pub mod Binary
 pub mod BinaryTypes
+pub mod BitAssignments
+pub mod BitCompounds
 pub mod BitEnds
 pub mod BitLoads
 pub mod BitNodes
 pub mod BitPlaces
 pub mod BitStores
+pub mod BitUpdates
 pub mod Branches
 pub mod Choices
 pub mod Commas
@@ -41,5 +45,6 @@ pub mod Taken
 pub mod Temporaries
 pub mod Types
 pub mod Unary
+pub mod ValueMembers
 pub mod Updates
 pub mod Used

@@ -255,6 +255,7 @@ module _ (x : Around) where
             holds = subst (λ (v : Value). PlaceHolds last (blocks_of later) (align_in (setting_in x.s) (ty form is_const)) v list) (sym pointer_is.is)
                 (subst (λ (a : ℕ). PlaceHolds last (blocks_of later) a (Object pointer_is.to) list) (ap align_or (sym is.laid_is)) holds);
             based = gave.address;
+            form = (_, refl);
           })
 
       by_kind : (kind : CKind) (one : COperand) (c1 : World) (made : CDone) (marks : Marks) (found : CLoaded) (to : Ptr) → marks ≡ both one.marks no_marks → kind_of (setting_in x.s) (ty form is_const) ≡ Ok kind → place_in (scope x) one.value ≡ Ok (Object to) →

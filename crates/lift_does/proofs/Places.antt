@@ -173,7 +173,7 @@ module _ (x : Around) where
   -- ---- loads
 
   -- what a scalar lvalue is based on is the place itself
-  scalar_based : (blocks : Blocks) (one : Ty) (kind : Scalar) (at : Value) → scalar_of one ≡ Some kind → is_base x.frame.modules blocks one at ≡ true
+  pub scalar_based : (blocks : Blocks) (one : Ty) (kind : Scalar) (at : Value) → scalar_of one ≡ Some kind → is_base x.frame.modules blocks one at ≡ true
   scalar_based blocks (Integer which) kind at e = refl
   scalar_based blocks Boolean kind at e = refl
   scalar_based blocks (Pointer target) kind at e = refl
@@ -182,7 +182,7 @@ module _ (x : Around) where
   scalar_based blocks (Array element size) kind at e = cc
   scalar_based blocks (Record m y) kind at e = cc (e)
 
-  load_comes : (world : World) (p : RustPlace) (spot : Spot) (one : Ty) (kind : Scalar) (to : Ptr) (other : Value) → GivesPlace x.frame world p spot → spot.ty ≡ one → spot.at ≡ Object to → spot.is_based ≡ true → scalar_of one ≡ Some kind →
+  pub load_comes : (world : World) (p : RustPlace) (spot : Spot) (one : Ty) (kind : Scalar) (to : Ptr) (other : Value) → GivesPlace x.frame world p spot → spot.ty ≡ one → spot.at ≡ Object to → spot.is_based ≡ true → scalar_of one ≡ Some kind →
       value_at (blocks_of world) to kind ≡ Ok other → GivesAt x.frame world (Read p) one other
   load_comes world p spot one kind to other gives ty_is at_is based_is kind_is found = record {
     runs = λ units. seq_is (run_place x.frame p) rust_load world units spot (gives.runs units)

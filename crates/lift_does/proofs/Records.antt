@@ -52,7 +52,7 @@ clash : (b : Bool) → b ≡ true → b ≡ false → ⊥
 clash b one other = let both : true ≡ false = sym one ∙ other in cc (both)
 
 module _ (x : Around) where
-  record_there : (type : CTy) (laid : Laid) → extent_in (setting_of x.home.program) type ≡ Some laid → extent_in (setting_in x.s) type ≡ Some laid
+  pub record_there : (type : CTy) (laid : Laid) → extent_in (setting_of x.home.program) type ≡ Some laid → extent_in (setting_in x.s) type ≡ Some laid
   record_there type laid e = subst (λ (program : CProgram). extent_in (setting_of program) type ≡ Some laid) x.means.program e
 
   to_room : (world : World) (type : CTy) (given : Given) → is_record type ≡ true → GivesRoom x.frame world (type_in x.names type) (x.names.size_of type) given → GivesMissing x.names x.frame world type given
@@ -108,6 +108,7 @@ module _ (x : Around) where
                 below = cells_stay images last list holds.cells extends holds.below;
               };
               based = keeps_based x number (type_in x.names type) is.laid.size is.laid.align holds.cells later kept_it;
+              form = (_, refl);
             };
       }
   record_taken part missing given number images c_world world at typed of_record (inr is) kept_is gave =

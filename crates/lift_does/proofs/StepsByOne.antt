@@ -97,7 +97,7 @@ abbrev is_unsigned_kind : Option Scalar → Bool
 is_unsigned_kind (Some (scalars.Whole width signed)) = (width == 32) && not signed
 is_unsigned_kind _ = false
 
-int_promoted : (which : IntegerTy) → is_int_kind (scalar_of (Integer which)) ≡ true → promoted_integer which None ≡ I32
+pub int_promoted : (which : IntegerTy) → is_int_kind (scalar_of (Integer which)) ≡ true → promoted_integer which None ≡ I32
 int_promoted I8 e = refl
 int_promoted I16 e = refl
 int_promoted I32 e = refl
@@ -121,7 +121,7 @@ unsigned_promoted U64 e = let clash : false ≡ true = e in cc (clash)
 unsigned_promoted Isize e = let clash : false ≡ true = e in cc (clash)
 unsigned_promoted Usize e = let clash : false ≡ true = e in cc (clash)
 
-same_promoted : (types : CTypes) (type : CTy) (width : Option ℕ) → promoted types (unqualified type) width ≡ promoted types type width
+pub same_promoted : (types : CTypes) (type : CTy) (width : Option ℕ) → promoted types (unqualified type) width ≡ promoted types type width
 same_promoted types (ty form is_const) width = refl
 
 same_ups : (up : Bool) → c_up_or_down up ≡ up_or_down up
@@ -197,27 +197,27 @@ module _ (x : Around) where
 
   -- ---- the operator
 
-  abbrev one_typed : CTy → CTyped
+  abbrev pub one_typed : CTy → CTyped
   one_typed computes = record { type = computes; value = Number (pos 1) }
 
-  abbrev Computes : Op2 → CTy → Type 0
+  abbrev pub Computes : Op2 → CTy → Type 0
   Computes op computes = (blocks : Blocks) (left : Value) → AreObjects blocks → IsScalarIn x.home.program computes left →
       Comes (IsScalarIn x.home.program computes) (binary_value (setting_of x.home.program) op computes blocks (record { type = computes; value = left }) (one_typed computes))
 
-  record IsMover (op : Op2) : Type 0 where
-    of_number : (type : CTy) → IsPromoted type → IsBinaryOf x.home.program.types op type type type
-    of_pointer : (target : Ty) → is_target target ≡ true → moved_result op target ≡ Some (Pointer target)
+  pub record IsMover (op : Op2) : Type 0 where
+    pub of_number : (type : CTy) → IsPromoted type → IsBinaryOf x.home.program.types op type type type
+    pub of_pointer : (target : Ty) → is_target target ≡ true → moved_result op target ≡ Some (Pointer target)
 
-  adds : IsMover op2.Add
+  pub adds : IsMover op2.Add
   adds = record { of_number = λ type is. inl (record { promoted = is; left_is = refl; right_is = refl }); of_pointer = λ target e. rw (e) refl }
 
-  subtracts : IsMover op2.Subtract
+  pub subtracts : IsMover op2.Subtract
   subtracts = record { of_number = λ type is. inl (record { promoted = is; left_is = refl; right_is = refl }); of_pointer = λ target e. rw (e) refl }
 
   pointer_elements : (op : Op2) (computes : CTy) (one target : Ty) → one ≡ Pointer target → ElementsAgree (setting_in x.s) x.frame computes target → Elements (setting_in x.s) x.frame op one (one_of one).ty computes computes
   pointer_elements op computes one target e agree = subst (λ (t : Ty). Elements (setting_in x.s) x.frame op t (one_of t).ty computes computes) (sym e) agree
 
-  one_operator : (op : Op2) (type computes target : CTy) (last : Images) (c2 w2 : World) → At x last c2 w2 → IsMover op → IsRun x.home.program.types target computes → IsTypeIn x.home.program.types x.home.unit target → type ≡ unqualified target → Computes op computes →
+  pub one_operator : (op : Op2) (type computes target : CTy) (last : Images) (c2 w2 : World) → At x last c2 w2 → IsMover op → IsRun x.home.program.types target computes → IsTypeIn x.home.program.types x.home.unit target → type ≡ unqualified target → Computes op computes →
       IsOperator x type computes op (one_typed computes) (one_of (type_in x.names computes))
   one_operator op type computes target last c2 w2 here moves (inl run) there type_is comes =
       let types = x.home.program.types in
@@ -254,7 +254,7 @@ module _ (x : Around) where
       }
 
   -- the 1 is given
-  one_stands : (last : Images) (w : World) (types : _) (target computes : CTy) → IsRun types target computes → (IsElementPointer types computes → (at : Ty) × (type_in x.names computes ≡ Pointer at)) → OperandStands last x.frame w (one_of (type_in x.names computes)) (Number (pos 1))
+  pub one_stands : (last : Images) (w : World) (types : _) (target computes : CTy) → IsRun types target computes → (IsElementPointer types computes → (at : Ty) × (type_in x.names computes ≡ Pointer at)) → OperandStands last x.frame w (one_of (type_in x.names computes)) (Number (pos 1))
   one_stands last w types target computes (inl run) points =
       let integer = promoted_integer_type x.names computes run.promoted_is in
       subst (λ (t : Ty). OperandStands last x.frame w (one_of t) (Number (pos 1))) (sym integer.is)
@@ -266,7 +266,7 @@ module _ (x : Around) where
 
   -- ---- the operand
 
-  abbrev steps_in : CExpr → CTy
+  abbrev pub steps_in : CExpr → CTy
   steps_in on = promoted x.home.program.types (type_of on) (width_of on)
 
   step_ready : (op : Op2) (form : CTyForm) (is_const : Bool) (post : Bool) (on : CExpr) (written : Written) (fixed : Bool) (from : ℕ) (images last : Images) (c0 w0 c2 w2 : World) (one : COperand) (marks : Marks) (now : CUpdating) → IsMover op →
@@ -308,7 +308,7 @@ module _ (x : Around) where
 
   -- ---- `++` and `--`, used or not
 
-  abbrev of_program : CProgram → Op2 → Bool → CExpr → COperand → CChange
+  abbrev pub of_program : CProgram → Op2 → Bool → CExpr → COperand → CChange
   of_program program op post on one =
       record { op = op; computes = promoted program.types (type_of on) (width_of on); right = record { type = promoted program.types (type_of on) (width_of on); value = Number (pos 1) }; target = one; is_postfix = post }
 

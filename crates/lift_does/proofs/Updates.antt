@@ -79,7 +79,7 @@ scalar_of_c value = scalar value
 pub same_scalar : (one other : Value) → scalar_of_c one ≡ scalar_of_c other → one ≡ other
 same_scalar one other e = cc (e)
 
-scalar_conversion : (setting : CSetting) (type : CTy) (blocks : Blocks) (old : Value) (middle : CValue) (new : Value) → is_void type ≡ false → converted_value setting type blocks (scalar old) ≡ Ok middle → scalar_value middle ≡ Ok new →
+pub scalar_conversion : (setting : CSetting) (type : CTy) (blocks : Blocks) (old : Value) (middle : CValue) (new : Value) → is_void type ≡ false → converted_value setting type blocks (scalar old) ≡ Ok middle → scalar_value middle ≡ Ok new →
     ScalarConverted setting type blocks old new
 scalar_conversion setting (ty form is_const) blocks old middle new plainly e f =
     let is = conversion_is setting form is_const blocks (scalar old) middle plainly e in
@@ -91,7 +91,7 @@ converted_typed : (home : CHome) (at : Place) (from type : CTy) (blocks : Blocks
     IsScalarIn home.program from old → Comes (IsConvertedIn home.program type) (converted_value (setting_of home.program) type blocks (scalar old))
 converted_typed home at from (ty form is_const) blocks old types there conversion given = converted_comes home.program home.unit blocks (expr from at null) form is_const (scalar old) types there conversion (inl given)
 
-scalar_void : (setting : CSetting) (type : CTy) (kind : Scalar) → scalar_in_type setting type ≡ Some kind → is_void type ≡ false
+pub scalar_void : (setting : CSetting) (type : CTy) (kind : Scalar) → scalar_in_type setting type ≡ Some kind → is_void type ≡ false
 scalar_void setting (ty void is_const) kind e = cc (e)
 scalar_void setting (ty (basic which) is_const) kind e = refl
 scalar_void setting (ty (enum_type number) is_const) kind e = refl

@@ -1,7 +1,7 @@
--- The part of the law that is proved: the expressions without calls, compound literals, stores in bit-fields, and members of values.
-use Rattle.std.specs.Prelude.{◌≡◌, ◌⊎◌, ℕ, true, false}
+-- The part of the law that is proved: the expressions without calls and compound literals.
+use Rattle.std.specs.Prelude.{◌⊎◌, ℕ}
 use Rattle.cx_core.specs.Trees.{CExpr, expr, CForm, whole, null, object, code, load, deref, member, address, convert, unary, binary, and, or, cond, assign, assign_by, step, comma}
-use Rattle.cx_core.specs.Typing.{CHome, IsTyped, IsLvalue, is_bit_field}
+use Rattle.cx_core.specs.Typing.{CHome, IsTyped, IsLvalue}
 use Rattle.cx_typed_leftmost.specs.Laws.{CallsAreTyped}
 use Rattle.lift_calls.specs.Calls.{Promise}
 use Rattle.lift_calls.specs.Frames.{FunctionNames, NamesApart}
@@ -10,7 +10,6 @@ use Rattle.lift_does.specs.Agree.{NamesMean, AreKeptFrom}
 use Rattle.lift_does.specs.Does.{IsAsked, Does}
 use Rattle.lift_exprs.specs.Lifted.{lifted}
 use Rattle.lift_exprs.specs.Names.{Names}
-use Rattle.lift_held.specs.Held.{is_lvalue}
 use Rattle.lift_held.specs.declared.asked.Asked.{Asked}
 
 -- ---- what is covered
@@ -26,14 +25,14 @@ abbrev mutual
   IsCoveredForm (code number) = Unit {0}
   IsCoveredForm (load from) = IsCovered from
   IsCoveredForm (deref from) = IsCovered from
-  IsCoveredForm (member of spot) = (is_lvalue of ≡ true) × IsCovered of
+  IsCoveredForm (member of spot) = IsCovered of
   IsCoveredForm (address of) = IsCovered of
   IsCoveredForm (convert value) = IsCovered value
   IsCoveredForm (unary op value) = IsCovered value
   IsCoveredForm (binary op left right) = IsCovered left × IsCovered right
-  IsCoveredForm (assign target value) = (is_bit_field target ≡ false) × IsCovered target × IsCovered value
-  IsCoveredForm (assign_by op computes target value) = (is_bit_field target ≡ false) × IsCovered target × IsCovered value
-  IsCoveredForm (step up post on) = (is_bit_field on ≡ false) × IsCovered on
+  IsCoveredForm (assign target value) = IsCovered target × IsCovered value
+  IsCoveredForm (assign_by op computes target value) = IsCovered target × IsCovered value
+  IsCoveredForm (step up post on) = IsCovered on
   IsCoveredForm (comma first second) = IsCovered first × IsCovered second
   IsCoveredForm (and left right) = IsCovered left × IsCovered right
   IsCoveredForm (or left right) = IsCovered left × IsCovered right

@@ -24,7 +24,7 @@ use Rattle.mem_bytes.specs.declared.value.Value.TheVariants.{Object}
 use Rattle.rs_mean.specs.Calls.{Spot as RustSpot}
 use Rattle.rs_mean.specs.Run.{Frame, is_base}
 use Rattle.rs_mean.specs.Scalars.{scalar_of}
-use Rattle.rs_text.specs.Tree.{Ty, Pointer, Place, Local, Static, Deref, Field, AddressOf}
+use Rattle.rs_text.specs.Tree.{Ty, Pointer, Place, Local, Static, Deref, Field, Expr, AddressOf}
 
 -- not what a pointer points to
 abbrev pub IsNoDeref : Place → Type 0
@@ -72,6 +72,7 @@ pub record GivesRecord (images : Images) (frame : Frame) (world : World) (ty : T
   pub gives : GivesAt frame world (address_of_given given) (Pointer ty) at
   pub holds : PlaceHolds images (blocks_of world) align at list
   pub based : AddressesBased frame world given
+  pub form : (e : Expr) × (given ≡ value e)
 
 -- a value of a type, whatever it is: what a call gives back where C's function ended without a value (6.9.1p12)
 pub record GivesSome (frame : Frame) (world : World) (ty : Ty) (given : Given) : Type 0 where

@@ -3,7 +3,7 @@
 
 ghost use Rattle.lift_does.specs.Covered.{CoveredDoes};
 
-/// Law: so it is with each expression without calls, compound literals, stores in bit-fields, and members of values.
+/// Law: so it is with each expression without calls and compound literals.
 pub fn covered_does()
     ensures { CoveredDoes }
 {}

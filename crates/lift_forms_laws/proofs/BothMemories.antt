@@ -51,7 +51,7 @@ use Rattle.lift_forms_laws.proofs.BitWrites.{writes}
 -- ---- the value of a bit-field
 
 -- what C has of the bits is what the crate has of them
-value_is : (spot : Spot) (kind : Scalar) (number : ℕ) (one : Value) → field_value kind spot.width (field_of spot.bit spot.width number) ≡ Ok one → one ≡ Whole (bits_value spot (has_sign kind) number)
+pub value_is : (spot : Spot) (kind : Scalar) (number : ℕ) (one : Value) → field_value kind spot.width (field_of spot.bit spot.width number) ≡ Ok one → one ≡ Whole (bits_value spot (has_sign kind) number)
 value_is spot (scalar_type.Whole size signed) number one e = cc
 value_is spot scalar_type.Truth number one e =
     let same : one ≡ Whole (pos (field_of spot.bit spot.width number)) = cc (sym e) in
