@@ -1,0 +1,3 @@
+mod Bare
+mod Behinds
+mod Found

@@ -1,0 +1,4 @@
+pub mod Behind
+pub mod Called
+pub mod Places
+pub mod Views
