@@ -1,3 +1,5 @@
 mod Bare
 mod Behinds
 mod Found
+mod Ordered
+mod Params

@@ -4,11 +4,15 @@
 mod body_calls;
 mod called;
 mod calls;
+mod entries;
 mod key;
+mod keys;
 mod places;
 
 pub use body_calls::calls_of;
 pub use called::Called;
 pub use calls::NamedCall;
+pub use entries::{has_params, is_entry, is_outer_named};
 pub use key::NameKey;
+pub use keys::{entries_of, has_function, module_keys, numbers_named, things_of};
 pub use places::Places;
