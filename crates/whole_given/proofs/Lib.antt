@@ -1,0 +1,3 @@
+mod OwnNames
+mod Tables
+mod Units
