@@ -2,7 +2,7 @@
 use Rattle.std.proofs.Common.{◌≡◌, ℕ, zero, suc, List, [], ◌∷◌, ◌++◌, length, Option, None, Some, slice_get, subst, sym}
 use Rattle.cx_core.specs.Trees.{CProgram}
 use Rattle.whole_given.specs.Whole.{AreGiven, IsGiven}
-use Rattle.whole_given.specs.declared.table.ModuleNames.{ModuleNames}
+use Rattle.whole_given.specs.declared.given.ModuleNames.{ModuleNames}
 
 one_more : {A : Type 0} (P : ℕ → A → Type 0) (list : List A) (last : A) → ((k : ℕ) (one : A) → slice_get list k ≡ Some one → P k one) → P (length list) last →
     (k : ℕ) (one : A) → slice_get (list ++ last ∷ []) k ≡ Some one → P k one

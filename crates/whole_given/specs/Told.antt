@@ -4,7 +4,7 @@ use Rattle.std.specs.HashMap.{get_by}
 use Rattle.cx_core.specs.Trees.{CProgram}
 use Rattle.rs_items_sets.specs.Names.{rust_name}
 use Rattle.rs_items_sets.specs.declared.scope.NameScope.TheVariants.{Module}
-use Rattle.whole_given.specs.declared.table.ModuleNames.{ModuleNames}
+use Rattle.whole_given.specs.declared.table.NameTable.{NameTable}
 use Rattle.whole_keys.specs.Views.{view_key}
 use Rattle.whole_keys.specs.declared.key.NameKey.{NameKey}
 use Rattle.whole_names.specs.Keys as keys
@@ -12,7 +12,7 @@ use Rattle.whole_names.specs.Keys.{same_key}
 use Rattle.whole_names.specs.ModuleNames.{wanted_name}
 
 -- the name of a key
-abbrev pub told : ModuleNames → NameKey → Option (List ℕ)
+abbrev pub told : NameTable → NameKey → Option (List ℕ)
 told table key = get_by (λ (one : NameKey). same_key (view_key key) (view_key one)) table.names
 
 -- what is there, or else another

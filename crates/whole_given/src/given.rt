@@ -3,13 +3,14 @@
 ghost use Rattle.std.specs.Prelude.{◌≡◌, [], ◌∷◌, codes, map, IfOk, OnOk};
 ghost use Rattle.cx_core.specs.Views.{view_program};
 ghost use Rattle.whole_given.specs.Told.{first_of, taken_more, told};
+ghost use Rattle.whole_given.specs.Whole.{IsGiven};
 ghost use Rattle.whole_keys.specs.Places.{ArePlaces};
 ghost use Rattle.whole_keys.specs.Views.{view_key};
 ghost use Rattle.whole_keys.specs.declared.key.NameKey.{NameKey};
 ghost use Rattle.whole_names.specs.Keys.{module_keys};
-ghost use Rattle.whole_names.specs.ModuleNames.{entry_names, given_from, module_names, name_among, own_names};
+ghost use Rattle.whole_names.specs.ModuleNames.{entry_names, given_from, name_among, own_names};
 
-use crate::table::ModuleNames;
+use crate::table::NameTable;
 use crate::wanted::wanted_name;
 use cr_base::{Items, Memory, Name};
 use cx_core::Parts;
@@ -27,14 +28,14 @@ fn main_name(alloc: Global) -> Result<Name, Memory>
 }
 
 // `main` is `main_0`.
-fn give_main(alloc: Global, key: NameKey, table: &mut ModuleNames) -> Result<(), Memory>
+fn give_main(alloc: Global, key: NameKey, table: &mut NameTable) -> Result<(), Memory>
     ensures { OnOk result ((other : NameKey) → told table.new other ≡ first_of (told table.old other) (name_among (view_key other) (entry_names (view_key key ∷ [])))) }
 {
     let name = main_name(alloc)?;
     table.give(key, name)
 }
 
-fn give_entries(alloc: Global, keys: &[NameKey], table: &mut ModuleNames) -> Result<(), Memory>
+fn give_entries(alloc: Global, keys: &[NameKey], table: &mut NameTable) -> Result<(), Memory>
     ensures { OnOk result ((other : NameKey) → told table.new other ≡ first_of (told table.old other) (name_among (view_key other) (entry_names (map view_key keys.now)))) }
 {
     for one in keys {
@@ -52,7 +53,7 @@ fn give_one(
     places: &Places,
     key: NameKey,
     scopes: &mut Scopes,
-    table: &mut ModuleNames,
+    table: &mut NameTable,
 ) -> Result<(), Memory>
     requires { ArePlaces places.now (view_program parts.now) }
     ensures taken { OnOk result (scopes.new.module_names ≡ taken_more (view_program parts.now) scopes.old.module_names (view_key key)) }
@@ -71,7 +72,7 @@ fn give_all(
     places: &Places,
     keys: &[NameKey],
     scopes: &mut Scopes,
-    table: &mut ModuleNames,
+    table: &mut NameTable,
 ) -> Result<(), Memory>
     requires { ArePlaces places.now (view_program parts.now) }
     ensures { OnOk result ((other : NameKey) → told table.new other ≡
@@ -104,7 +105,7 @@ fn give_keys(
     parts: &Parts,
     places: &Places,
     keys: &[NameKey],
-    table: &mut ModuleNames,
+    table: &mut NameTable,
 ) -> Result<(), Memory>
     requires { ArePlaces places.now (view_program parts.now) }
     ensures { OnOk result ((other : NameKey) → told table.new other ≡
@@ -112,6 +113,15 @@ fn give_keys(
 {
     let mut scopes = Scopes::new(alloc);
     give_all(alloc, parts, places, keys, &mut scopes, table)
+}
+
+/// What has a name in a module, and which.
+#[derive(Drop)]
+pub struct ModuleNames {
+    /// The keys in the order in which names are given, without `main`.
+    pub keys: Items<NameKey>,
+    /// The names of all keys.
+    pub names: NameTable,
 }
 
 /// The names of the module of a unit.
@@ -122,12 +132,12 @@ pub fn module_names(
     unit: u32,
 ) -> Result<ModuleNames, Memory>
     requires { ArePlaces places.now (view_program parts.now) }
-    ensures { IfOk result (λ table. (key : NameKey) → told table key ≡ name_among (view_key key) (module_names (view_program parts.now) unit)) }
+    ensures { IfOk result (λ made. IsGiven (view_program parts.now) unit made) }
 {
-    let mut table = ModuleNames::new(alloc);
+    let mut names = NameTable::new(alloc);
     let entries = entries_of(alloc, parts, unit)?;
     let keys = keys_of(alloc, parts, places, unit)?;
-    give_entries(alloc, entries.as_slice(), &mut table)?;
-    give_keys(alloc, parts, places, keys.as_slice(), &mut table)?;
-    Ok(table)
+    give_entries(alloc, entries.as_slice(), &mut names)?;
+    give_keys(alloc, parts, places, keys.as_slice(), &mut names)?;
+    Ok(ModuleNames { keys, names })
 }

@@ -7,7 +7,7 @@ mod table;
 mod wanted;
 mod whole;
 
-pub use given::module_names;
-pub use table::ModuleNames;
+pub use given::{ModuleNames, module_names};
+pub use table::NameTable;
 pub use wanted::wanted_name;
 pub use whole::Whole;

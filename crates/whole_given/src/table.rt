@@ -14,16 +14,16 @@ use whole_keys::NameKey;
 
 /// The names of a module by their keys: the first that a key got.
 #[derive(Drop)]
-pub struct ModuleNames {
+pub struct NameTable {
     names: HashMap<NameKey, Name>,
 }
 
-impl ModuleNames {
+impl NameTable {
     /// No key has a name.
-    pub fn new(alloc: Global) -> ModuleNames
+    pub fn new(alloc: Global) -> NameTable
         ensures { (key : NameKey) → told result key ≡ None }
     {
-        ModuleNames {
+        NameTable {
             names: HashMap::new(alloc),
         }
     }

@@ -6,11 +6,11 @@ ghost use Rattle.cx_core.specs.Views.{view_function, view_object, view_outer, vi
 ghost use Rattle.whole_given.specs.Whole.{AreGiven, named};
 ghost use Rattle.whole_keys.specs.Places.{ArePlaces};
 ghost use Rattle.whole_keys.specs.Views.{view_key};
+ghost use Rattle.whole_names.specs.Keys.{module_keys};
 ghost use Rattle.whole_names.specs.Kept.{module_of, name_in, size_of};
 ghost use Rattle.whole_names.specs.ModuleNames.{name_or};
 
-use crate::given::module_names;
-use crate::table::ModuleNames;
+use crate::given::{ModuleNames, module_names};
 use cr_base::{Items, Memory, Name};
 use cx_core::{CoreObject, Fun, Outer, Parts, Ty};
 use cx_layout::Layouts;
@@ -152,7 +152,7 @@ impl<'a> Whole<'a> {
         ensures { IfOk result (λ name. name ≡ name_in (named self.now) unit (view_key key)) }
     {
         match self.given.get(unit as usize) {
-            Some(table) => copied(self.alloc, table.name(key)),
+            Some(made) => copied(self.alloc, made.names.name(key)),
             None => Err(Memory),
         }
     }
@@ -162,5 +162,15 @@ impl<'a> Whole<'a> {
         ensures { result ≡ size_of (named self.now) (view_type ty.now) }
     {
         size_or_none(self.layouts.size(ty))
+    }
+
+    /// The keys of the module of a unit in the order of their names, without `main`. Refused where a unit has no module.
+    pub fn keys(&self, unit: u32) -> Result<&[NameKey], Memory>
+        ensures { IfOk result (λ keys. map view_key keys.now ≡ module_keys (named self.now).program unit) }
+    {
+        match self.given.get(unit as usize) {
+            Some(made) => Ok(made.keys.as_slice()),
+            None => Err(Memory),
+        }
     }
 }

@@ -3,7 +3,7 @@ use Rattle.std.proofs.lemmas.List.{length-append}
 use Rattle.cx_core.specs.Views.{view_program}
 use Rattle.whole_given.proofs.Units.{given_more}
 use Rattle.whole_given.specs.Whole.{AreGiven}
-use Rattle.whole_given.specs.declared.table.ModuleNames.{ModuleNames}
+use Rattle.whole_given.specs.declared.given.ModuleNames.{ModuleNames}
 use Rattle.whole_given.proofs.whole.names_of_units.Goals as goal
 
 pub loop-unit-preserved : goal.loop-unit-preserved

@@ -1,5 +1,5 @@
 use Rattle.whole_given.proofs.Tables.{gets, stays}
-use Rattle.whole_given.proofs.table.ModuleNames.give.Goals as goal
+use Rattle.whole_given.proofs.table.NameTable.give.Goals as goal
 
 pub returns-then-contains_key : goal.returns-then-contains_key
 returns-then-contains_key c = λ other. stays c.args.self.now.names c.args.key other c.args.name c.contains_key.result c.contains_key.ensures c.if-contains_key.true
