@@ -6,7 +6,7 @@ ghost use Rattle.cx_core.specs.Views.{view_function, view_object, view_outer, vi
 ghost use Rattle.whole_given.specs.Whole.{AreGiven, named};
 ghost use Rattle.whole_keys.specs.Places.{ArePlaces};
 ghost use Rattle.whole_keys.specs.Views.{view_key};
-ghost use Rattle.whole_names.specs.Keys.{module_keys};
+ghost use Rattle.whole_names.specs.Keys.{module_keys, things_of};
 ghost use Rattle.whole_names.specs.Kept.{module_of, name_in, size_of};
 ghost use Rattle.whole_names.specs.ModuleNames.{name_or};
 
@@ -16,7 +16,7 @@ use cx_core::{CoreObject, Fun, Outer, Parts, Ty};
 use cx_layout::Layouts;
 use std::alloc::Global;
 use std::marker::Model;
-use whole_keys::{NameKey, Places};
+use whole_keys::{NameKey, Places, things_of};
 
 /// A program, with the names of its modules, one for each unit, and the names that things have in them. Contracts see the program's parts and the names of its
 /// modules.
@@ -172,5 +172,12 @@ impl<'a> Whole<'a> {
             Some(made) => Ok(made.keys.as_slice()),
             None => Err(Memory),
         }
+    }
+
+    /// The functions and objects of a unit with linkage by first declaration, but those that another unit defines. Refused only for want of memory.
+    pub fn things_of(&self, unit: u32) -> Result<Items<NameKey>, Memory>
+        ensures { IfOk result (λ keys. map view_key keys ≡ things_of (named self.now).program unit) }
+    {
+        things_of(self.alloc, self.parts, &self.places, unit)
     }
 }

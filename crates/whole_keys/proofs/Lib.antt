@@ -1,5 +1,5 @@
 mod Bare
 mod Behinds
 mod Found
-mod Ordered
+pub mod Ordered
 mod Params

@@ -1,0 +1,11 @@
+//! What the things of a C program have become in the modules of a written crate: kept once for the program, then for each module (ISO C99, 6.2.1, 6.2.2, 6.2.4).
+#![tactic(auto)]
+
+mod callocs;
+mod entries;
+mod program;
+mod types;
+
+pub use entries::code_type_of;
+pub use program::begin_program;
+pub use types::type_of;
