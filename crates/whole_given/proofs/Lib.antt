@@ -1,3 +1,3 @@
-mod OwnNames
+pub mod OwnNames
 mod Tables
 mod Units

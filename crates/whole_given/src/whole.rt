@@ -8,9 +8,10 @@ ghost use Rattle.whole_keys.specs.Places.{ArePlaces};
 ghost use Rattle.whole_keys.specs.Views.{view_key};
 ghost use Rattle.whole_names.specs.Keys.{module_keys, things_of};
 ghost use Rattle.whole_names.specs.Kept.{module_of, name_in, size_of};
-ghost use Rattle.whole_names.specs.ModuleNames.{name_or};
+ghost use Rattle.whole_names.specs.ModuleNames.{name_or, wanted_name};
 
 use crate::given::{ModuleNames, module_names};
+use crate::wanted::wanted_name;
 use cr_base::{Items, Memory, Name};
 use cx_core::{CoreObject, Fun, Outer, Parts, Ty};
 use cx_layout::Layouts;
@@ -179,5 +180,12 @@ impl<'a> Whole<'a> {
         ensures { IfOk result (λ keys. map view_key keys ≡ things_of (named self.now).program unit) }
     {
         things_of(self.alloc, self.parts, &self.places, unit)
+    }
+
+    /// The name that a key is to get where it is free. Refused only for want of memory.
+    pub fn wanted_name(&self, key: NameKey) -> Result<Name, Memory>
+        ensures { IfOk result (λ name. name ≡ wanted_name (named self.now).program (view_key key)) }
+    {
+        wanted_name(self.alloc, self.parts, &self.places, key)
     }
 }

@@ -82,7 +82,7 @@ record_there whole n e = ap (λ t. record_thing whole n (path_if t (path_of whol
 pub record_not : (whole : NamedProgram) (n : ℕ) → is_completed whole n ≡ false → record_at whole n ≡ None
 record_not whole n e = ap (λ t. record_thing whole n (path_if t (path_of whole n))) e
 
-both_rest : {a b c : Names} → KeepsRest a b → KeepsRest b c → KeepsRest a c
+pub both_rest : {a b c : Names} → KeepsRest a b → KeepsRest b c → KeepsRest a c
 both_rest one other = record {
   same_taken = other.same_taken ∙ one.same_taken;
   same_fields = other.same_fields ∙ one.same_fields;
@@ -99,9 +99,10 @@ put_nothing named known one = by_test (same_named one named)
 
 module _ (whole : NamedProgram) (before : Names) where
   -- the types are known once they are kept where nothing was
-  pub types_known : (middle after : Names) → KnowsNothing before → KnowsMore before middle (enums_put whole (length whole.program.types.enums) before.known) →
+  pub types_known : (middle after : Names) → length whole.program.types.enums ≤ length whole.program.types.enum_units → KnowsNothing before → KnowsMore before middle (enums_put whole (length whole.program.types.enums) before.known) →
       KnowsMore middle after (records_put whole (length whole.program.types.records) middle.known) → KnowsTypes whole before after
-  types_known middle after nothing enums records = record {
+  types_known middle after units nothing enums records = record {
+    units_there = units;
     types = record {
       has_records = λ n. records.known_is (Record n) ∙ numbers_all record_kind (record_at whole) (λ n m. refl) middle.known (length whole.program.types.records) n (no_record whole n)
           ∙ ap (λ found. first_of (record_at whole n) found) (apart (Record n) (λ m. refl)) ∙ nothing_behind (record_at whole n);
@@ -183,6 +184,7 @@ base_is whole before types objects functions bits known first second = record {
   nothing_else = λ n none outer. function n ∙ ap (λ found. option_map (function_item whole) found) none;
   no_bares = λ n. same (BareFunction n) (λ m. refl) (λ m. refl) ∙ known.no_bares n;
   no_temporaries = λ n. same (Temporary n) (λ m. refl) (λ m. refl) ∙ known.no_temporaries n;
+  units_there = known.units_there;
   has_bits_is = second.rest.same_bits ∙ first.rest.same_bits ∙ known.rest.same_bits ∙ bits;
 }
   where

@@ -1,3 +1,4 @@
 mod Alike
 mod CallocKeys
+mod Declared
 mod Kept

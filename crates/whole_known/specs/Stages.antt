@@ -1,5 +1,5 @@
 -- What is known of things once some of them are kept.
-use Rattle.std.specs.Prelude.{◌≡◌, ℕ, zero, suc, Bool, true, false, if◌then◌else◌, List, [], ◌∷◌, Option, Some, None, is_some, option_map, slice_get}
+use Rattle.std.specs.Prelude.{◌≡◌, ◌≤◌, ℕ, zero, suc, length, Bool, true, false, if◌then◌else◌, List, [], ◌∷◌, Option, Some, None, is_some, option_map, slice_get}
 use Rattle.cx_core.specs.BitFields.{has_bit_fields}
 use Rattle.cx_core.specs.Trees.{CObject, CFun, COuter}
 use Rattle.cx_core.specs.Typing.{function_with, object_with, outer_with}
@@ -105,6 +105,7 @@ pub record IsBase (whole : NamedProgram) (names : Names) : Type 0 where
   pub nothing_else : (number : ℕ) → function_with number whole.program.functions ≡ None → outer_with number whole.program.externals ≡ None → names.known (Function number) ≡ None
   pub no_bares : (number : ℕ) → names.known (BareFunction number) ≡ None
   pub no_temporaries : (number : ℕ) → names.known (Temporary number) ≡ None
+  pub units_there : length whole.program.types.enums ≤ length whole.program.types.enum_units
   pub has_bits_is : names.has_bits ≡ has_bit_fields whole.program.types
 
 abbrev pub KnowsNothing : Names → Type 0
@@ -117,4 +118,5 @@ pub record KnowsTypes (whole : NamedProgram) (before after : Names) : Type 0 whe
   pub no_functions : (number : ℕ) → after.known (Function number) ≡ None
   pub no_bares : (number : ℕ) → after.known (BareFunction number) ≡ None
   pub no_temporaries : (number : ℕ) → after.known (Temporary number) ≡ None
+  pub units_there : length whole.program.types.enums ≤ length whole.program.types.enum_units
   pub rest : KeepsRest before after

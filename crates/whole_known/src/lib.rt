@@ -3,9 +3,11 @@
 
 mod callocs;
 mod entries;
+mod externals;
 mod program;
 mod types;
 
 pub use entries::code_type_of;
+pub use externals::enter_module;
 pub use program::begin_program;
 pub use types::type_of;

@@ -1,6 +1,6 @@
 //! What doesn't differ from module to module. It is refused only for want of memory.
 
-ghost use Rattle.std.specs.Prelude.{◌≡◌, Some, map, IfOk, OnOk};
+ghost use Rattle.std.specs.Prelude.{◌≡◌, ◌≤◌, true, length, Some, map, IfOk, OnOk};
 ghost use Rattle.cx_core.specs.Views.{view_function, view_object};
 ghost use Rattle.rs_items.specs.Known.{view_known, view_names};
 ghost use Rattle.rs_items.specs.declared.known.Named.TheVariants.{Enum, Function, Object, Record};
@@ -10,7 +10,7 @@ ghost use Rattle.whole_names.specs.Kept.{function_item, is_completed, object_ite
 
 use crate::entries::{enum_entry, function_entry, object_entry, record_entry};
 use cr_base::Memory;
-use cx_core::{CoreObject, Fun, has_bit_fields};
+use cx_core::{CoreObject, Fun, Types, has_bit_fields};
 use rs_items::{Known, NameMap};
 use std::alloc::Global;
 use whole_given::Whole;
@@ -173,12 +173,22 @@ fn count_of(count: usize) -> Result<u32, Memory>
     }
 }
 
+// Each enumerated type has a unit.
+fn has_units(types: &Types) -> bool
+    ensures { result ≡ true → length types.now.enums ≤ length types.now.enum_units }
+{
+    types.enums.len() <= types.enum_units.len()
+}
+
 // The types of a program, where nothing is known.
 fn keep_types(alloc: Global, whole: &Whole<'_>, names: &mut NameMap) -> Result<(), Memory>
     requires { KnowsNothing (view_names names.old) }
     ensures { OnOk result (KnowsTypes (named whole.now) (view_names names.old) (view_names names.new)) }
 {
     let types = &whole.parts().types;
+    if !has_units(types) {
+        return Err(Memory);
+    }
     let enums = count_of(types.enums.len())?;
     let records = count_of(types.records.len())?;
     keep_enums(alloc, whole, enums, names)?;
