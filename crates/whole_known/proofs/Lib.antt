@@ -1,4 +1,4 @@
 mod Alike
 mod CallocKeys
-mod Declared
-mod Kept
+pub mod Declared
+pub mod Kept

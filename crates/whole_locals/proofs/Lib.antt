@@ -1,0 +1,3 @@
+mod Behinds
+mod Ordered
+mod Several
