@@ -192,7 +192,7 @@ bare_in whole unit n old None false e is = e
 bare_in whole unit n old (Some one) true e is = ap (λ (t : Bool). if t then Some (bare_item whole unit one) else None) is
 bare_in whole unit n old (Some one) false e is = e ∙ ap (λ (t : Bool). if t then Some (bare_item whole unit one) else None) is
 
-enum_in : (whole : NamedProgram) (unit n : ℕ) → length whole.program.types.enums ≤ length whole.program.types.enum_units → enum_at whole n ≡ enum_thing whole unit n (slice_get whole.program.types.enums n)
+pub enum_in : (whole : NamedProgram) (unit n : ℕ) → length whole.program.types.enums ≤ length whole.program.types.enum_units → enum_at whole n ≡ enum_thing whole unit n (slice_get whole.program.types.enums n)
 enum_in whole unit n within = by_found (slice_get whole.program.types.enums n) refl
   where
     by_found : (found : Option Bool) → slice_get whole.program.types.enums n ≡ found → enum_with n (slice_get whole.program.types.enum_units n) found ≡ enum_thing whole unit n found
@@ -260,6 +260,7 @@ module_is whole unit before begun_names taken after base none bits takes known =
   known_are = known.known_are;
   taken_are = ap (λ (t : TakenNames). t.module_names) (known.rest.same_taken ∙ takes.taken_are);
   none_own = ap (λ (t : TakenNames). t.own_names) (known.rest.same_taken ∙ takes.taken_are) ∙ none;
+  units_there = base.units_there;
   has_bits_is = known.rest.same_bits ∙ takes.same_bits ∙ bits ∙ base.has_bits_is;
 }
 

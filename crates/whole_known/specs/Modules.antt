@@ -1,5 +1,5 @@
 -- What is known in a module, and which names are taken in it.
-use Rattle.std.specs.Prelude.{◌≡◌, ℕ, Bool, true, false, if◌then◌else◌, List, [], ◌∷◌}
+use Rattle.std.specs.Prelude.{◌≡◌, ◌≤◌, ℕ, length, Bool, true, false, if◌then◌else◌, List, [], ◌∷◌}
 use Rattle.cx_core.specs.BitFields.{has_bit_fields}
 use Rattle.cx_core.specs.Trees.{COuter, CProgram}
 use Rattle.rs_items.specs.Known.{KnownThing, Names}
@@ -59,4 +59,5 @@ pub record IsModule (whole : NamedProgram) (unit : ℕ) (names : Names) : Type 0
   pub known_are : KnowsAll whole unit no_locals names
   pub taken_are : names.taken.module_names ≡ item_names whole.program unit
   pub none_own : names.taken.own_names ≡ []
+  pub units_there : length whole.program.types.enums ≤ length whole.program.types.enum_units
   pub has_bits_is : names.has_bits ≡ has_bit_fields whole.program.types

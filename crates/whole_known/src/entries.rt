@@ -87,7 +87,7 @@ pub(crate) fn record_entry(whole: &Whole<'_>, number: u32, unit: u32) -> Result<
 // ---- objects and functions
 
 /// An object that isn't one of a function's blocks.
-pub(crate) fn object_entry(
+pub fn object_entry(
     alloc: Global,
     whole: &Whole<'_>,
     names: &NameMap,
@@ -111,7 +111,7 @@ pub(crate) fn object_entry(
 }
 
 /// An object of a function's blocks, or a parameter, by its name.
-pub(crate) fn local_entry(
+pub fn local_entry(
     alloc: Global,
     whole: &Whole<'_>,
     names: &NameMap,

@@ -7,7 +7,7 @@ mod externals;
 mod program;
 mod types;
 
-pub use entries::code_type_of;
+pub use entries::{code_type_of, local_entry, object_entry};
 pub use externals::enter_module;
-pub use program::begin_program;
+pub use program::{begin_program, keep};
 pub use types::type_of;

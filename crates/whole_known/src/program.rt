@@ -16,7 +16,7 @@ use std::alloc::Global;
 use whole_given::Whole;
 
 /// Keeps what a thing has become.
-pub(crate) fn keep(names: &mut NameMap, one: Known) -> Result<(), Memory>
+pub fn keep(names: &mut NameMap, one: Known) -> Result<(), Memory>
     ensures { OnOk result (KnowsMore (view_names names.old) (view_names names.new) (put one.named (Some (view_known one)) (view_names names.old).known)) }
 {
     names.keep(one)

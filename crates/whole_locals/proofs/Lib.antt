@@ -1,3 +1,4 @@
 mod Behinds
+mod Known
 mod Ordered
 mod Several

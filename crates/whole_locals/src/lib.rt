@@ -2,9 +2,11 @@
 #![tactic(auto)]
 
 mod blocks;
+mod kept;
 mod names;
 mod wanted;
 
 pub use blocks::BlockObjects;
+pub use kept::enter_function;
 pub use names::{LocalName, names_of};
 pub use wanted::{LocalKey, WantedLocal, gives_record, object_is_record, wanted_in};
