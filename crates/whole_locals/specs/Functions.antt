@@ -10,7 +10,7 @@ use Rattle.rs_text.specs.Tree.{Ty}
 use Rattle.whole_known.specs.Modules.{KnowsAll, item_names}
 use Rattle.whole_known.specs.Stages.{put}
 use Rattle.whole_names.specs.FunctionNames.{LocalKey, a_result, a_passed, a_local, a_temporary, LocalName, local_names}
-use Rattle.whole_names.specs.Kept.{LocalNames, NamedProgram, own_thing, size_of, temporary_thing, types_of}
+use Rattle.whole_names.specs.Kept.{LocalNames, NamedProgram, object_item, own_thing, size_of, temporary_thing, types_of}
 
 abbrev pub own_item : NamedProgram → List ℕ → CObject → KnownThing
 own_item whole name one = own_thing (Object one.object) one.unit name (rust_type (types_of whole) one.type) (size_of whole one.type)
@@ -45,3 +45,22 @@ pub record IsFunction (whole : NamedProgram) (fun : CFun) (temporaries : List Ty
   pub taken_are : names.taken.module_names ≡ item_names whole.program fun.unit
   pub units_there : length whole.program.types.enums ≤ length whole.program.types.enum_units
   pub has_bits_is : names.has_bits ≡ has_bit_fields whole.program.types
+
+-- ---- outside of the function
+
+-- an object by its number, as an item
+abbrev pub item_at : NamedProgram → (number : ℕ) → Option KnownThing
+item_at whole number = option_map (object_item whole) (object_with number whole.program.objects)
+
+abbrev pub key_item_put : NamedProgram → LocalKey → Knows → Knows
+key_item_put whole a_result known = known
+key_item_put whole (a_passed number) known = known
+key_item_put whole (a_local number) known = put (Object number) (item_at whole number) known
+key_item_put whole (a_temporary number) known = known
+
+abbrev pub item_put : NamedProgram → LocalName → Knows → Knows
+item_put whole one known = key_item_put whole one.key known
+
+abbrev pub items_put : NamedProgram → List LocalName → Knows → Knows
+items_put whole [] known = known
+items_put whole (one ∷ others) known = items_put whole others (item_put whole one known)

@@ -3,10 +3,12 @@
 
 mod blocks;
 mod kept;
+mod left;
 mod names;
 mod wanted;
 
 pub use blocks::BlockObjects;
 pub use kept::enter_function;
+pub use left::leave_function;
 pub use names::{LocalName, names_of};
 pub use wanted::{LocalKey, WantedLocal, gives_record, object_is_record, wanted_in};
