@@ -188,4 +188,11 @@ impl<'a> Whole<'a> {
     {
         wanted_name(self.alloc, self.parts, &self.places, key)
     }
+
+    /// The layouts of the program's structures and unions.
+    pub fn layouts(&self) -> &Layouts
+        ensures { result.now ≡ layouts_of (view_types self.now.0.types) }
+    {
+        &self.layouts
+    }
 }

@@ -1,4 +1,4 @@
-mod Alike
+pub mod Alike
 mod CallocKeys
 pub mod Declared
 pub mod Kept
