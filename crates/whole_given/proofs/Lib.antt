@@ -1,0 +1,3 @@
+pub mod OwnNames
+mod Tables
+mod Units

@@ -1,0 +1,5 @@
+mod Bare
+mod Behinds
+mod Found
+pub mod Ordered
+mod Params

@@ -1,0 +1,14 @@
+use Rattle.std.proofs.Common.{◌≡◌, ◌≤◌, ℕ, map, drop, length}
+use Rattle.cx_core.specs.Views.{view_object}
+use Rattle.whole_keys.specs.Places.{first_from, has_object, placed}
+use Rattle.whole_keys.proofs.places.object_places.Given as goal
+
+-- what stands behind those that are left
+abbrev pub invariant-loop-left : goal.invariant-loop-left
+invariant-loop-left l = record {
+  within : l.left ≤ length l.objects;
+  places : (number : ℕ) → placed l.places number ≡ first_from l.left (has_object number) (map view_object (drop l.left l.objects));
+}
+
+abbrev pub decreases-loop-left : goal.decreases-loop-left
+decreases-loop-left l = l.left

@@ -1,0 +1,4 @@
+pub mod Alike
+mod CallocKeys
+pub mod Declared
+pub mod Kept

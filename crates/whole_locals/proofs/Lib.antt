@@ -1,0 +1,5 @@
+mod Behinds
+mod Known
+mod Leaving
+mod Ordered
+mod Several

@@ -1,0 +1,4 @@
+mod Kept
+mod Rows
+mod Spots
+mod Walks
