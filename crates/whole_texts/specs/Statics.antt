@@ -1,5 +1,5 @@
 -- What initialisers do, from the names with which they are written.
-use Rattle.std.specs.Prelude.{◌≡◌, ℕ, ◌==◌, true, if◌then◌else◌, List, [], ◌∷◌, flat_map, Option, Some, None}
+use Rattle.std.specs.Prelude.{ℕ, ◌==◌, if◌then◌else◌, List, [], ◌∷◌, flat_map, Option, Some, None}
 use Rattle.build_flow_code.specs.Parts.{ContentsFit}
 use Rattle.cx_core.specs.Trees.{CPuts, CObject}
 use Rattle.lift_exprs.specs.Lifted.{lifted_puts}
@@ -24,10 +24,6 @@ initialiser_in names unit objects = flat_map (unit_contents names unit) objects
 abbrev pub ObjectFits : CObject → Type 0
 ObjectFits one = ContentsFit one.puts
 
--- where it is one of a unit
-abbrev pub IsFit : (unit : ℕ) → CObject → Type 0
-IsFit unit one = (one.unit == unit) ≡ true → ObjectFits one
-
-abbrev pub AreFit : (unit : ℕ) → List CObject → Type 0
-AreFit unit [] = Unit {0}
-AreFit unit (one ∷ others) = IsFit unit one × AreFit unit others
+abbrev pub AllFit : List CObject → Type 0
+AllFit [] = Unit {0}
+AllFit (one ∷ others) = ObjectFits one × AllFit others

@@ -9,7 +9,7 @@ ghost use Rattle.rs_tree.specs.Views.{stmt_view};
 ghost use Rattle.whole_bodies.specs.Bodies as spec;
 ghost use Rattle.whole_bodies.specs.Names.{module_names_in};
 ghost use Rattle.whole_names.specs.Kept.{NamedProgram};
-ghost use Rattle.whole_texts.specs.Statics.{contents_in, initialiser_in, unit_contents, AreFit, IsFit, ObjectFits};
+ghost use Rattle.whole_texts.specs.Statics.{contents_in, initialiser_in, unit_contents, AllFit, ObjectFits};
 
 use cr_base::{Items, Memory};
 use cx_core::CoreObject;
@@ -40,7 +40,7 @@ fn unit_contents(
     unit: u32,
     one: &CoreObject,
 ) -> Result<Items<RStmt>, Memory>
-    requires { IsFit unit (view_object one.now) }
+    requires { ObjectFits (view_object one.now) }
     ensures { IfOk result (λ made. map stmt_view made ≡ unit_contents (lift_names (view_names names.now)) unit (view_object one.now)) }
 {
     if one.unit == unit {
@@ -57,7 +57,7 @@ fn all_contents(
     unit: u32,
     objects: &[CoreObject],
 ) -> Result<Items<RStmt>, Memory>
-    requires { AreFit unit (map view_object objects.now) }
+    requires { AllFit (map view_object objects.now) }
     ensures { IfOk result (λ made. map stmt_view made ≡ initialiser_in (lift_names (view_names names.now)) unit (map view_object objects.now)) }
 {
     let mut made = Items::new(alloc);
@@ -75,7 +75,7 @@ pub fn initialiser(
     unit: u32,
     objects: &[CoreObject],
 ) -> Result<Items<RStmt>, Memory>
-    requires { AreFit unit (map view_object objects.now) }
+    requires { AllFit (map view_object objects.now) }
     ensures text { IfOk result (λ made. map stmt_view made ≡ initialiser_in (lift_names (view_names names.now)) unit (map view_object objects.now)) }
     ensures written { IfOk result (λ made. (program : NamedProgram) → lift_names (view_names names.now) ≡ module_names_in program unit →
         map view_object objects.now ≡ program.program.objects → stmts (map stmt_view made) ≡ spec.initialiser program unit) }
