@@ -1,5 +1,5 @@
 -- Which labels values of the declared types are.
-use Rattle.std.specs.Prelude.{ℕ, Bool, List}
+use Rattle.std.specs.Prelude.{ℕ, Bool, List, map, Option, Some, None}
 use Rattle.build_flow_code.specs.declared.labels.Label.{Label}
 use Rattle.build_flow_code.specs.declared.labels.Target.{Target}
 use Rattle.build_flow_code.specs.declared.labels.Target.TheVariants as target
@@ -15,6 +15,11 @@ target_view target.Default = default_case
 
 abbrev pub label_view : Label → spec.Label
 label_view one = record { target = target_view one.target; path = one.path; objects = one.objects }
+
+-- labels, or those around where there are none
+abbrev pub labels_or : Option (List Label) → List spec.Label → List spec.Label
+labels_or None around = around
+labels_or (Some labels) around = map label_view labels
 
 abbrev pub own_label_of : CStmt → CPath → List ℕ → List spec.Label
 own_label_of (stmt place objects form) path entered = spec.own_label form path entered

@@ -3,7 +3,7 @@
 ghost use Rattle.std.specs.Prelude.{◌≡◌, ◌+◌, ◌++◌, [], ◌∷◌, drop, false, length, map, IfOk, OnOk, option_map};
 ghost use Rattle.build_flow_code.specs.Bodies.{body_of};
 ghost use Rattle.build_flow_code.specs.Fits.{StmtFits, StmtsFit};
-ghost use Rattle.build_flow_code.specs.Labels.{label_view, labels_in_stmt};
+ghost use Rattle.build_flow_code.specs.Labels.{label_view, labels_in_stmt, labels_or};
 ghost use Rattle.build_flow_code.specs.Parts.{ContentsFit, OptionFits};
 ghost use Rattle.build_flow_instrs.specs.Views.{instr_view, place_view};
 ghost use Rattle.build_flow_code.specs.Walks as text;
@@ -192,20 +192,33 @@ fn entry_code(
     push_body(begun(alloc, of, s.objects.as_slice())?, code)
 }
 
-// An open statement's own labels, in front of those around it.
+// An open statement's own labels, in front of those around it, or None where it has none.
 fn labels_inside(
     alloc: Global,
     s: &CoreStmt,
     path: &[u32],
     around: &[Label],
-) -> Result<Items<Label>, Memory>
-    ensures { IfOk result (λ made. map label_view made ≡ labels_in_stmt false (view_stmt s.now) path.now [] ++ map label_view around.now) }
+) -> Result<Option<Items<Label>>, Memory>
+    ensures { IfOk result (λ made. labels_or made (map label_view around.now) ≡ labels_in_stmt false (view_stmt s.now) path.now [] ++ map label_view around.now) }
 {
     let nothing = Items::new(alloc);
     let mut labels = Items::new(alloc);
     labels_in(alloc, s, false, path, nothing.as_slice(), &mut labels)?;
+    if labels.is_empty() {
+        return Ok(None);
+    }
     push_labels(alloc, around, &mut labels)?;
-    Ok(labels)
+    Ok(Some(labels))
+}
+
+// Labels, or those around where there are none.
+fn labels_or<'a>(labels: &'a Option<Items<Label>>, around: &'a [Label]) -> &'a [Label]
+    ensures { map label_view result.now ≡ labels_or labels.now (map label_view around.now) }
+{
+    match labels {
+        Some(labels) => labels.as_slice(),
+        None => around,
+    }
 }
 
 // What an optional tree is.
@@ -308,7 +321,7 @@ fn stmt_code(
     entry_code(alloc, s, of, site.path, code)?;
     let labels = labels_inside(alloc, s, site.path, site.around.labels)?;
     let around = Around {
-        labels: labels.as_slice(),
+        labels: labels_or(&labels, site.around.labels),
         ..site.around
     };
     form_code(alloc, s, of, Site { around, ..site }, code)

@@ -1,0 +1,9 @@
+mod Choices
+mod Copied
+mod Fronts
+mod Nodes
+mod Noted
+mod Numbered
+mod Walked
+mod Walks
+mod Whole

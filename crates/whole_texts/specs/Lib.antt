@@ -1,0 +1,3 @@
+pub mod Statics
+pub mod Texts
+pub mod Views
