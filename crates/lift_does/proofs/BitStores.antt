@@ -12,7 +12,7 @@ use Rattle.cx_mean.specs.Values.{is_of_kind, value_of_kind, number_in}
 use Rattle.cx_typed_leftmost.proofs.Worlds.{typed_stepped}
 use Rattle.cx_typed_work.proofs.Memories.{typed_none, typed_more, written_typed, written_shapes}
 use Rattle.cx_typed_work.specs.ExternalCalls.{KeepsObjects}
-use Rattle.cx_typed_work.specs.Scenes.{IsTypedCell}
+use Rattle.cx_typed_work.specs.Scenes.{IsTypedCell, AreSameShapes}
 use Rattle.lift_does.proofs.Around.{Around, scope, At}
 use Rattle.lift_does.proofs.Nodes.{and_then_is}
 use Rattle.lift_does.proofs.Operands.{scalar_is}

@@ -1,12 +1,12 @@
 -- The expressions without calls and compound literals: what is written for them does what they do.
-use Rattle.std.proofs.Common.{◌≡◌, ◌⊎◌, inl, inr, ℕ, suc, ◌+◌, ◌≤◌, Bool, true, false, not, if◌then◌else◌, ◌&&◌, ◌||◌, ◌==◌, List, [], ◌∷◌, ◌++◌, length, Some, refl, sym, ap, subst, ◌∙◌, arith, length-append}
+use Rattle.std.proofs.Common.{◌≡◌, ◌⊎◌, inl, inr, ℕ, ◌+◌, ◌≤◌, Bool, true, false, not, if◌then◌else◌, ◌&&◌, ◌||◌, ◌==◌, List, [], ◌∷◌, ◌++◌, length, Some, refl, sym, ap, subst, ◌∙◌}
 use Rattle.cr_base.specs.declared.layout.Spot.{Spot}
 use Rattle.cr_base.specs.declared.refusal.Place.{Place}
 use Rattle.cr_world.specs.World.{World}
 use Rattle.cx_core.specs.Trees.{CTy, ty, CTyForm, CExpr, expr, CForm, whole, null, object, code, load, deref, member, address, convert, unary, binary, and, or, cond, assign, assign_by, step, call, call_by, comma, literal, type_of}
 use Rattle.cx_core.specs.Typing.{CHome, IsTyped, IsLvalue, is_bit_field, width_of}
 use Rattle.cx_core.specs.Conversions.{promoted}
-use Rattle.cx_core.specs.Trees.{CTypes, CMember, void, basic, enum_type, pointer, array, record_type, function, form_of_type}
+use Rattle.cx_core.specs.Trees.{CTypes, CMember, void, basic, enum_type, pointer, array, record_type, function, form_of_type, CTy, ty, CTyForm, CExpr, expr, CForm, whole, null, object, code, load, deref, member, address, convert, unary, binary, and, or, cond, assign, assign_by, step, call, call_by, comma, literal, type_of}
 use Rattle.cx_core.specs.ValidTypes.{member_of}
 use Rattle.lift_does.proofs.ValueMembers.{value_member_owes}
 use Rattle.cx_core.specs.declared.expr.Op2.{Op2}
@@ -34,7 +34,7 @@ use Rattle.lift_does.proofs.Loads.{load_owes}
 use Rattle.lift_does.proofs.Numbers.{IsNumbered, turn_numbered, three_numbered, rises, pair_for, operands_of, parts_of, change_for, numbered, form_numbered}
 use Rattle.lift_does.proofs.Lvalues.{no_width, form_place, lvalue_kind_is}
 use Rattle.lift_does.proofs.Members.{lvalue_is, member_owes}
-use Rattle.lift_does.proofs.Lvalues.{holder_plain}
+use Rattle.lift_does.proofs.Lvalues.{holder_plain, no_width, form_place, lvalue_kind_is}
 use Rattle.lift_does.proofs.Nodes.{PartOwes}
 use Rattle.lift_does.proofs.Operands.{or_false}
 use Rattle.lift_does.proofs.Places.{deref_owes, address_owes}
@@ -47,9 +47,8 @@ use Rattle.lift_does.specs.Covered.{IsCovered, IsCoveredForm, CoveredDoes}
 use Rattle.lift_does.specs.Does.{IsAsked, is_fixed}
 use Rattle.lift_exprs.specs.Lifted.{lifted, lifted_form, operand_of, Deciding, where_true, where_false, decided_written, Choice, chosen_written}
 use Rattle.lift_exprs.specs.Names.{Names, type_in}
-use Rattle.lift_exprs.specs.Objects.{object_at}
 use Rattle.lift_exprs.specs.Stores.{Target, a_scalar, a_structure, a_field, is_field, target_of, held_store, plain_store, old_value, stored, stored_value, Change, changed, changed_first, stepped, step_by_one, promoted_type, target_type}
-use Rattle.lift_exprs.specs.Written.{Written, Both, both, in_turn, place_of_given, address_of_given, NodeKind, a_value, a_record, a_place, lvalue_kind, value_kind, kind_in, held_type, held_where}
+use Rattle.lift_exprs.specs.Written.{Written, Both, both, in_turn, place_of_given, address_of_given, NodeKind, a_value, a_record, lvalue_kind, value_kind, kind_in, held_type, held_where}
 use Rattle.lift_forms.specs.Given.{Given}
 use Rattle.lift_forms.specs.Given as given_form
 use Rattle.lift_forms.specs.Operators.{Operand}

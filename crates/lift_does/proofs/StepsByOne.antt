@@ -66,11 +66,11 @@ use Rattle.std.proofs.lemmas.Int.{ints}
 use Rattle.std.specs.Prelude.{IsSome}
 use Rattle.cr_base.specs.declared.scalar.Scalar.TheVariants as scalars
 use Rattle.cx_core.specs.declared.ty.Basic.TheVariants as basics
-use Rattle.cx_mean.specs.Nodes.{up_or_down as c_up_or_down}
+use Rattle.cx_mean.specs.Nodes.{up_or_down as c_up_or_down, CChange, CUpdating, node_updating, update_loaded}
 use Rattle.cx_core.specs.declared.expr.Op2.TheVariants as op2
-use Rattle.lift_does.proofs.Types.{promoted_integer as promoted_integer_type}
-use Rattle.cx_core.specs.Conversions.{scalar_of as c_scalar_of}
-use Rattle.mem_bytes.specs.declared.value.Value.TheVariants.{Whole as Number}
+use Rattle.lift_does.proofs.Types.{promoted_integer as promoted_integer_type, kind_there, kinds_agree}
+use Rattle.cx_core.specs.Conversions.{scalar_of as c_scalar_of, IsIntegerType, IsPromoted, basic_of_enum, promoted, promoted_basic, scalar_of_basic}
+use Rattle.mem_bytes.specs.declared.value.Value.TheVariants.{Whole as Number, Object}
 use Rattle.lift_forms.specs.Given as given_form
 
 -- ---- the 1

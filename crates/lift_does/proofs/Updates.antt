@@ -64,7 +64,7 @@ use Rattle.rs_mean.specs.Scalars.{scalar_of}
 use Rattle.rs_text.specs.Tree.{Assign, Expr, Read, Stmt}
 use Rattle.std.proofs.Common.{Bool, List, Ok, Result, Some, [], ap, arith, false, inl, length, refl, subst, suc, sym, true, ℕ, ◌∙◌, ◌∷◌, ◌≡◌, ◌≤◌}
 use Rattle.lift_forms.specs.Given as given_form
-use Rattle.rs_text.specs.Tree.{Place as RustPlace}
+use Rattle.rs_text.specs.Tree.{Place as RustPlace, Assign, Expr, Read, Stmt}
 
 -- ---- conversions of C
 
