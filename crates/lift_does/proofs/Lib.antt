@@ -1,4 +1,5 @@
 pub mod Alignments
+pub mod Arguments
 pub mod Around
 pub mod Asking
 pub mod Assignments
