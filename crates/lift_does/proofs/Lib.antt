@@ -32,6 +32,7 @@ pub mod Narrowed
 pub mod Nodes
 pub mod Numbers
 pub mod Operands
+pub mod Passed
 pub mod Places
 pub mod Quiet
 pub mod Reaching
