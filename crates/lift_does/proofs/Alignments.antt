@@ -1,10 +1,9 @@
 -- Members stand at multiples of their alignments, and a structure or union is aligned for each of them (ISO C99, 6.7.2.1p12).
-use Rattle.std.proofs.Common.{◌≡◌, ◌⊎◌, inl, inr, ℕ, zero, suc, ◌+◌, ◌*◌, ◌/◌, ◌%◌, ◌<◌, ◌≤◌, ◌==◌, nat_le, Bool, true, false, not, if◌then◌else◌, List, [], ◌∷◌, Option, None, Some, option_map, slice_get, is_some, IsSome, IfSome, max, refl, sym, ap, subst, ◌∙◌, arith}
+use Rattle.std.proofs.Common.{◌≡◌, ℕ, zero, suc, ◌*◌, ◌/◌, ◌%◌, ◌<◌, ◌≤◌, nat_le, Bool, true, false, if◌then◌else◌, List, [], ◌∷◌, Option, None, Some, slice_get, is_some, IsSome, IfSome, max, refl, sym, ap, subst, ◌∙◌, arith}
 use Rattle.std.proofs.Math.Nat.{mul-mod_right, mul_assoc}
 use Rattle.std.specs.Int.{next_multiple_of}
-use Rattle.std.specs.Option.{option_and_then, option_flatten}
 use Rattle.cr_base.proofs.Layouts.{rounded, align_grows}
-use Rattle.cr_base.specs.Layout.{most_bytes, align_of, struct_start, start, after, after_all, no_front, laid_of, laid_record, spot, spots_behind, spots_of}
+use Rattle.cr_base.specs.Layout.{most_bytes, align_of, after, after_all, no_front, laid_of, laid_record, spot, spots_behind, spots_of}
 use Rattle.cr_base.specs.declared.layout.Front.{Front}
 use Rattle.cr_base.specs.declared.layout.Laid.{Laid}
 use Rattle.cr_base.specs.declared.layout.Piece.{Piece}
@@ -13,14 +12,14 @@ use Rattle.cr_base.specs.declared.layout.Spot.{Spot}
 use Rattle.cx_core.specs.Conversions.{IsIntegerType, width_of_basic}
 use Rattle.cx_core.specs.declared.ty.Basic.{Basic}
 use Rattle.cx_core.specs.declared.ty.Basic.TheVariants as basics
-use Rattle.cx_core.specs.Layouts.{CLayouts, CRow, bytes, row_at, array_extent, whole_extent, piece, piece_of, put_front, pieces_of, row_of, row_of_pieces, passes, completed_count, layouts_of}
+use Rattle.cx_core.specs.Layouts.{CLayouts, CRow, row_at, array_extent, whole_extent, piece, piece_of, put_front, pieces_of, row_of, row_of_pieces, passes, completed_count, layouts_of}
 use Rattle.cx_core.specs.Trees.{CTy, ty, void, basic, enum_type, pointer, array, record_type, function, form_of_type, CMember, CRecord, CTypes}
 use Rattle.cx_core.specs.ValidTypes.{AreTypes, IsBitFieldOf, member_of, spot_of}
 use Rattle.cx_layout.proofs.Builds.{layouts_are}
 use Rattle.cx_layout.proofs.Passes.{passes_none, row_at-pass}
 use Rattle.cx_layout.specs.Calls.{record_at}
 use Rattle.cx_typed_work.proofs.Fields.{member_in}
-use Rattle.cx_typed_work.proofs.Rows.{then_found, map_found, some_same, HasWholeBits, IsRow, row_here}
+use Rattle.cx_typed_work.proofs.Rows.{then_found, map_found, some_same, HasWholeBits, row_here}
 use Rattle.lift_stands_values.specs.Members.{FitsAt}
 
 -- ---- alignments

@@ -1,21 +1,21 @@
 -- The arguments of a call are evaluated from the left, and are given together where the last one has come (ISO C99, 6.5.2.2p4 and p10).
-use Rattle.std.proofs.Common.{◌≡◌, ◌⊎◌, inl, ℕ, ◌≤◌, Bool, true, false, not, ◌||◌, List, [], ◌∷◌, ◌++◌, map, Ok, refl, sym, ap, subst, ◌∙◌, arith, append_assoc}
+use Rattle.std.proofs.Common.{◌≡◌, inl, ℕ, Bool, true, false, not, List, [], ◌∷◌, ◌++◌, map, Ok, refl, sym, ap, subst, ◌∙◌, append_assoc}
 use Rattle.std.proofs.Math.Path.{fun_ext}
 use Rattle.std.specs.List.{list_any}
-use Rattle.cr_runs.proofs.Rules.{renamed, bind_bind, bind_came}
+use Rattle.cr_runs.proofs.Rules.{renamed, bind_bind}
 use Rattle.cr_runs.specs.Runs.{came, bind}
-use Rattle.cr_world.specs.World.{World, blocks_of, events_of}
+use Rattle.cr_world.specs.World.{World, events_of}
 use Rattle.cx_core.specs.Trees.{CExpr, CExprs, no_exprs, more_exprs}
-use Rattle.cx_core.specs.Typing.{IsTyped, AreTyped}
+use Rattle.cx_core.specs.Typing.{AreTyped}
 use Rattle.cx_mean.specs.Leftmost.{CRan, CPiece, c_values}
-use Rattle.cx_mean.specs.Marks.{Marks, Range, overlap, any_overlap, both}
+use Rattle.cx_mean.specs.Marks.{Marks, Range, overlap, any_overlap}
 use Rattle.cx_mean.specs.Operands.{COperand, united_operands}
 use Rattle.cx_mean.specs.Quiet.{calls_nothing}
 use Rattle.cx_typed_work.specs.Operands.{IsOperandOf}
 use Rattle.lift_calls.specs.Programs.{c_calls, setting_in}
 use Rattle.lift_does.proofs.Around.{Around, scope, At, OweAs, Reached, runs, value_in}
 use Rattle.lift_does.proofs.Lasting.{no_either, no_conflict, lasts_then, lasts_once}
-use Rattle.lift_does.proofs.Nodes.{PartOwes, OneDid, GivesUsed, one_owes, two_last, united_more}
+use Rattle.lift_does.proofs.Nodes.{OneDid, GivesUsed, one_owes, two_last, united_more}
 use Rattle.lift_does.proofs.Numbers.{rises, numbered, args_numbered}
 use Rattle.lift_does.proofs.Reaching.{reached_none, reached_then, temporaries_stay}
 use Rattle.lift_does.proofs.Unary.{ExprOwes}
@@ -97,15 +97,16 @@ module _ (x : Around) where
             (two_last x fixed first reads c0 c1 one did.knows_is (λ loose. no_call first (no_either (holds_call first) (some_holds_call others) (quiet loose)).0) split.0)
             (more.over fixed reads parts.0 (λ loose. (no_either (holds_call first) (some_holds_call others) (quiet loose)).1) parts.1 split.1);
         gives = λ marks united.
-            let parts = united_more one.marks (map (λ (o : COperand). o.marks) rest) marks united in
-            (did.knows_is.0.operand_is,
-            did.gives last c2 w2 (record {
-              extends = more.reached.keeps.extends;
-              here = more.reached.at;
-              temporaries = temporaries_stay x written.next end.next mid last c1 w1 c2 w2 did.reached.at more.reached;
-              lasts = more.over (is_fixed asked first) one.marks.reads parts.0 (λ loose. (no_either (some_holds_call others) _ loose).0) parts.1 (no_conflict one.marks parts.0 parts.2.apart);
-            }),
-            more.gives parts.0 parts.1);
+            let parts = united_more one.marks (map (λ (o : COperand). o.marks) rest) marks united in (
+              did.knows_is.0.operand_is,
+              did.gives last c2 w2 (record {
+                extends = more.reached.keeps.extends;
+                here = more.reached.at;
+                temporaries = temporaries_stay x written.next end.next mid last c1 w1 c2 w2 did.reached.at more.reached;
+                lasts = more.over (is_fixed asked first) one.marks.reads parts.0 (λ loose. (no_either (some_holds_call others) _ loose).0) parts.1 (no_conflict one.marks parts.0 parts.2.apart);
+              }),
+              more.gives parts.0 parts.1,
+            );
       }
 
   -- ---- the arguments, and what comes behind them

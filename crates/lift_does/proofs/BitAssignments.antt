@@ -1,5 +1,5 @@
 -- Assignments to bit-fields (ISO C99, 6.5.16.1).
-use Rattle.std.proofs.Common.{◌≡◌, inl, inr, ℕ, suc, ◌^◌, ◌≤◌, ◌<◌, ◌==◌, ℤ, Bool, true, false, not, [], ◌∷◌, Option, Some, None, Result, Ok, Err, refl, sym, ap, subst, ◌∙◌, arith}
+use Rattle.std.proofs.Common.{◌≡◌, inl, inr, ℕ, ◌^◌, ◌≤◌, ◌==◌, ℤ, Bool, true, false, not, [], ◌∷◌, Option, Some, None, Ok, refl, sym, ap, subst, ◌∙◌, arith}
 use Rattle.std.proofs.lemmas.Nat.{pow_pos}
 use Rattle.cr_base.proofs.Residues.{residue_below}
 use Rattle.cr_base.specs.Scalar.{residue}
@@ -13,11 +13,10 @@ use Rattle.cx_core.specs.Conversions.{scalar_of as c_scalar_of}
 use Rattle.cx_core.specs.Trees.{CTy, ty, CTyForm, form_of_type, CExpr, expr, member, assign, type_of, unqualified}
 use Rattle.cx_core.specs.Typing.{IsTyped, IsLvalue}
 use Rattle.cx_core.specs.ValidTypes.{AreTypes}
-use Rattle.cx_mean.specs.Accesses.{CStored, stored, stored_bits, field_value}
+use Rattle.cx_mean.specs.Accesses.{stored, field_value}
 use Rattle.cx_mean.specs.Leftmost.{gives_operand, c_done}
-use Rattle.cx_mean.specs.Marks.{Range, any_overlap}
 use Rattle.cx_mean.specs.Nodes.{CDone, done, node_done}
-use Rattle.cx_mean.specs.Operands.{CWhy, needed, CValue, scalar, designates_bits, COperand}
+use Rattle.cx_mean.specs.Operands.{needed, CValue, designates_bits, COperand}
 use Rattle.cx_mean.specs.Settings.{scalar_in_type}
 use Rattle.cx_typed_values.specs.Outcomes.{Comes}
 use Rattle.cx_typed_work.proofs.Bits.{field_means}
@@ -27,12 +26,12 @@ use Rattle.cx_typed_work.proofs.Lvalues.{field_of_place}
 use Rattle.cx_typed_work.specs.ExternalCalls.{KeepsObjects}
 use Rattle.cx_typed_work.specs.Operands.{IsFieldPlace, IsPlaceOf, IsScalarIn}
 use Rattle.lift_calls.specs.Programs.{setting_in}
-use Rattle.lift_does.proofs.Around.{Around, scope, At, LaterAt, DidOf, OweAs}
+use Rattle.lift_does.proofs.Around.{Around, scope, At, DidOf, OweAs}
 use Rattle.lift_does.proofs.Assignments.{pair_of}
 use Rattle.lift_does.proofs.BitEnds.{bits_end}
 use Rattle.lift_does.proofs.BitLoads.{profile_is, bytes_there, setting_kind, kind_same, unqualified_kind}
 use Rattle.lift_does.proofs.BitPlaces.{bits_there, width_test}
-use Rattle.lift_does.proofs.BitStores.{StoredBits, bits_stored_is}
+use Rattle.lift_does.proofs.BitStores.{bits_stored_is}
 use Rattle.lift_does.proofs.Lasting.{objects_stay}
 use Rattle.lift_does.proofs.Lvalues.{some_width}
 use Rattle.lift_does.proofs.Nodes.{and_then_is, PartOwes, TwoDid, two_owes}
@@ -45,20 +44,18 @@ use Rattle.lift_does.specs.Gives.{GivesBase, GivesOperand}
 use Rattle.lift_does.specs.Later.{TemporariesStay}
 use Rattle.lift_exprs.specs.Names.{Names, type_in}
 use Rattle.lift_exprs.specs.Stores.{Target, a_field, target_of, stored as stored_as_written, stored_value, held_store, settled}
-use Rattle.lift_exprs.specs.Written.{Written, Both, in_turn, temporary_place, address_of_given}
+use Rattle.lift_exprs.specs.Written.{Written, in_turn, temporary_place, address_of_given}
 use Rattle.lift_forms.specs.BitFields.{bit_write}
 use Rattle.lift_forms.specs.Given.{Given}
 use Rattle.lift_forms.specs.Given as given_form
-use Rattle.lift_forms.specs.LawsTyping.{IsBitField}
 use Rattle.lift_forms.specs.Operators.{given_value}
 use Rattle.lift_forms_laws.proofs.Operands.{value_gives}
 use Rattle.lift_forms_laws.specs.Gives.{GivesAt}
-use Rattle.lift_held.specs.Held.{operand, operand_before, holds_call}
+use Rattle.lift_held.specs.Held.{operand}
 use Rattle.lift_held.specs.declared.asked.Asked.{Asked}
 use Rattle.lift_stands.proofs.Forms.{number_below}
-use Rattle.lift_stands.specs.Stands.{Images, Extends}
+use Rattle.lift_stands.specs.Stands.{Images}
 use Rattle.mem_bytes.specs.Coding.{IsValueOf}
-use Rattle.mem_bytes.specs.Memory.{Blocks}
 use Rattle.mem_bytes.specs.declared.value.Ptr.{Ptr}
 use Rattle.mem_bytes.specs.declared.value.Value.{Value}
 use Rattle.mem_bytes.specs.declared.value.Value.TheVariants.{Whole}

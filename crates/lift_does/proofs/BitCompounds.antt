@@ -1,5 +1,5 @@
 -- Compound assignments to bit-fields, and their `++` and `--` (ISO C99, 6.5.2.4, 6.5.3.1 and 6.5.16.2).
-use Rattle.std.proofs.Common.{◌≡◌, ◌⊎◌, ◌++◌, inl, inr, ℕ, suc, ◌+◌, ◌-◌, ◌^◌, ◌≤◌, ◌<◌, ◌==◌, nat_le, nat_lt, ℤ, pos, Bool, true, false, not, if◌then◌else◌, List, [], ◌∷◌, Option, Some, None, IsSome, option_map, slice_get, Result, Ok, Err, refl, sym, ap, subst, ◌∙◌, arith}
+use Rattle.std.proofs.Common.{◌≡◌, ◌⊎◌, ◌++◌, inl, inr, ℕ, ◌-◌, ◌≤◌, ◌==◌, nat_le, nat_lt, pos, Bool, true, false, not, if◌then◌else◌, List, [], ◌∷◌, Option, Some, None, option_map, slice_get, Ok, refl, sym, ap, subst, ◌∙◌, arith}
 use Rattle.std.proofs.lemmas.Bool.{le-leb}
 use Rattle.std.proofs.lemmas.Bool.Decides.{nat_tests}
 use Rattle.cr_base.specs.declared.layout.Spot.{Spot}
@@ -18,7 +18,7 @@ use Rattle.cx_mean.specs.Accesses.{CLoaded, loaded, field_value}
 use Rattle.cx_mean.specs.Leftmost.{c_update, c_updates}
 use Rattle.cx_mean.specs.Marks.{Marks, no_marks}
 use Rattle.cx_mean.specs.Nodes.{CUpdating, CChange, node_updating, update_loaded, changes, typed_value}
-use Rattle.cx_mean.specs.Operands.{CWhy, needed, CValue, scalar, designates_bits, COperand, scalar_value, united_operands}
+use Rattle.cx_mean.specs.Operands.{needed, CValue, designates_bits, COperand, scalar_value, united_operands}
 use Rattle.cx_mean.specs.Settings.{scalar_in_type}
 use Rattle.cx_mean.specs.Values.{CTyped}
 use Rattle.cx_typed_values.specs.Outcomes.{Comes}
@@ -40,7 +40,7 @@ use Rattle.lift_does.proofs.BitPlaces.{bits_there}
 use Rattle.lift_does.proofs.BitUpdates.{BitsUpdating, bits_first, bits_behind}
 use Rattle.lift_does.proofs.CompoundAssignments.{typed_as, assigned_change, same_change, updating_of, same_updating, assigned_operator, lvalue_in}
 use Rattle.lift_does.proofs.Lvalues.{some_width}
-use Rattle.lift_does.proofs.Nodes.{and_then_is, PartOwes, OneDid, TwoDid, one_owes, two_owes}
+use Rattle.lift_does.proofs.Nodes.{and_then_is, PartOwes, OneDid, one_owes, two_owes}
 use Rattle.lift_does.proofs.Operands.{scalar_is, scalar_in, scalar_given}
 use Rattle.lift_does.proofs.Binary.{typed_value_is}
 use Rattle.lift_does.proofs.Reaching.{reached_then, later_itself}
@@ -60,7 +60,7 @@ use Rattle.lift_forms_laws.specs.Gives.{OperandStands}
 use Rattle.mem_bytes.specs.Coding.{IsValueOf}
 use Rattle.lift_exprs.specs.Lifted.{operand_of, lifted}
 use Rattle.lift_exprs.specs.Stores.{Target, a_field, changed, changed_first, field_form, held_store, settled, promoted_type, one_of, up_or_down, stepped, step_by_one, target_type}
-use Rattle.lift_exprs.specs.Written.{Written, in_turn, then_takes, temporary_place, address_of_given}
+use Rattle.lift_exprs.specs.Written.{Written, in_turn, temporary_place, address_of_given}
 use Rattle.lift_forms.specs.BitFields.{bit_write}
 use Rattle.lift_forms.specs.Given as given_form
 use Rattle.lift_forms.specs.Operators.{Operand, given_value}
@@ -326,11 +326,11 @@ module _ (x : Around) where
       let rights : (w : World) → OperandStands last x.frame w (one_of (type_in x.names computes)) (Number (pos 1)) =
       λ w. one_stands x last w types own computes run (λ is. let points = points_there x last c2 w2 here computes is in (type_in x.names points.to, points.there)) in (
         bits_ready type own here_at of spot there.0 (of_program x x.home.program op post on one) marks written.given (one_of (type_in x.names computes)) written.next last c2 w2 now here lvalue bits field_place there.1 did.knows_is.0.operand_is.type_is step_is.type_is
-        (one_operator x op type computes own last c2 w2 here moves run (lvalue_in x on lvalue) step_is.type_is comes)
-        (λ c_later later at stay keeps.
-        subst (λ (v : CValue). GivesOperand x.s x.names last x.c_frame x.frame later on written.given v) there.1
-        (did.gives last c_later later (record { extends = record { blocks = λ number image f. f; functions = refl; in_bytes = refl }; here = at; temporaries = stay; lasts = keeps })))
-        (rights w2) e,
+            (one_operator x op type computes own last c2 w2 here moves run (lvalue_in x on lvalue) step_is.type_is comes)
+            (λ c_later later at stay keeps.
+            subst (λ (v : CValue). GivesOperand x.s x.names last x.c_frame x.frame later on written.given v) there.1
+            (did.gives last c_later later (record { extends = record { blocks = λ number image f. f; functions = refl; in_bytes = refl }; here = at; temporaries = stay; lasts = keeps })))
+            (rights w2) e,
         rights,
       )
 

@@ -1,5 +1,5 @@
 -- A number is stored in a bit-field in both, behind a temporary that holds it (ISO C99, 6.5.16p3 and 6.7.2.1p9).
-use Rattle.std.proofs.Common.{◌≡◌, inl, inr, ℕ, zero, suc, ◌+◌, ◌-◌, ◌^◌, ◌%◌, ◌≤◌, ◌<◌, int_le, int_lt, ℤ, pos, negsuc, ◌-ℤ◌, Bool, true, false, ◌&&◌, if◌then◌else◌, List, [], ◌∷◌, ◌++◌, length, Some, Result, Ok, Err, refl, sym, ap, subst, ◌∙◌, arith, tests}
+use Rattle.std.proofs.Common.{◌≡◌, ℕ, zero, suc, ◌+◌, ◌-◌, ◌^◌, ◌≤◌, ◌<◌, int_le, int_lt, ℤ, pos, negsuc, Bool, true, false, ◌&&◌, if◌then◌else◌, [], ◌∷◌, length, Some, Result, Ok, refl, sym, ap, subst, ◌∙◌, arith, tests}
 use Rattle.std.proofs.Math.Nat.{mod-eq_of_lt}
 use Rattle.std.proofs.lemmas.Int.{ints}
 use Rattle.std.proofs.lemmas.Nat.{pow_pos}
@@ -12,14 +12,14 @@ use Rattle.cr_base.specs.declared.scalar.Scalar.TheVariants as scalars
 use Rattle.cr_runs.specs.Runs.{came}
 use Rattle.cr_world.specs.Held.{with_blocks}
 use Rattle.cr_world.specs.World.{World, blocks_of, with_held, with_memory}
-use Rattle.cx_core.specs.Trees.{CTy, CExpr, expr, CForm, type_of}
+use Rattle.cx_core.specs.Trees.{CTy, expr, CForm}
 use Rattle.cx_mean.specs.Accesses.{field_value, CStored, stored_bits}
 use Rattle.cx_mean.specs.Marks.{Marks}
 use Rattle.cx_mean.specs.Operands.{CWhy, CValue, scalar}
 use Rattle.cx_mean.specs.Values.{is_of_kind}
 use Rattle.cx_numbers.specs.Numbers.{represents}
 use Rattle.cx_typed_work.specs.ExternalCalls.{KeepsObjects}
-use Rattle.lift_does.proofs.Around.{Around, At, LaterAt, DidOf, OweAs, Reached, runs}
+use Rattle.lift_does.proofs.Around.{Around, At, DidOf, OweAs, Reached}
 use Rattle.lift_does.proofs.BitLoads.{whole_range}
 use Rattle.lift_does.proofs.BitStores.{StoredBits, Midst, in_the_midst}
 use Rattle.lift_does.proofs.Narrowed.{two_halves, unsigned_gives, signed_gives}
@@ -28,20 +28,20 @@ use Rattle.lift_does.proofs.Operands.{where_used, other_based}
 use Rattle.lift_does.proofs.Reaching.{reached_then, temporaries_stay}
 use Rattle.lift_does.proofs.RecordAssignments.{temporaries_beside}
 use Rattle.lift_does.proofs.Runs.{run_behind, end_owes}
-use Rattle.lift_does.proofs.Temporaries.{StoresTemporary, stores_temporary, reads_staying}
-use Rattle.lift_does.specs.Gives.{GivesBase, GivesScalar, GivesOperand, GivesWhere}
+use Rattle.lift_does.proofs.Temporaries.{stores_temporary, reads_staying}
+use Rattle.lift_does.specs.Gives.{GivesBase, GivesOperand}
 use Rattle.lift_does.specs.Later.{TemporariesStay}
-use Rattle.lift_exprs.specs.Names.{Names, type_in}
-use Rattle.lift_exprs.specs.Stores.{a_field, settled, narrowed, held_store, given_where}
-use Rattle.lift_exprs.specs.Written.{Written, then_takes, temporary_place, address_of_given}
-use Rattle.lift_forms.specs.BitFields.{bit_write, half}
+use Rattle.lift_exprs.specs.Names.{type_in}
+use Rattle.lift_exprs.specs.Stores.{a_field, settled, held_store, given_where}
+use Rattle.lift_exprs.specs.Written.{Written, temporary_place, address_of_given}
+use Rattle.lift_forms.specs.BitFields.{bit_write}
 use Rattle.lift_forms.specs.Given.{Given}
 use Rattle.lift_forms.specs.Given as given_form
 use Rattle.lift_forms.specs.LawsTyping.{IsBitField}
 use Rattle.lift_forms_laws.proofs.BothMemories.{stores}
 use Rattle.lift_forms_laws.specs.Gives.{GivesAt}
 use Rattle.lift_forms_laws.specs.LawsBits.{low_bits}
-use Rattle.lift_forms_laws.specs.LawsBoth.{GivesMeanwhile, BitFieldStored}
+use Rattle.lift_forms_laws.specs.LawsBoth.{BitFieldStored}
 use Rattle.lift_stands.proofs.Kept.{both_keep}
 use Rattle.lift_stands.specs.Stands.{Images, PlaceBelow, ValueBelow}
 use Rattle.lift_stands_accesses.specs.Objects.{LeftStanding}
@@ -52,12 +52,11 @@ use Rattle.mem_bytes.specs.Memory.{Blocks}
 use Rattle.mem_bytes.specs.declared.value.Ptr.{Ptr}
 use Rattle.mem_bytes.specs.declared.value.Value.{Value}
 use Rattle.mem_bytes.specs.declared.value.Value.TheVariants.{Whole, Object}
-use Rattle.rs_mean.specs.Run.{Flow, normal, run_stmts}
 use Rattle.rs_mean.specs.Scalars.{scalar_of, integer_scalar, is_signed_integer}
 use Rattle.rs_mean.specs.Typing.{casts}
 use Rattle.rs_text.specs.declared.integer.IntegerTy.{IntegerTy}
 use Rattle.rs_text.specs.declared.integer.IntegerTy.TheVariants.{I8, I16, I32, I64, U8, U16, U32, U64, Isize, Usize}
-use Rattle.rs_text.specs.Tree.{Ty, Integer, Boolean, Void, Pointer, Array, Code, Record, Expr, Read, Stmt, Assign, stmts}
+use Rattle.rs_text.specs.Tree.{Ty, Integer, Boolean, Void, Pointer, Array, Code, Record, Expr, Read, Assign}
 
 -- ---- one base
 

@@ -1,8 +1,8 @@
 -- Loads of bit-fields (ISO C99, 6.3.2.1p2 and 6.7.2.1p9).
-use Rattle.std.proofs.Common.{◌≡◌, inl, inr, ℕ, zero, suc, ◌+◌, ◌^◌, ◌≤◌, ◌<◌, ◌==◌, nat_le, nat_lt, ℤ, pos, negsuc, Bool, true, false, ◌&&◌, ◌||◌, not, if◌then◌else◌, List, [], ◌∷◌, Option, Some, None, slice_get, is_some, Result, Ok, Err, refl, sym, ap, subst, ◌∙◌, arith, rules}
+use Rattle.std.proofs.Common.{◌≡◌, inr, ℕ, zero, suc, ◌≤◌, ◌==◌, nat_le, nat_lt, ℤ, pos, negsuc, Bool, true, false, ◌&&◌, ◌||◌, not, if◌then◌else◌, List, [], ◌∷◌, Option, Some, None, slice_get, is_some, Result, Ok, Err, refl, sym, ap, subst, ◌∙◌, arith, rules}
 use Rattle.std.specs.List.{list_any}
 use Rattle.std.specs.Option.{option_flatten}
-use Rattle.std.proofs.lemmas.Bool.{and_parts, le-leb, lt-ltb}
+use Rattle.std.proofs.lemmas.Bool.{and_parts}
 use Rattle.std.proofs.lemmas.Bool.Decides.{nat_tests}
 use Rattle.std.proofs.lemmas.Int.{ints}
 use Rattle.cr_base.specs.Scalar.{IsInRange, converted}
@@ -16,48 +16,45 @@ use Rattle.cx_core.specs.BitFields.{has_bit_field, has_bit_fields, is_bit_field 
 use Rattle.cx_core.specs.Conversions.{scalar_of as c_scalar_of}
 use Rattle.cx_core.specs.Trees.{CTy, ty, CTyForm, void, basic, enum_type, pointer, array, record_type, function, form_of_type, CExpr, expr, load, member, type_of, unqualified, CTypes, CMember, CRecord, CProgram}
 use Rattle.cx_core.specs.Typing.{IsTyped, IsLvalue}
-use Rattle.cx_core.specs.ValidTypes.{AreTypes, member_of, spot_of, IsMemberOf}
-use Rattle.cx_mean.specs.Accesses.{is_field_place, at_field_place, field_value, CLoaded, loaded, loaded_bits}
+use Rattle.cx_core.specs.ValidTypes.{AreTypes, IsMemberOf}
+use Rattle.cx_mean.specs.Accesses.{is_field_place, field_value, CLoaded, loaded, loaded_bits}
 use Rattle.cx_mean.specs.Marks.{Marks, Range, any_overlap, no_marks, with_read, bits_of_field}
-use Rattle.cx_mean.specs.Nodes.{CDone, done, node_done}
-use Rattle.cx_mean.specs.Operands.{CWhy, stuck, breaks, sequenced_after, accessed, needed, CValue, scalar, designates_bits, COperand}
-use Rattle.cx_mean.specs.Settings.{CSetting, setting_of, scalar_in_type}
+use Rattle.cx_mean.specs.Nodes.{CDone, done}
+use Rattle.cx_mean.specs.Operands.{CWhy, stuck, breaks, sequenced_after, accessed, needed, CValue, scalar}
+use Rattle.cx_mean.specs.Settings.{scalar_in_type}
 use Rattle.cx_mean.specs.Values.{to_scalar}
 use Rattle.cx_typed_values.specs.Values.{most_bytes}
 use Rattle.cx_typed_values.specs.Outcomes.{Comes}
 use Rattle.cx_typed_work.proofs.Accesses.{IsLoadedOf}
-use Rattle.cx_typed_work.proofs.Bits.{bits_loaded, field_means}
-use Rattle.cx_typed_work.proofs.Fields.{IsField}
+use Rattle.cx_typed_work.proofs.Bits.{bits_loaded}
 use Rattle.cx_typed_work.proofs.Given.{place_given}
 use Rattle.cx_typed_work.proofs.Lvalues.{field_of_place}
 use Rattle.cx_typed_work.proofs.Spots.{FitsBits, spot_fits}
-use Rattle.cx_typed_work.specs.Operands.{IsScalarIn, IsFieldPlace as IsFieldPlaceOf, IsPlaceOf}
+use Rattle.cx_typed_work.specs.Operands.{IsFieldPlace as IsFieldPlaceOf, IsPlaceOf}
 use Rattle.lift_calls.specs.Programs.{setting_in}
 use Rattle.lift_does.proofs.Around.{Around, scope, At}
 use Rattle.lift_does.proofs.BitPlaces.{bits_there, width_test}
 use Rattle.lift_does.proofs.Lasting.{all_front, all_back}
 use Rattle.lift_does.proofs.Lvalues.{some_width}
-use Rattle.lift_does.proofs.Nodes.{and_then_is, PartOwes, MakesOne, pure_one}
+use Rattle.lift_does.proofs.Nodes.{and_then_is, pure_one}
 use Rattle.lift_does.proofs.Operands.{node_one, where_used, standing, stands_based}
-use Rattle.lift_does.proofs.Reaching.{Knows}
-use Rattle.lift_does.proofs.Types.{kind_there}
 use Rattle.lift_does.proofs.Unary.{form_fixed, ExprOwes, FormOwes}
 use Rattle.lift_does.specs.Does.{is_fixed}
 use Rattle.lift_does.specs.Gives.{GivesBase, GivesScalar, GivesOperand}
 use Rattle.lift_does.specs.Later.{AllOf, IsSameAt}
 use Rattle.lift_exprs.specs.Lifted.{lifted, load_given}
-use Rattle.lift_exprs.specs.Names.{Names, type_in}
-use Rattle.lift_exprs.specs.Stores.{field_form, is_signed_type}
+use Rattle.lift_exprs.specs.Names.{type_in}
+use Rattle.lift_exprs.specs.Stores.{field_form}
 use Rattle.lift_exprs.specs.Written.{address_of_given}
 use Rattle.lift_forms.specs.BitFields.{bit_read, read_type}
 use Rattle.lift_forms.specs.Given.{Given}
 use Rattle.lift_forms.specs.Given as given_form
-use Rattle.lift_forms.specs.LawsTyping.{IsBitField, converts}
+use Rattle.lift_forms.specs.LawsTyping.{IsBitField}
 use Rattle.lift_forms_laws.proofs.BothMemories.{loads}
 use Rattle.lift_forms_laws.proofs.Conversions.{converted_by}
 use Rattle.lift_forms_laws.proofs.Numbers.{converted_same}
 use Rattle.lift_forms_laws.specs.Gives.{GivesAt, GivenStands, IsOf}
-use Rattle.lift_forms_laws.specs.LawsBoth.{has_sign, BitFieldLoaded}
+use Rattle.lift_forms_laws.specs.LawsBoth.{has_sign}
 use Rattle.lift_held.specs.Held.{operand}
 use Rattle.lift_held.specs.declared.asked.Asked.{Asked}
 use Rattle.lift_stands.specs.Stands.{Images, PlaceBelow, ValueBelow}
@@ -73,7 +70,7 @@ use Rattle.mem_bytes.specs.declared.cell.Cell.{Cell}
 use Rattle.mem_bytes.specs.declared.fault.Fault.{Fault}
 use Rattle.mem_bytes.specs.declared.value.Ptr.{Ptr}
 use Rattle.mem_bytes.specs.declared.value.Value.{Value}
-use Rattle.mem_bytes.specs.declared.value.Value.TheVariants.{Whole, Object, Null, Code as Function}
+use Rattle.mem_bytes.specs.declared.value.Value.TheVariants.{Whole}
 use Rattle.lift_stands.proofs.Loads.{read_live}
 use Rattle.rs_mean.specs.Scalars.{scalar_of, integer_scalar, is_signed_integer}
 use Rattle.rs_mean.specs.Typing.{is_pointer}

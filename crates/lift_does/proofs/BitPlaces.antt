@@ -1,7 +1,6 @@
 -- Where a bit-field stands: the address of the structure or union that holds it (ISO C99, 6.5.2.3 and 6.7.2.1p9).
-use Rattle.std.proofs.Common.{◌≡◌, inr, ℕ, zero, suc, ◌+◌, ◌≤◌, ◌<◌, ◌==◌, nat_le, nat_lt, ◌+ℤ◌, pos, Bool, true, false, ◌||◌, not, if◌then◌else◌, [], ◌∷◌, Some, Result, Ok, Err, refl, sym, ap, subst, ◌∙◌, arith}
+use Rattle.std.proofs.Common.{◌≡◌, inr, ℕ, zero, suc, ◌+◌, ◌≤◌, ◌==◌, nat_le, nat_lt, pos, Bool, true, false, not, if◌then◌else◌, [], ◌∷◌, Some, Result, Ok, Err, refl, sym, ap, subst, ◌∙◌, arith}
 use Rattle.std.proofs.lemmas.Bool.Decides.{nat_tests}
-use Rattle.cr_base.specs.declared.layout.Laid.{Laid}
 use Rattle.cr_base.specs.declared.layout.Spot.{Spot}
 use Rattle.cr_base.specs.declared.refusal.Place.{Place}
 use Rattle.cr_base.specs.declared.rule.URule.TheVariants.{U11}
@@ -29,10 +28,10 @@ use Rattle.lift_does.proofs.Places.{pointer_below}
 use Rattle.lift_does.proofs.Reaching.{Knows, knows, reached_by, reached_then, later_itself}
 use Rattle.lift_does.proofs.Runs.{behind_owes, end_owes, known_owes}
 use Rattle.lift_does.proofs.Temporaries.{stores_temporary, reads_staying}
-use Rattle.lift_does.specs.Gives.{GivesLvalue, GivesBase, GivesField, GivesOperand, GivesWhere}
+use Rattle.lift_does.specs.Gives.{GivesLvalue, GivesBase, GivesOperand, GivesWhere}
 use Rattle.lift_does.specs.Later.{AllOf, IsSameAt}
 use Rattle.lift_exprs.specs.Lifted.{lifted, lifted_form, member_given}
-use Rattle.lift_exprs.specs.Names.{Names, type_in}
+use Rattle.lift_exprs.specs.Names.{type_in}
 use Rattle.lift_exprs.specs.Written.{Written, a_bit_field, then_held, temporary_place, address_of_given}
 use Rattle.lift_forms.specs.Given.{Given, address_of}
 use Rattle.lift_forms.specs.Given as given_form
@@ -41,18 +40,16 @@ use Rattle.lift_forms_laws.specs.Gives.{GivesAt}
 use Rattle.lift_held.specs.Held.{is_lvalue, whole_of}
 use Rattle.lift_held.specs.declared.asked.Asked.{Asked}
 use Rattle.lift_stands.proofs.Images.{place_stays}
-use Rattle.lift_stands.specs.Stands.{Images, PlaceBelow}
-use Rattle.mem_bytes.specs.Access.{and_then}
+use Rattle.lift_stands.specs.Stands.{Images}
 use Rattle.mem_bytes.specs.Laws.{behind}
 use Rattle.mem_bytes.specs.Memory.{Blocks}
 use Rattle.mem_bytes.specs.Pointers.{object_size, place_inside, place_moved}
 use Rattle.mem_bytes.specs.declared.pointer.PointerFault.{PointerFault}
 use Rattle.mem_bytes.specs.declared.pointer.PointerFault.TheVariants.{LeavesObject}
 use Rattle.mem_bytes.specs.declared.value.Ptr.{Ptr}
-use Rattle.mem_bytes.specs.declared.value.Value.{Value}
 use Rattle.mem_bytes.specs.declared.value.Value.TheVariants.{Object}
 use Rattle.rs_mean.specs.Run.{normal}
-use Rattle.rs_text.specs.Tree.{Ty, Pointer, Place as RustPlace, Read, Assign}
+use Rattle.rs_text.specs.Tree.{Pointer, Read, Assign}
 
 -- ---- where C finds the member
 

@@ -1,19 +1,18 @@
 -- What both have while a number is stored in a bit-field, byte by byte in the crate (ISO C99, 6.5.16.1p2 and 6.7.2.1p9).
-use Rattle.std.proofs.Common.{◌≡◌, inl, inr, ℕ, zero, suc, ◌+◌, ◌-◌, ◌*◌, ◌^◌, ◌/◌, ◌%◌, ◌≤◌, ◌<◌, ◌==◌, nat_le, nat_lt, ℤ, pos, negsuc, ◌-ℤ◌, Bool, true, false, ◌&&◌, ◌||◌, not, if◌then◌else◌, List, [], ◌∷◌, length, All, Option, Some, None, slice_set, Result, Ok, Err, refl, sym, ap, subst, ◌∙◌, arith}
-use Rattle.cr_base.proofs.Residues.{residue_below, residue_wrapped}
+use Rattle.std.proofs.Common.{◌≡◌, ℕ, zero, suc, ◌^◌, ◌/◌, ◌%◌, ℤ, Bool, true, false, if◌then◌else◌, length, All, Some, slice_set, Result, Ok, Err, sym, ap, subst, ◌∙◌, arith}
 use Rattle.cr_base.specs.Scalar.{residue}
 use Rattle.cr_base.specs.declared.scalar.Scalar.{Scalar}
 use Rattle.cr_world.specs.Held.{with_blocks}
 use Rattle.cr_world.specs.World.{World, blocks_of, with_held, with_memory}
 use Rattle.cx_core.specs.Trees.{CProgram}
-use Rattle.cx_mean.specs.Accesses.{is_field_place, at_field_place, field_value, CStored, stored_bits}
-use Rattle.cx_mean.specs.Marks.{Marks, Range, with_write, bits_of_field}
+use Rattle.cx_mean.specs.Accesses.{is_field_place, field_value, CStored, stored_bits}
+use Rattle.cx_mean.specs.Marks.{Marks, with_write, bits_of_field}
 use Rattle.cx_mean.specs.Operands.{CWhy, stuck, sequenced_after, accessed, CValue, scalar, scalar_value}
 use Rattle.cx_mean.specs.Values.{is_of_kind, value_of_kind, number_in}
 use Rattle.cx_typed_leftmost.proofs.Worlds.{typed_stepped}
 use Rattle.cx_typed_work.proofs.Memories.{typed_none, typed_more, written_typed, written_shapes}
 use Rattle.cx_typed_work.specs.ExternalCalls.{KeepsObjects}
-use Rattle.cx_typed_work.specs.Scenes.{IsTypedCell, IsTypedMemory, AreSameShapes}
+use Rattle.cx_typed_work.specs.Scenes.{IsTypedCell, AreSameShapes}
 use Rattle.lift_does.proofs.Around.{Around, scope, At}
 use Rattle.lift_does.proofs.Nodes.{and_then_is}
 use Rattle.lift_does.proofs.Operands.{scalar_is}

@@ -1,5 +1,5 @@
 -- `op=`, `++` and `--` of bit-fields (ISO C99, 6.5.2.4, 6.5.3.1, 6.5.16.2 and 6.7.2.1p9).
-use Rattle.std.proofs.Common.{◌≡◌, inl, inr, ℕ, suc, ◌^◌, ◌≤◌, ◌<◌, ◌==◌, ℤ, Bool, true, false, not, List, [], ◌∷◌, length, Option, Some, None, Result, Ok, Err, refl, sym, ap, subst, ◌∙◌, arith}
+use Rattle.std.proofs.Common.{◌≡◌, ℕ, suc, ◌^◌, ◌≤◌, ℤ, Bool, true, false, List, [], ◌∷◌, length, Option, Some, Ok, refl, sym, ap, subst, ◌∙◌, arith}
 use Rattle.cr_base.specs.Scalar.{residue}
 use Rattle.cr_base.specs.declared.layout.Spot.{Spot}
 use Rattle.cr_base.specs.declared.refusal.Place.{Place}
@@ -8,15 +8,15 @@ use Rattle.cr_base.specs.declared.scalar.Scalar.TheVariants as scalars
 use Rattle.cr_runs.specs.Runs.{came}
 use Rattle.cr_world.specs.Held.{with_blocks}
 use Rattle.cr_world.specs.World.{World, blocks_of, with_held, with_memory}
-use Rattle.cx_core.specs.Trees.{CTy, CExpr, expr, CForm}
+use Rattle.cx_core.specs.Trees.{CTy, expr, CForm}
 use Rattle.cx_core.specs.declared.expr.Op2.{Op2}
 use Rattle.cx_mean.specs.Accesses.{CStored, stored, stored_bits, field_value, is_field_place}
 use Rattle.cx_mean.specs.Leftmost.{gives_operand, c_done, c_update, one_step}
 use Rattle.cx_mean.specs.Marks.{Marks}
 use Rattle.cx_mean.specs.Nodes.{CDone, done, CUpdating, update_computed, update_converted, update_stored, update_value}
-use Rattle.cx_mean.specs.Operands.{CWhy, needed, CValue, scalar, designates_bits, COperand, scalar_value}
+use Rattle.cx_mean.specs.Operands.{needed, CValue, scalar, designates_bits, COperand}
 use Rattle.cx_mean.specs.Settings.{scalar_in_type}
-use Rattle.cx_mean.specs.Values.{CTyped, converted_value, to_scalar, binary_value}
+use Rattle.cx_mean.specs.Values.{CTyped, converted_value}
 use Rattle.cx_mean.specs.Work.{CUpdate}
 use Rattle.cx_typed_values.specs.Values.{most_bytes}
 use Rattle.cx_typed_work.specs.ExternalCalls.{KeepsObjects}
@@ -26,10 +26,10 @@ use Rattle.lift_does.proofs.Around.{Around, scope, At, DidOf, OweAs, Reached}
 use Rattle.lift_does.proofs.BitAssignments.{needed_is}
 use Rattle.lift_does.proofs.BitEnds.{bits_written, bits_end, number_casts}
 use Rattle.lift_does.proofs.BitLoads.{profile_is, bits_read}
-use Rattle.lift_does.proofs.BitStores.{StoredBits, bits_stored_is, Midst}
+use Rattle.lift_does.proofs.BitStores.{bits_stored_is}
 use Rattle.lift_does.proofs.Lasting.{objects_stay}
 use Rattle.lift_does.proofs.Nodes.{and_then_is}
-use Rattle.lift_does.proofs.Operands.{other_based, where_used}
+use Rattle.lift_does.proofs.Operands.{other_based}
 use Rattle.lift_does.proofs.Reaching.{reached_then, temporaries_stay}
 use Rattle.lift_does.proofs.RecordAssignments.{temporaries_beside}
 use Rattle.lift_does.proofs.Runs.{run_behind, step_owes, end_owes, same_events}
@@ -45,7 +45,6 @@ use Rattle.lift_exprs.specs.Written.{Written, then_takes, temporary_place, addre
 use Rattle.lift_forms.specs.BitFields.{bit_write}
 use Rattle.lift_forms.specs.Given.{Given}
 use Rattle.lift_forms.specs.Given as given_form
-use Rattle.lift_forms.specs.LawsTyping.{IsBitField}
 use Rattle.lift_forms.specs.Operators.{Operand, given_value}
 use Rattle.lift_forms_laws.proofs.Operands.{value_gives}
 use Rattle.lift_forms_laws.specs.Gives.{GivesAt, OperandStands}
@@ -60,9 +59,8 @@ use Rattle.mem_bytes.specs.Coding.{IsValueOf}
 use Rattle.mem_bytes.specs.Memory.{Blocks}
 use Rattle.mem_bytes.specs.declared.value.Ptr.{Ptr}
 use Rattle.mem_bytes.specs.declared.value.Value.{Value}
-use Rattle.mem_bytes.specs.declared.value.Value.TheVariants.{Whole, Object}
-use Rattle.rs_mean.specs.Run.{Flow, normal}
-use Rattle.rs_mean.specs.Scalars.{scalar_of}
+use Rattle.mem_bytes.specs.declared.value.Value.TheVariants.{Whole}
+use Rattle.rs_mean.specs.Run.{Flow}
 use Rattle.rs_text.specs.Tree.{Ty, Expr, Read, Stmt, Assign}
 
 abbrev c_scalar : Value → CValue

@@ -1,5 +1,5 @@
 -- What is evaluated by the truth of what stands in front (ISO C99, 6.5.13p4, 6.5.14p4 and 6.5.15p4; the Rust Reference, "if and if let expressions").
-use Rattle.std.proofs.Common.{◌≡◌, inl, ℕ, Bool, true, false, ◌||◌, not, if◌then◌else◌, List, [], ◌∷◌, ◌++◌, Result, Ok, refl, sym, ap, subst, ◌∙◌}
+use Rattle.std.proofs.Common.{◌≡◌, inl, ℕ, Bool, true, false, not, if◌then◌else◌, List, [], ◌∷◌, Ok, refl, sym, ap, subst, ◌∙◌}
 use Rattle.std.proofs.lemmas.List.{append-nil}
 use Rattle.cr_runs.proofs.Rules.{renamed}
 use Rattle.cr_runs.specs.Runs.{Ran, came, halted, bad, out, bind}
@@ -9,7 +9,7 @@ use Rattle.cx_core.specs.Typing.{IsTyped}
 use Rattle.cx_mean.specs.Leftmost.{CRan, CPiece}
 use Rattle.cx_mean.specs.Marks.{Range}
 use Rattle.cx_mean.specs.Nodes.{truth_of_value}
-use Rattle.cx_mean.specs.Operands.{CValue, scalar, COperand, scalar_value}
+use Rattle.cx_mean.specs.Operands.{scalar, COperand, scalar_value}
 use Rattle.cx_mean.specs.Values.{is_true}
 use Rattle.lift_calls.specs.Programs.{setting_in, c_calls}
 use Rattle.lift_does.proofs.Around.{Around, scope, At, DidOf, OweAs, runs, value_in}
@@ -24,7 +24,6 @@ use Rattle.lift_does.proofs.Steady.{SameSize}
 use Rattle.lift_does.proofs.Types.{value_there}
 use Rattle.lift_does.specs.Later.{Lasts}
 use Rattle.lift_exprs.specs.Lifted.{if_stmt, branch, operand_of}
-use Rattle.lift_exprs.specs.Names.{type_in}
 use Rattle.lift_exprs.specs.Written.{Written}
 use Rattle.lift_forms.specs.Given.{Given}
 use Rattle.lift_forms.specs.Operators.{Operand, test_of, opposite_of}
@@ -38,7 +37,7 @@ use Rattle.rs_mean.specs.Run.{Frame, Flow, normal, breaks, continues, returned, 
 use Rattle.rs_mean.specs.Values.{typed, test_of as test_of_typed}
 use Rattle.rs_mean.specs.World.{pure, seq, either}
 use Rattle.rs_mean.specs.declared.cause.Cause.{Cause}
-use Rattle.rs_text.specs.Tree.{Boolean, Expr, Stmt, If, stmts}
+use Rattle.rs_text.specs.Tree.{Boolean, Expr, Stmt, stmts}
 
 -- ---- a branch of the crate
 

@@ -8,7 +8,7 @@ use Rattle.cr_world.specs.World.{World, blocks_of}
 use Rattle.cx_core.specs.Trees.{CTy, CExpr, expr, CForm, cond, type_of}
 use Rattle.cx_core.specs.Typing.{IsTyped}
 use Rattle.cx_mean.specs.Leftmost.{CRan, c_truth, c_part, c_carried}
-use Rattle.cx_mean.specs.Marks.{Marks, at_sequence_point, both}
+use Rattle.cx_mean.specs.Marks.{at_sequence_point, both}
 use Rattle.cx_mean.specs.Nodes.{truth_of_value}
 use Rattle.cx_mean.specs.Operands.{CValue, COperand}
 use Rattle.cx_mean.specs.Work.{after_marks}
@@ -28,15 +28,14 @@ use Rattle.lift_does.proofs.Runs.{step_owes, end_owes, same_events}
 use Rattle.lift_does.proofs.Steady.{IsScoped, sizes_last}
 use Rattle.lift_does.proofs.Taken.{IsTaken, scalar_taken}
 use Rattle.lift_does.proofs.Unary.{form_fixed, ExprOwes, FormOwes}
-use Rattle.lift_does.specs.Does.{is_fixed}
 use Rattle.lift_does.specs.Gives.{GivesOperand, GivesWhere}
 use Rattle.lift_does.specs.Later.{IsSameAt, TemporariesStay}
-use Rattle.lift_exprs.specs.Lifted.{lifted, branch, operand_of, Choice, choice_behind, choice_joined, part_taken, chosen_written}
+use Rattle.lift_exprs.specs.Lifted.{lifted, branch, operand_of, Choice, choice_behind, part_taken, chosen_written}
 use Rattle.lift_exprs.specs.Names.{Names, type_in}
 use Rattle.lift_exprs.specs.Written.{Written, temporary_place, copied, address_of_given}
 use Rattle.lift_forms.specs.Given.{Given}
 use Rattle.lift_forms.specs.Given as given_form
-use Rattle.lift_forms.specs.Operators.{Operand, given_value, value_of, test_of, opposite_of, choice_form}
+use Rattle.lift_forms.specs.Operators.{Operand, given_value, test_of, opposite_of, choice_form}
 use Rattle.lift_forms_laws.proofs.Conversions.{choice_stands}
 use Rattle.lift_forms_laws.proofs.Runs.{pure_is}
 use Rattle.lift_forms_laws.specs.Gives.{GivesAt, truth_number}

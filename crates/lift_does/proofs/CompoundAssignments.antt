@@ -41,7 +41,7 @@ use Rattle.lift_exprs.specs.Stores.{Target, a_scalar, changed, changed_first}
 use Rattle.lift_exprs.specs.Written.{Written, in_turn, place_of_given, temporary_place}
 use Rattle.lift_forms.proofs.SameTypes.{type_is}
 use Rattle.lift_forms.specs.Given.{Given, nothing}
-use Rattle.lift_forms.specs.Operators.{Operand, computed}
+use Rattle.lift_forms.specs.Operators.{Operand}
 use Rattle.lift_held.specs.Held.{holds_call, is_record, operand, operand_before}
 use Rattle.lift_held.specs.declared.asked.Asked.{Asked}
 use Rattle.lift_stands.specs.Stands.{Images}
@@ -49,13 +49,10 @@ use Rattle.mem_bytes.specs.Access.{value_at}
 use Rattle.mem_bytes.specs.declared.value.Ptr.{Ptr}
 use Rattle.mem_bytes.specs.declared.value.Value.{Value}
 use Rattle.mem_bytes.specs.declared.value.Value.TheVariants.{Object}
-use Rattle.rs_mean.specs.Lookups.{own}
-use Rattle.rs_mean.specs.Scalars.{same_type}
 use Rattle.rs_mean.specs.Values.{typed}
 use Rattle.rs_text.specs.Tree.{Assign, Read, Stmt}
 use Rattle.std.proofs.Common.{Bool, List, Ok, Result, [], ap, arith, false, inl, inr, refl, subst, sym, true, ℕ, ◌∙◌, ◌∷◌, ◌≡◌, ◌≤◌}
 use Rattle.lift_forms.specs.Given as given_form
-use Rattle.rs_text.specs.Tree.{Place as RustPlace}
 
 -- ---- results, turned round
 

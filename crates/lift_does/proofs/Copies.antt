@@ -1,5 +1,5 @@
 -- A structure or union is copied to a temporary, and found there later.
-use Rattle.std.proofs.Common.{◌≡◌, inl, inr, ℕ, zero, suc, ◌+◌, ◌<◌, ◌≤◌, ◌==◌, ◌%◌, nat_le, Bool, true, false, ◌&&◌, if◌then◌else◌, List, [], ◌∷◌, length, cond, All, Option, Some, None, IsSome, slice_set, Result, Ok, Err, refl, sym, ap, subst, ◌∙◌, arith, pos}
+use Rattle.std.proofs.Common.{◌≡◌, ℕ, zero, suc, ◌<◌, ◌≤◌, ◌==◌, ◌%◌, Bool, true, false, if◌then◌else◌, List, [], ◌∷◌, length, Option, Some, None, slice_set, Result, Ok, Err, refl, sym, ap, subst, ◌∙◌, arith, pos}
 use Rattle.std.proofs.lemmas.Bool.{le-leb, cond-false, ne_eqb}
 use Rattle.std.proofs.lemmas.Bool.Decides.{nat_tests}
 use Rattle.cr_base.specs.declared.layout.Laid.{Laid}
@@ -21,14 +21,13 @@ use Rattle.lift_forms_laws.proofs.Constants.{addresses}
 use Rattle.lift_forms_laws.proofs.Runs.{cast_gives, literal_gives}
 use Rattle.lift_forms_laws.specs.Gives.{GivesAt, GivesPlace}
 use Rattle.lift_stands.proofs.Loads.{read_live}
-use Rattle.lift_stands.specs.Stands.{Images, IsVacant, PlaceHolds}
+use Rattle.lift_stands.specs.Stands.{Images, IsVacant}
 use Rattle.lift_stands.specs.Worlds.{HeldStands}
 use Rattle.lift_stands_lives.proofs.Begun.{worlds_held}
-use Rattle.lift_stands_lives.proofs.Copied.{part_found}
 use Rattle.lift_stands_lives.proofs.Steps.{stores_aside_keep}
 use Rattle.lift_stands_lives.proofs.Stored.{written_aside}
 use Rattle.mem_bytes.proofs.Held.{held_later}
-use Rattle.mem_bytes.proofs.Reached.{part_ok, part_inside, length_part}
+use Rattle.mem_bytes.proofs.Reached.{part_ok, part_inside}
 use Rattle.mem_bytes.proofs.Slots.{live_within, live-set_same}
 use Rattle.mem_bytes.proofs.Written.{copy_writes, copy_stands}
 use Rattle.mem_bytes.specs.Access.{and_then, part_of, record_part_of, is_record_aligned, block_with_copy, live_read, live_change, part_at, record_at, copied_between, after_copy}
@@ -44,7 +43,7 @@ use Rattle.rs_mean.specs.Layout.{laid_of}
 use Rattle.rs_mean.specs.Lookups.{LocalBlock}
 use Rattle.rs_mean.specs.Run.{normal, run_expr, run_stmt, goes_on}
 use Rattle.rs_mean.specs.Values.{Typed, typed}
-use Rattle.rs_mean.specs.World.{Run, Did, pure, seq, local, after_step}
+use Rattle.rs_mean.specs.World.{Did, pure, local, after_step}
 use Rattle.rs_mean.specs.declared.cause.Cause.{Cause}
 use Rattle.rs_text.specs.Tree.{Ty, Integer, Pointer, Place, Local, Expr, Literal, AddressOf}
 use Rattle.rs_text.specs.declared.integer.IntegerTy.TheVariants.{U8, Usize}

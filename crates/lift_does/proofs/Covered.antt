@@ -1,5 +1,5 @@
 -- The expressions without calls and compound literals: what is written for them does what they do.
-use Rattle.std.proofs.Common.{◌≡◌, ◌⊎◌, inl, inr, ℕ, suc, ◌+◌, ◌≤◌, Bool, true, false, not, if◌then◌else◌, ◌&&◌, ◌||◌, ◌==◌, List, [], ◌∷◌, ◌++◌, length, Some, refl, sym, ap, subst, ◌∙◌, arith, length-append}
+use Rattle.std.proofs.Common.{◌≡◌, ◌⊎◌, inl, inr, ℕ, ◌+◌, ◌≤◌, Bool, true, false, not, if◌then◌else◌, ◌&&◌, ◌||◌, ◌==◌, List, [], ◌∷◌, ◌++◌, length, Some, refl, sym, ap, subst, ◌∙◌}
 use Rattle.cr_base.specs.declared.layout.Spot.{Spot}
 use Rattle.cr_base.specs.declared.refusal.Place.{Place}
 use Rattle.cr_world.specs.World.{World}
@@ -47,18 +47,17 @@ use Rattle.lift_does.specs.Covered.{IsCovered, IsCoveredForm, CoveredDoes}
 use Rattle.lift_does.specs.Does.{IsAsked, is_fixed}
 use Rattle.lift_exprs.specs.Lifted.{lifted, lifted_form, operand_of, Deciding, where_true, where_false, decided_written, Choice, chosen_written}
 use Rattle.lift_exprs.specs.Names.{Names, type_in}
-use Rattle.lift_exprs.specs.Objects.{object_at}
 use Rattle.lift_exprs.specs.Stores.{Target, a_scalar, a_structure, a_field, is_field, target_of, held_store, plain_store, old_value, stored, stored_value, Change, changed, changed_first, stepped, step_by_one, promoted_type, target_type}
-use Rattle.lift_exprs.specs.Written.{Written, Both, both, in_turn, place_of_given, address_of_given, NodeKind, a_value, a_record, a_place, lvalue_kind, value_kind, kind_in, held_type, held_where}
+use Rattle.lift_exprs.specs.Written.{Written, Both, both, in_turn, place_of_given, address_of_given, NodeKind, a_value, a_record, lvalue_kind, value_kind, kind_in, held_type, held_where}
 use Rattle.lift_forms.specs.Given.{Given}
 use Rattle.lift_forms.specs.Given as given_form
-use Rattle.lift_forms.specs.Operators.{Operand, given_value}
+use Rattle.lift_forms.specs.Operators.{Operand}
 use Rattle.lift_held.specs.Held.{is_void, is_record, is_lvalue, is_steady, acts, is_lvalue_form, operand, operand_before, part_of, whole_of, holds_call}
 use Rattle.lift_held.specs.declared.asked.Asked.{Asked}
 use Rattle.lift_stands.specs.Stands.{Images}
 use Rattle.rs_mean_frames.proofs.Framed.{all_behave}
 use Rattle.rs_mean_frames.specs.Behave.{BodiesBehave}
-use Rattle.rs_text.specs.Tree.{Ty, Place as RustPlace, Expr, Read}
+use Rattle.rs_text.specs.Tree.{Ty, Expr, Read}
 
 -- ---- the temporaries that are kept
 
@@ -580,8 +579,10 @@ module _ (x : Around) where
         let kept_three = chosen_kept x.names x.kept asked.used acting type (operand_of x.names test three.test.given) (operand_of x.names first three.first.given) (operand_of x.names second three.second.given) three from
         first_count second_count third_count are in
         choice_owes x asked type at test first second from images c w here typed asked_is.used (rises three.test from first_count) (rises three.first three.test.next second_count) (rises three.second three.first.next third_count)
-        (λ used acts_it. (part_is_taken x type first three.first.given three.second.next typed.1.1 typed.1.3.first_is (asked_is.used used) (kept_three.3 used acts_it),
-        part_is_taken x type second three.second.given three.second.next typed.1.2 typed.1.3.second_is (asked_is.used used) (kept_three.3 used acts_it)))
+        (λ used acts_it. (
+          part_is_taken x type first three.first.given three.second.next typed.1.1 typed.1.3.first_is (asked_is.used used) (kept_three.3 used acts_it),
+          part_is_taken x type second three.second.given three.second.next typed.1.2 typed.1.3.second_is (asked_is.used used) (kept_three.3 used acts_it),
+        ))
         (expr_does operand test from (used_part operand test refl (scalar_has x.home.program.types (type_of test) typed.1.3.tested)) kept_three.0 (inl typed.1.0) is.0 images c w here)
         (λ later c1 w1 there. expr_does (part_of asked.used) first three.test.next
         (record { used = λ same. subst (λ (t : CTy). is_void t ≡ false) (sym typed.1.3.first_is) (asked_is.used same); base = λ same. cc (same) }) kept_three.1 (inl typed.1.1) is.1 later c1 w1 there)

@@ -1,5 +1,5 @@
 -- `&&` and `||` (ISO C99, 6.5.13 and 6.5.14).
-use Rattle.std.proofs.Common.{◌≡◌, inl, ℕ, suc, ◌≤◌, ℤ, pos, Bool, true, false, ◌&&◌, ◌||◌, not, if◌then◌else◌, List, [], ◌∷◌, ◌++◌, Some, Result, Ok, refl, sym, ap, subst, ◌∙◌, arith, rules}
+use Rattle.std.proofs.Common.{◌≡◌, inl, ℕ, suc, ◌≤◌, ℤ, pos, Bool, true, false, ◌&&◌, ◌||◌, not, List, [], ◌∷◌, ◌++◌, Some, Result, Ok, refl, sym, ap, subst, ◌∙◌, arith, rules}
 use Rattle.std.proofs.lemmas.Bool.{and_parts}
 use Rattle.std.proofs.lemmas.Int.{ints}
 use Rattle.cr_base.specs.declared.refusal.Place.{Place}
@@ -8,7 +8,7 @@ use Rattle.cr_runs.specs.Runs.{bind}
 use Rattle.cr_world.specs.World.{World, blocks_of}
 use Rattle.cx_core.specs.Conversions.{scalar_of as c_scalar_of}
 use Rattle.cx_core.specs.Trees.{CTy, form_of_type, CExpr, expr, CForm, and, or, type_of}
-use Rattle.cx_core.specs.Typing.{IsTyped, AreTested, int_type}
+use Rattle.cx_core.specs.Typing.{IsTyped, int_type}
 use Rattle.cx_mean.specs.Leftmost.{CPiece, gives_operand, c_truth, c_tested, c_and, c_or, decided_as, one_step}
 use Rattle.cx_mean.specs.Marks.{Marks, at_sequence_point, both}
 use Rattle.cx_mean.specs.Nodes.{truth, truth_of_value, tested}
@@ -19,36 +19,34 @@ use Rattle.cx_typed_work.specs.Operands.{IsGiven}
 use Rattle.lift_does.proofs.Around.{Around, scope, At, LaterAt, DidOf, OweAs, value_in, Reached}
 use Rattle.lift_does.proofs.Branches.{IsTested, tested_is, branch_owes, test_at, opposite_at, still_owes, lasts_still}
 use Rattle.lift_does.proofs.Lasting.{all_front, all_back, lasts_less}
-use Rattle.lift_does.proofs.Nodes.{and_then_is, PartOwes, OneDid, GivesUsed, one_owes, one_owes_alone}
+use Rattle.lift_does.proofs.Nodes.{and_then_is, OneDid, one_owes, one_owes_alone}
 use Rattle.lift_does.proofs.Operands.{or_false, where_used, other_based}
-use Rattle.lift_does.proofs.Quiet.{IsBare, bare}
+use Rattle.lift_does.proofs.Quiet.{bare}
 use Rattle.lift_does.proofs.Reaching.{reached_then, reached_wider, later_itself, later_then}
 use Rattle.lift_does.proofs.Runs.{step_owes, end_owes, same_events}
-use Rattle.lift_does.proofs.Steady.{SameSize, IsScoped, sizes_last}
+use Rattle.lift_does.proofs.Steady.{IsScoped, sizes_last}
 use Rattle.lift_does.proofs.Taken.{scalar_taken}
 use Rattle.lift_does.proofs.Unary.{form_fixed, ExprOwes, FormOwes}
-use Rattle.lift_does.specs.Gives.{GivesOperand, GivesWhere}
-use Rattle.lift_does.specs.Later.{AllOf, IsSameAt, TemporariesStay}
-use Rattle.lift_exprs.specs.Lifted.{lifted, lifted_form, operand_of, Deciding, where_true, where_false, decided, decides, decided_form, decided_written}
+use Rattle.lift_does.specs.Gives.{GivesOperand}
+use Rattle.lift_does.specs.Later.{IsSameAt, TemporariesStay}
+use Rattle.lift_exprs.specs.Lifted.{lifted, operand_of, Deciding, where_true, where_false, decided, decides, decided_form, decided_written}
 use Rattle.lift_exprs.specs.Names.{type_in}
-use Rattle.lift_exprs.specs.Written.{Written, Both, both as both_written, in_turn, joined, then_takes, temporary_place}
+use Rattle.lift_exprs.specs.Written.{Written, Both, both as both_written, in_turn, temporary_place}
 use Rattle.lift_forms.specs.Given.{Given, number_of}
 use Rattle.lift_forms.specs.Given as given_form
 use Rattle.lift_forms.specs.Operators.{Operand, given_value, test_of, opposite_of}
 use Rattle.lift_forms_laws.proofs.Conversions.{both_stand, either_stands}
-use Rattle.lift_forms_laws.proofs.Runs.{pure_is, literal_gives, cast_gives}
+use Rattle.lift_forms_laws.proofs.Runs.{pure_is, literal_gives}
 use Rattle.lift_forms_laws.proofs.Unary.{number_stands}
 use Rattle.lift_forms_laws.specs.Gives.{GivesAt, truth_number, GivenStands}
 use Rattle.lift_held.specs.Held.{is_void, is_record, acts, operand, is_steady}
 use Rattle.lift_held.specs.declared.asked.Asked.{Asked}
 use Rattle.lift_stands.specs.Stands.{Images}
-use Rattle.mem_bytes.specs.Coding.{IsValueOf}
 use Rattle.mem_bytes.specs.declared.value.Value.TheVariants.{Whole as Number}
 use Rattle.rs_mean.specs.Run.{Flow, normal}
-use Rattle.rs_mean.specs.Scalars.{scalar_of}
 use Rattle.rs_mean.specs.Numbers.{number_of_truth as rust_number_of_truth}
 use Rattle.rs_text.specs.declared.integer.IntegerTy.TheVariants.{I32}
-use Rattle.rs_text.specs.Tree.{Ty, Integer, Boolean, Expr, Literal, Read, And, Or, Stmt, Assign}
+use Rattle.rs_text.specs.Tree.{Integer, Boolean, Expr, Literal, Read, And, Or, Stmt, Assign}
 
 -- ---- truths
 

@@ -1,25 +1,22 @@
 -- What a node gives is held in a temporary.
-use Rattle.std.proofs.Common.{◌≡◌, inl, inr, ℕ, suc, ◌+◌, ◌≤◌, Bool, true, false, List, [], ◌∷◌, ◌++◌, length, Some, refl, sym, subst, arith}
+use Rattle.std.proofs.Common.{◌≡◌, inl, inr, ℕ, suc, ◌+◌, Bool, true, false, List, [], ◌∷◌, ◌++◌, length, Some, sym, subst, arith}
 use Rattle.cr_base.specs.declared.scalar.Scalar.{Scalar}
 use Rattle.cr_world.specs.World.{World}
 use Rattle.cx_core.specs.Trees.{CTy, ty, void, basic, enum_type, pointer, array, record_type, function, form_of_type, CExpr, type_of}
 use Rattle.cx_core.specs.Typing.{IsTyped}
-use Rattle.cx_mean.specs.Operands.{CValue, scalar, cells, names, designates, designates_bits, missing, COperand}
-use Rattle.cx_typed_work.proofs.Given.{value_given}
+use Rattle.cx_mean.specs.Operands.{CValue, scalar, cells, names, designates, designates_bits, missing}
 use Rattle.cx_typed_work.specs.Operands.{IsRecordForm, IsGiven}
 use Rattle.lift_calls.specs.Frames.{FunctionNames}
-use Rattle.lift_does.proofs.Around.{Around, At, DidOf, value_in}
+use Rattle.lift_does.proofs.Around.{Around, DidOf, value_in}
 use Rattle.lift_does.proofs.Lasting.{lasts_less}
 use Rattle.lift_does.proofs.Nodes.{PartOwes}
 use Rattle.lift_does.proofs.Operands.{other_based, where_used}
-use Rattle.lift_does.proofs.Reaching.{Knows, knows, reached_by, reached_then, later_itself}
-use Rattle.lift_does.proofs.Runs.{behind_owes, end_owes, known_owes, weaker_owes}
-use Rattle.lift_does.proofs.Temporaries.{stores_temporary, reads_temporary}
+use Rattle.lift_does.proofs.Runs.{weaker_owes}
 use Rattle.lift_does.proofs.Types.{kind_there}
 use Rattle.lift_does.specs.Agree.{AreKeptFrom}
 use Rattle.lift_does.specs.Gives.{GivesSome, GivesMissing, MissingAs, GivesOperand, GivesWhere}
 use Rattle.lift_exprs.specs.Names.{Names, type_in}
-use Rattle.lift_exprs.specs.Written.{Written, temporary_place, a_value, then_held}
+use Rattle.lift_exprs.specs.Written.{Written}
 use Rattle.lift_forms.specs.Given.{Given}
 use Rattle.lift_forms.specs.Given as given_form
 use Rattle.lift_forms.specs.Operators.{given_value}
@@ -31,9 +28,8 @@ use Rattle.lift_stands.specs.Stands.{Images, Extends}
 use Rattle.mem_bytes.specs.Coding.{IsValueOf}
 use Rattle.mem_bytes.specs.declared.value.Value.{Value}
 use Rattle.lift_stands_values.proofs.Ranges.{given_in_range}
-use Rattle.rs_mean.specs.Run.{normal}
 use Rattle.rs_mean.specs.Scalars.{scalar_of}
-use Rattle.rs_text.specs.Tree.{Ty, Place, Expr, Read, AddressOf, Assign}
+use Rattle.rs_text.specs.Tree.{Ty, Place, Expr, AddressOf}
 
 -- ---- the temporary that is taken last
 

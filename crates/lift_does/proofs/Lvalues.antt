@@ -1,8 +1,8 @@
 -- An lvalue that is no bit-field is given as a place.
-use Rattle.std.proofs.Common.{◌≡◌, ℕ, ◌==◌, Bool, true, false, not, refl, sym, ap, subst, ◌∙◌, arith}
+use Rattle.std.proofs.Common.{◌≡◌, ℕ, ◌==◌, Bool, true, false, not, refl, sym, ap, ◌∙◌, arith}
 use Rattle.std.proofs.lemmas.Bool.Decides.{nat_tests}
 use Rattle.cr_base.specs.declared.refusal.Place.{Place}
-use Rattle.cx_core.specs.Trees.{CTy, CExpr, expr, CForm, whole, null, object, code, load, deref, member, address, convert, unary, binary, and, or, cond, assign, assign_by, step, call, call_by, comma, literal, type_of, CTypes, form_of_type}
+use Rattle.cx_core.specs.Trees.{CTy, CExpr, expr, CForm, whole, null, object, code, load, deref, member, address, convert, unary, binary, and, or, cond, assign, assign_by, step, call, call_by, comma, literal, type_of, form_of_type}
 use Rattle.cx_core.specs.Typing.{CHome, IsLvalue, is_bit_field}
 use Rattle.cx_core.specs.ValidTypes.{AreTypes, IsMemberOf}
 use Rattle.cx_typed_work.proofs.Fields.{field_at, holder_is_record}
@@ -10,7 +10,7 @@ use Rattle.lift_does.proofs.Around.{Around}
 use Rattle.lift_does.proofs.Asking.{held_test, place_kind_is}
 use Rattle.lift_does.proofs.Members.{lvalue_is, given_is}
 use Rattle.lift_exprs.specs.Lifted.{lifted, lifted_form}
-use Rattle.lift_exprs.specs.Names.{Names, type_in}
+use Rattle.lift_exprs.specs.Names.{type_in}
 use Rattle.lift_exprs.specs.Objects.{object_at}
 use Rattle.lift_exprs.specs.Written.{Written, NodeKind, a_place, kind_in, held_where}
 use Rattle.lift_forms.specs.Given.{Given}

@@ -1,16 +1,15 @@
 -- What a bit-field holds behind a store, computed from the number that is stored (ISO C99, 6.5.16p3 and 6.7.2.1p9).
-use Rattle.std.proofs.Common.{◌≡◌, ℕ, zero, suc, ◌+◌, ◌-◌, ◌*◌, ◌^◌, ◌%◌, ◌≤◌, ◌<◌, nat_lt, int_le, int_lt, tests, ℤ, pos, negsuc, ◌-ℤ◌, Bool, true, false, if◌then◌else◌, Some, Ok, Err, refl, sym, ap, subst, ◌∙◌, arith, rules}
+use Rattle.std.proofs.Common.{◌≡◌, ℕ, zero, suc, ◌+◌, ◌-◌, ◌^◌, ◌%◌, ◌≤◌, ◌<◌, nat_lt, int_le, int_lt, tests, ℤ, pos, ◌-ℤ◌, Bool, true, false, if◌then◌else◌, Ok, Err, refl, sym, ap, subst, ◌∙◌, arith}
 use Rattle.std.proofs.lemmas.Bool.Decides.{nat_tests}
 use Rattle.std.proofs.lemmas.Int.{ints}
 use Rattle.std.proofs.Math.Nat.{two-pow-succ, mod-eq_of_lt, mod-lt, add-mod_right}
 use Rattle.std.proofs.Math.Pow.{pow_mono}
 use Rattle.std.proofs.lemmas.Nat.{pow_pos}
 use Rattle.cr_base.proofs.Residues.{residue_below}
-use Rattle.cr_base.specs.Scalar.{IsInRange, least, above as most_number, residue, wrapped, converted, from_half}
+use Rattle.cr_base.specs.Scalar.{IsInRange, least, above as most_number, residue, from_half}
 use Rattle.cr_base.specs.declared.layout.Spot.{Spot}
-use Rattle.cr_base.specs.declared.scalar.Scalar.TheVariants as scalars
 use Rattle.cr_world.specs.World.{World}
-use Rattle.lift_exprs.specs.Stores.{low_bits, signed_low_bits, narrowed}
+use Rattle.lift_exprs.specs.Stores.{low_bits, signed_low_bits}
 use Rattle.lift_forms.specs.BitFields.{half, word}
 use Rattle.lift_forms.specs.LawsTyping.{IsBitField}
 use Rattle.lift_forms.proofs.SameTypes.{both_are_true}
@@ -21,13 +20,13 @@ use Rattle.lift_forms_laws.proofs.Runs.{cast_gives, literal_gives, binary_gives}
 use Rattle.lift_forms_laws.specs.Gives.{GivesAt}
 use Rattle.mem_bytes.specs.declared.value.Value.TheVariants.{Whole}
 use Rattle.rs_mean.specs.Run.{Frame}
-use Rattle.rs_mean.specs.Scalars.{integer_scalar, is_signed_integer, fits_integer}
+use Rattle.rs_mean.specs.Scalars.{integer_scalar, fits_integer}
 use Rattle.rs_mean.specs.Values.{typed, numbered}
 use Rattle.rs_mean.specs.declared.cause.Cause.TheVariants.{Overflow}
 use Rattle.rs_text.specs.declared.integer.IntegerTy.{IntegerTy}
 use Rattle.rs_text.specs.declared.integer.IntegerTy.TheVariants.{I64, U64}
 use Rattle.rs_text.specs.declared.operator.Operator.TheVariants as rust
-use Rattle.rs_text.specs.Tree.{Ty, Integer, Expr, Literal, Cast, Binary}
+use Rattle.rs_text.specs.Tree.{Integer, Expr, Literal, Cast, Binary}
 
 pub two_halves : (width : ℕ) → 0 < width → 2 ^ width ≡ 2 ^ (width - 1) + 2 ^ (width - 1)
 two_halves zero some = absurd (omega (arith, some))

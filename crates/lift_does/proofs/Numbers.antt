@@ -8,7 +8,7 @@ use Rattle.lift_exprs.specs.Calls.{Called, Arguments, called_with, called_for_re
 use Rattle.lift_exprs.specs.Lifted.{lifted, lifted_form, lifted_args, lifted_puts, lifted_put, operand_of, Deciding, where_true, where_false, decided_written, Choice, choice_behind, chosen_written, joined_to, literal_begun}
 use Rattle.lift_exprs.specs.Names.{Names, type_in}
 use Rattle.lift_exprs.specs.Objects.{object_at}
-use Rattle.lift_exprs.specs.Stores.{Target, is_field, target_of, target_type, stored, stored_value, held_store, plain_store, Change, changed, old_value, stepped, step_by_one, promoted_type}
+use Rattle.lift_exprs.specs.Stores.{Target, is_field, target_of, target_type, stored, held_store, plain_store, Change, changed, old_value, stepped, step_by_one, promoted_type}
 use Rattle.lift_exprs.specs.Written.{Written, Both, both, both_behind, in_turn, NodeKind, kind_in, held_type, held_where}
 use Rattle.lift_forms.specs.Given.{Given}
 use Rattle.lift_forms.specs.Given as given_form

@@ -1,6 +1,6 @@
 -- A value is passed in another type of the crate that has the same scalar, as it is (ISO C99, 6.5.2.2p7; the Rust Reference, "Type cast expressions").
-use Rattle.std.proofs.Common.{◌≡◌, ℕ, ℤ, Bool, true, false, Some, refl, sym, ap, subst, ◌∙◌}
-use Rattle.cr_base.specs.Scalar.{IsInRange, converted}
+use Rattle.std.proofs.Common.{◌≡◌, ℤ, Bool, true, false, Some, refl, sym, ap, subst, ◌∙◌}
+use Rattle.cr_base.specs.Scalar.{IsInRange}
 use Rattle.cr_base.specs.declared.scalar.Scalar.{Scalar}
 use Rattle.cr_base.specs.declared.scalar.Scalar.TheVariants as scalars
 use Rattle.cr_world.specs.World.{World}
@@ -8,7 +8,7 @@ use Rattle.lift_does.proofs.BitLoads.{whole_range}
 use Rattle.lift_forms.specs.Operators.{as_type}
 use Rattle.lift_forms_laws.proofs.Operands.{as_type_gives, cast_to_number}
 use Rattle.lift_forms_laws.proofs.Numbers.{converted_same}
-use Rattle.lift_forms_laws.specs.Gives.{GivesAt, IsOf}
+use Rattle.lift_forms_laws.specs.Gives.{GivesAt}
 use Rattle.lift_stands.specs.Stands.{Images}
 use Rattle.mem_bytes.specs.Coding.{IsValueOf}
 use Rattle.mem_bytes.specs.declared.value.Value.{Value}

@@ -1,5 +1,5 @@
 -- What stores nothing and calls nothing is written without a statement, and leaves C's world as it is (ISO C99, 5.1.2.3p2).
-use Rattle.std.proofs.Common.{◌≡◌, ℕ, Bool, true, false, ◌&&◌, ◌||◌, not, ◌==◌, List, [], ◌∷◌, Result, Ok, Err, refl, sym, subst, ◌∙◌}
+use Rattle.std.proofs.Common.{◌≡◌, ℕ, Bool, true, false, ◌&&◌, ◌||◌, not, [], ◌∷◌, Result, Ok, Err, refl, sym, subst, ◌∙◌}
 use Rattle.cr_base.specs.declared.refusal.Place.{Place}
 use Rattle.cr_runs.specs.Owes.{AtEnd}
 use Rattle.cr_runs.specs.Runs.{bind}
@@ -16,7 +16,7 @@ use Rattle.cx_mean.specs.Settings.{CSetting}
 use Rattle.cx_mean_lives.proofs.ValueLives.{end_bind, end_step, end_tick, Anything, given_anything}
 use Rattle.lift_does.proofs.Asking.{held_test}
 use Rattle.lift_does.proofs.Lasting.{no_either}
-use Rattle.lift_exprs.specs.Lifted.{lifted, lifted_form, holds_itself, Deciding, where_true, where_false, decided_written, decided_node, Choice, choice_joined, chosen_written}
+use Rattle.lift_exprs.specs.Lifted.{lifted, lifted_form, holds_itself, Deciding, where_true, where_false, decided_written, Choice, choice_joined, chosen_written}
 use Rattle.lift_exprs.specs.Names.{Names}
 use Rattle.lift_exprs.specs.Written.{Written, then_gives, Both, in_turn, NodeKind, kind_in, held_where}
 use Rattle.lift_forms.specs.Given.{Given}

@@ -1,26 +1,22 @@
 -- Assignments of structures and unions (ISO C99, 6.5.16.1; `core::ptr::copy`).
-use Rattle.std.proofs.Common.{◌≡◌, inl, inr, ℕ, suc, ◌<◌, ◌≤◌, ◌==◌, Bool, true, false, if◌then◌else◌, List, [], ◌∷◌, ◌++◌, length, Option, Some, None, Result, Ok, Err, refl, sym, ap, subst, ◌∙◌, arith, pos}
+use Rattle.std.proofs.Common.{◌≡◌, inl, inr, ℕ, suc, ◌≤◌, Bool, true, false, List, [], ◌∷◌, length, Option, Some, None, Ok, refl, sym, ap, subst, ◌∙◌, arith}
 use Rattle.cr_base.specs.declared.layout.Laid.{Laid}
 use Rattle.cr_base.specs.declared.refusal.Place.{Place}
-use Rattle.cr_base.specs.declared.scalar.Scalar.{Scalar}
 use Rattle.cr_runs.specs.Runs.{came}
 use Rattle.cr_world.specs.Held.{with_blocks}
 use Rattle.cr_world.specs.World.{World, blocks_of, with_memory, with_held}
-use Rattle.cx_core.specs.Trees.{CTy, ty, CTyForm, CExpr, expr, member, assign, type_of, unqualified}
+use Rattle.cx_core.specs.Trees.{CTy, ty, CTyForm, CExpr, expr, member, assign, type_of}
 use Rattle.cx_core.specs.Typing.{IsTyped, is_bit_field}
-use Rattle.cx_mean.specs.Accesses.{CKind, of_scalar, of_record, kind_of, CStored, stored, stored_kind, stored_record, cells_in, sized}
+use Rattle.cx_mean.specs.Accesses.{CKind, of_scalar, of_record, kind_of, CStored, stored, stored_kind, stored_record, cells_in}
 use Rattle.cx_mean.specs.Leftmost.{gives_operand, c_done}
-use Rattle.cx_mean.specs.Marks.{Marks, Range, any_overlap}
+use Rattle.cx_mean.specs.Marks.{Marks, any_overlap}
 use Rattle.cx_mean.specs.Nodes.{CDone, done, node_done}
-use Rattle.cx_mean.specs.Operands.{CWhy, CValue, scalar, cells, names, designates, designates_bits, missing, COperand, place_in, scalar_value}
-use Rattle.cx_mean.specs.Values.{value_of_kind}
+use Rattle.cx_mean.specs.Operands.{CValue, scalar, cells, names, designates, designates_bits, missing, COperand, place_in}
 use Rattle.cx_typed_work.proofs.Given.{value_given, place_given}
-use Rattle.lift_calls.specs.Frames.{KeptTemporary, IsLocal}
 use Rattle.lift_calls.specs.Programs.{setting_in}
-use Rattle.lift_does.proofs.Around.{Around, scope, At, LaterAt, DidOf, OweAs}
+use Rattle.lift_does.proofs.Around.{Around, scope, At, DidOf, OweAs}
 use Rattle.lift_does.proofs.Assignments.{stored_is, target_lvalue, pair_of, both_give, later_of_temporary}
 use Rattle.lift_does.proofs.Binary.{before_fixed}
-use Rattle.lift_does.proofs.Commas.{carried_given}
 use Rattle.lift_does.proofs.Copies.{copy_comes}
 use Rattle.lift_does.proofs.Loads.{IsNoField, no_field, IsRecordKind, of_record_kind, of_scalar_kind, field_test}
 use Rattle.lift_does.proofs.Nodes.{and_then_is, PartOwes, two_owes}
@@ -35,7 +31,7 @@ use Rattle.lift_does.specs.Gives.{GivesLvalue, GivesRecord, GivesOperand}
 use Rattle.lift_does.specs.Later.{TemporariesStay}
 use Rattle.lift_exprs.specs.Names.{Names, type_in}
 use Rattle.lift_exprs.specs.Stores.{Target, a_structure, target_of, stored as stored_as_written, held_store, plain_store, stored_value}
-use Rattle.lift_exprs.specs.Written.{Both, in_turn, temporary_place, place_of_given, address_of_given, copied}
+use Rattle.lift_exprs.specs.Written.{in_turn, temporary_place, place_of_given, address_of_given, copied}
 use Rattle.lift_forms.specs.Given.{Given, address_of}
 use Rattle.lift_forms.specs.Given as given_form
 use Rattle.lift_forms_laws.proofs.Constants.{addresses}
@@ -43,19 +39,19 @@ use Rattle.lift_forms_laws.specs.Gives.{GivesAt}
 use Rattle.lift_held.specs.Held.{operand, operand_before, holds_call, is_record}
 use Rattle.lift_held.specs.declared.asked.Asked.{Asked}
 use Rattle.lift_stands.proofs.Kept.{both_keep}
-use Rattle.lift_stands.specs.Stands.{Images, Extends, PlaceHolds}
+use Rattle.lift_stands.specs.Stands.{Images, PlaceHolds}
 use Rattle.lift_stands_accesses.proofs.Stores.{record_stored}
 use Rattle.lift_stands_accesses.specs.Objects.{LeftStanding}
 use Rattle.lift_stands_lives.proofs.Begun.{worlds_held}
 use Rattle.lift_stands_values.specs.Given.{align_in}
 use Rattle.mem_bytes.proofs.Slots.{live_within}
-use Rattle.mem_bytes.specs.Memory.{Blocks, live_block}
+use Rattle.mem_bytes.specs.Memory.{Blocks}
 use Rattle.mem_bytes.specs.declared.cell.Cell.{Cell}
 use Rattle.mem_bytes.specs.declared.value.Ptr.{Ptr}
 use Rattle.mem_bytes.specs.declared.value.Value.{Value}
 use Rattle.mem_bytes.specs.declared.value.Value.TheVariants.{Object}
 use Rattle.rs_mean.specs.Run.{normal, run_stmt, run_stmts}
-use Rattle.rs_text.specs.Tree.{Ty, Pointer, Place as RustPlace, Expr, AddressOf, Stmt, stmts}
+use Rattle.rs_text.specs.Tree.{Ty, Pointer, Expr, AddressOf, stmts}
 
 -- ---- what C stored
 

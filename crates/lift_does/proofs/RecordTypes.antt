@@ -6,8 +6,8 @@ use Rattle.cr_base.specs.declared.scalar.Scalar.{Scalar}
 use Rattle.cx_core.specs.Conversions.{scalar_of as c_scalar_of, promoted, IsPromoted, IsIntegerType}
 use Rattle.cx_core.specs.declared.expr.Op2.{Op2}
 use Rattle.cx_core.specs.declared.expr.Op2.TheVariants as op2
-use Rattle.cx_core.specs.Trees.{CTy, ty, CTyForm, void, basic, enum_type, pointer, array, record_type, function, form_of_type, unqualified, CExpr, expr, CForm, whole, null, object, code, load, deref, member, address, convert, unary, binary, and, or, cond, assign, assign_by, step, call, call_by, comma, literal, CExprs, type_of, CTypes, CProgram}
-use Rattle.cx_core.specs.Typing.{CHome, types_of_home, CCallee, callee_with, IsTyped, IsTypedForm, IsCallOf, IsCalleeOf, IsCallee, IsCallBy, IsResult, IsElementPointer, IsShift, AreJoined, IsComputedIn, IsAssignByOf, width_of}
+use Rattle.cx_core.specs.Trees.{CTy, ty, CTyForm, void, basic, enum_type, pointer, array, record_type, function, form_of_type, unqualified, CExpr, expr, whole, null, object, code, load, deref, member, address, convert, unary, binary, and, or, cond, assign, assign_by, step, call, call_by, comma, literal, CExprs, type_of, CTypes, CProgram}
+use Rattle.cx_core.specs.Typing.{CHome, types_of_home, CCallee, callee_with, IsTyped, IsCallOf, IsCalleeOf, IsCallBy, IsResult, IsElementPointer, IsShift, AreJoined, IsComputedIn, IsAssignByOf, width_of}
 use Rattle.cx_core.specs.ValidTypes.{IsComplete}
 use Rattle.cx_mean.specs.Settings.{extent_in}
 use Rattle.cx_typed_work.specs.Operands.{may_lack}

@@ -10,10 +10,10 @@ use Rattle.cx_mean.specs.Settings.{setting_of, extent_in}
 use Rattle.cx_typed_work.specs.Operands.{IsGiven}
 use Rattle.lift_calls.specs.Programs.{setting_in}
 use Rattle.lift_does.proofs.Around.{Around, At, runs}
-use Rattle.lift_does.proofs.Copies.{CopiesTemporary, copies_temporary, keeps_staying, kept_place, keeps_address, keeps_part, keeps_record, keeps_based}
+use Rattle.lift_does.proofs.Copies.{copies_temporary, keeps_staying, kept_place, keeps_address, keeps_part, keeps_record, keeps_based}
 use Rattle.lift_does.proofs.RecordTypes.{scalar_no_record, lack_complete, extent_there}
 use Rattle.lift_does.proofs.Taken.{IsTaken}
-use Rattle.lift_does.specs.Gives.{GivesRecord, GivesMissing, GivesRoom, MissingAs, GivesOperand}
+use Rattle.lift_does.specs.Gives.{GivesMissing, GivesRoom, MissingAs, GivesOperand}
 use Rattle.lift_exprs.specs.Names.{type_in}
 use Rattle.lift_exprs.specs.Written.{temporary_place, address_of_given, copied}
 use Rattle.lift_forms.specs.Given.{Given}
@@ -22,17 +22,16 @@ use Rattle.lift_forms_laws.specs.Gives.{GivesAt}
 use Rattle.lift_held.specs.Held.{is_void, is_record}
 use Rattle.lift_stands.proofs.Images.{cells_stay}
 use Rattle.lift_stands.proofs.Loads.{read_live}
-use Rattle.lift_stands.specs.Stands.{Images, PlaceHolds}
+use Rattle.lift_stands.specs.Stands.{Images}
 use Rattle.lift_stands_lives.proofs.Copied.{part_found}
 use Rattle.lift_stands_values.specs.Given.{align_or, align_in}
 use Rattle.mem_bytes.specs.Access.{part_of, record_part_of, live_read, part_at, record_at}
 use Rattle.mem_bytes.specs.Memory.{Block, Blocks, live_block}
 use Rattle.mem_bytes.specs.declared.cell.Cell.{Cell}
 use Rattle.mem_bytes.specs.declared.value.Ptr.{Ptr}
-use Rattle.mem_bytes.specs.declared.value.Value.{Value}
 use Rattle.mem_bytes.specs.declared.value.Value.TheVariants.{Object}
 use Rattle.rs_mean.specs.Run.{normal}
-use Rattle.rs_text.specs.Tree.{Ty, Pointer, AddressOf, Stmt}
+use Rattle.rs_text.specs.Tree.{Pointer, AddressOf}
 
 -- what a place holds is a part
 pub part_held : (blocks : Blocks) (at : Ptr) (size align : ℕ) (list : List Cell) → record_at blocks at size align ≡ Ok list → part_at blocks at size ≡ Ok list

@@ -3,7 +3,6 @@ use Rattle.cr_base.specs.Scalar.{IsInRange}
 use Rattle.cr_base.specs.declared.refusal.Place.{Place}
 use Rattle.cr_base.specs.declared.scalar.Scalar.{Scalar}
 use Rattle.cr_base.specs.declared.scalar.Scalar.TheVariants.{Truth}
-use Rattle.cr_runs.proofs.Rules.{below}
 use Rattle.cr_world.specs.World.{World, blocks_of}
 use Rattle.cx_core.specs.Conversions.{IsIntegerType, IsPromoted, basic_of_enum, promoted, promoted_basic, scalar_of_basic}
 use Rattle.cx_core.specs.Trees.{CExpr, CProgram, CTy, CTyForm, CTypes, array, basic, enum_type, expr, form_of_type, function, pointer, record_type, ty, type_of, unqualified, void, member, step}
@@ -53,7 +52,7 @@ use Rattle.lift_held.specs.declared.asked.Asked.{Asked}
 use Rattle.lift_stands.specs.Stands.{Images, ValueBelow}
 use Rattle.mem_bytes.specs.Memory.{Blocks}
 use Rattle.mem_bytes.specs.declared.value.Value.{Value}
-use Rattle.mem_bytes.specs.declared.value.Value.TheVariants.{Object, Whole}
+use Rattle.mem_bytes.specs.declared.value.Value.TheVariants.{Object}
 use Rattle.rs_mean.specs.Calls.{spot}
 use Rattle.rs_mean.specs.Run.{Flow}
 use Rattle.rs_mean.specs.Scalars.{integer_scalar, scalar_of}

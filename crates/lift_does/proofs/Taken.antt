@@ -1,5 +1,5 @@
 -- The value of a part goes to a temporary that is taken behind other parts.
-use Rattle.std.proofs.Common.{◌≡◌, inl, ℕ, suc, ◌≤◌, Bool, true, false, List, [], ◌∷◌, Some, refl, subst, arith}
+use Rattle.std.proofs.Common.{◌≡◌, inl, ℕ, suc, ◌≤◌, Bool, true, false, [], ◌∷◌, Some, refl, subst, arith}
 use Rattle.cr_runs.specs.Runs.{came}
 use Rattle.cr_world.specs.World.{World}
 use Rattle.cx_core.specs.Trees.{CExpr, type_of}

@@ -27,7 +27,6 @@ use Rattle.lift_does.proofs.Assignments.{StoredBoth, holds_still, later_of_tempo
 use Rattle.lift_does.proofs.Binary.{binary_no, near}
 use Rattle.lift_does.proofs.Conversions.{conversion_is, converted_scalar_given}
 use Rattle.lift_does.proofs.Loads.{IsNoField, IsScalarKind}
-use Rattle.lift_does.proofs.Members.{given_is}
 use Rattle.lift_does.proofs.Nodes.{and_then_is}
 use Rattle.lift_does.proofs.Operands.{other_based, scalar_is, standing}
 use Rattle.lift_does.proofs.Places.{scalar_loaded_given}
@@ -60,11 +59,8 @@ use Rattle.mem_bytes.specs.Memory.{Blocks}
 use Rattle.mem_bytes.specs.declared.value.Ptr.{Ptr}
 use Rattle.mem_bytes.specs.declared.value.Value.{Value}
 use Rattle.mem_bytes.specs.declared.value.Value.TheVariants.{Object}
-use Rattle.rs_mean.specs.Calls.{based}
-use Rattle.rs_mean.specs.Lookups.{own}
 use Rattle.rs_mean.specs.Run.{Flow}
 use Rattle.rs_mean.specs.Scalars.{scalar_of}
-use Rattle.rs_mean.specs.Values.{typed}
 use Rattle.rs_text.specs.Tree.{Assign, Expr, Read, Stmt}
 use Rattle.std.proofs.Common.{Bool, List, Ok, Result, Some, [], ap, arith, false, inl, length, refl, subst, suc, sym, true, ℕ, ◌∙◌, ◌∷◌, ◌≡◌, ◌≤◌}
 use Rattle.lift_forms.specs.Given as given_form

@@ -1,5 +1,5 @@
 -- Members of values of structures and unions (ISO C99, 6.5.2.3p3).
-use Rattle.std.proofs.Common.{◌≡◌, ◌⊎◌, inl, inr, ℕ, suc, ◌+◌, ◌≤◌, ◌%◌, ◌==◌, nat_le, Bool, true, false, not, if◌then◌else◌, pos, List, [], ◌∷◌, length, Option, Some, None, Result, Ok, Err, refl, sym, ap, subst, ◌∙◌, arith, cond}
+use Rattle.std.proofs.Common.{◌≡◌, ◌⊎◌, inl, inr, ℕ, suc, ◌+◌, ◌≤◌, ◌==◌, nat_le, Bool, true, false, not, if◌then◌else◌, pos, List, [], length, Option, Some, None, Ok, Err, refl, sym, ap, subst, ◌∙◌, arith, cond}
 use Rattle.std.proofs.lemmas.Bool.{le-leb, leb-true}
 use Rattle.cr_base.specs.declared.layout.Laid.{Laid}
 use Rattle.cr_base.specs.declared.layout.Spot.{Spot as CSpot}
@@ -30,7 +30,7 @@ use Rattle.lift_stands_values.proofs.Results.{if_ok}
 use Rattle.mem_bytes.proofs.Reached.{and_then_ok, part_ok}
 use Rattle.mem_bytes.specs.Access.{and_then, record_at, record_part_of, part_of, is_record_aligned}
 use Rattle.mem_bytes.specs.Laws.{behind}
-use Rattle.mem_bytes.specs.Memory.{Block, Blocks, live_block, size_of}
+use Rattle.mem_bytes.specs.Memory.{Blocks, live_block, size_of}
 use Rattle.mem_bytes.specs.Pointers.{moved, live_size, place_inside}
 use Rattle.mem_bytes.specs.declared.cell.Cell.{Cell}
 use Rattle.mem_bytes.specs.declared.fault.Fault.TheVariants.{Misaligned}
@@ -41,18 +41,18 @@ use Rattle.rs_mean.specs.Calls.{based, in_block, may_stand, Spot}
 use Rattle.rs_mean.specs.Layout.{FieldPlace, laid_at, laid_of, field_at}
 use Rattle.rs_mean.specs.Run.{is_base, moved_to, field_spot, field_by_type, spot_of_field, run_place}
 use Rattle.rs_mean.specs.World.{local, or_cause, cause_of_pointer, kept, after_step}
-use Rattle.rs_text.specs.Tree.{Ty, Pointer, Record, Expr, Field, Place as RustPlace}
+use Rattle.rs_text.specs.Tree.{Ty, Pointer, Record, Field, Place as RustPlace}
 use Rattle.lift_forms.specs.Given.{address_of}
 use Rattle.lift_forms_laws.proofs.Runs.{seq_is}
 use Rattle.cx_core.specs.Conversions.{scalar_of as c_scalar_of}
-use Rattle.cx_core.specs.Layouts.{CLayouts, bytes, whole_extent, whole_extent_of, extent, layouts_of}
+use Rattle.cx_core.specs.Layouts.{CLayouts, bytes, whole_extent, whole_extent_of, layouts_of}
 use Rattle.cx_core.specs.Trees.{CTyForm, ty, void, basic, enum_type, pointer, array, record_type, function, form_of_type, is_const_type, unqualified, expr, member, CTypes}
-use Rattle.cx_core.specs.Typing.{IsTyped, IsMemberValue, CHome}
+use Rattle.cx_core.specs.Typing.{IsTyped, IsMemberValue}
 use Rattle.cx_core.specs.ValidTypes.{AreTypes, IsResultForm, with_const}
 use Rattle.cx_mean.specs.Accesses.{CKind, of_scalar, of_record, kind_of, field_value, is_field_place}
 use Rattle.cx_mean.specs.Marks.{Marks}
-use Rattle.cx_mean.specs.Nodes.{CDone, node_done, member_of_kind, member_bits, member_with, member_value}
-use Rattle.cx_mean.specs.Operands.{CWhy, needed, CValue, scalar, cells, names, designates, designates_bits, missing, COperand}
+use Rattle.cx_mean.specs.Nodes.{member_of_kind, member_bits, member_with, member_value}
+use Rattle.cx_mean.specs.Operands.{needed, CValue, scalar, cells, names, designates, designates_bits, missing}
 use Rattle.cx_mean.specs.Settings.{scalar_in_type, setting_of}
 use Rattle.cx_typed_values.specs.Outcomes.{Comes}
 use Rattle.cx_typed_work.proofs.Fields.{holder_is_record}
@@ -65,7 +65,7 @@ use Rattle.lift_does.proofs.Around.{scope}
 use Rattle.lift_does.proofs.BitLoads.{read_stands, field_no_pointer, kind_same, setting_kind}
 use Rattle.lift_does.proofs.Loads.{of_scalar_kind, of_record_kind, same_unqualified}
 use Rattle.lift_does.proofs.Lvalues.{no_width, some_width}
-use Rattle.lift_does.proofs.Nodes.{and_then_is, MakesOne, pure_one}
+use Rattle.lift_does.proofs.Nodes.{and_then_is, pure_one}
 use Rattle.lift_does.proofs.Operands.{node_one, pure_step, or_false, other_based, stands_based, where_used}
 use Rattle.lift_does.proofs.Places.{load_comes, scalar_based}
 use Rattle.lift_does.proofs.Records.{record_there}
@@ -74,10 +74,10 @@ use Rattle.lift_does.specs.Does.{is_fixed}
 use Rattle.lift_does.specs.Gives.{GivesScalar, GivesOperand}
 use Rattle.lift_does.specs.Later.{IsSameAt, AllOf}
 use Rattle.lift_does.proofs.Lasting.{all_front}
-use Rattle.lift_exprs.specs.Lifted.{lifted, member_given, field_of, read_of, bits_of}
+use Rattle.lift_exprs.specs.Lifted.{lifted, member_given, field_of, read_of}
 use Rattle.lift_exprs.specs.Stores.{field_form}
 use Rattle.lift_forms_laws.proofs.Constants.{addresses}
-use Rattle.lift_held.specs.Held.{is_record, is_lvalue, is_steady, whole_of}
+use Rattle.lift_held.specs.Held.{is_lvalue, is_steady, whole_of}
 use Rattle.lift_held.specs.declared.asked.Asked.{Asked}
 use Rattle.lift_stands_values.proofs.MemberBits.{bits_member}
 use Rattle.lift_stands_values.proofs.MemberValues.{scalar_member, record_member}
@@ -85,7 +85,7 @@ use Rattle.lift_stands_values.specs.Given.{align_in, align_or}
 use Rattle.lift_stands_values.specs.Members.{FitsAt}
 use Rattle.mem_bytes.specs.Coding.{scalar_size}
 use Rattle.rs_mean.specs.Scalars.{scalar_of}
-use Rattle.std.proofs.Common.{◌^◌, ◌<◌, nat_lt}
+use Rattle.std.proofs.Common.{◌<◌, nat_lt}
 use Rattle.std.proofs.Math.Nat.{mod-lt}
 use Rattle.std.proofs.lemmas.Bool.{and_parts}
 use Rattle.std.proofs.lemmas.Bool.Decides.{nat_tests}
@@ -93,7 +93,6 @@ use Rattle.std.proofs.lemmas.Nat.{pow_pos}
 use Rattle.std.specs.Option.{option_and_then}
 use Rattle.cr_base.specs.Layout.{most_bytes}
 use Rattle.cx_core.specs.Layouts.{within_most}
-use Rattle.cx_mean.specs.Operands.{Frame as CFrame}
 use Rattle.cx_mean.specs.Settings.{CSetting}
 use Rattle.cx_typed_work.proofs.Bits.{field_means}
 use Rattle.cx_typed_work.proofs.Fields.{field_at as bit_field_at}
@@ -101,7 +100,6 @@ use Rattle.cx_typed_work.specs.Operands.{IsScalarIn}
 use Rattle.lift_does.proofs.BitLoads.{bytes_there, unqualified_kind}
 use Rattle.lift_does.proofs.BitAssignments.{needed_is}
 use Rattle.lift_does.proofs.BitPlaces.{width_test}
-use Rattle.lift_forms.specs.BitFields.{bit_read, read_type}
 use Rattle.lift_forms.specs.LawsTyping.{IsBitField}
 use Rattle.lift_forms_laws.proofs.Bits.{reads}
 use Rattle.lift_forms_laws.proofs.BothMemories.{value_is}
@@ -382,7 +380,7 @@ module _ (x : Around) where
         loaded.one,
         loaded.is,
         subst (λ (v : Value). GivesScalar last x.frame later one (field_form base spot one) v) (sym one_is)
-        (record { stands = stands; based = stands_based x last later one (field_form base spot one) (Whole number) (field_no_pointer x one kind spot.width (bits_at spot.bit spot.width (number_of found.bytes)) loaded.one there means) stands }),
+            (record { stands = stands; based = stands_based x last later one (field_form base spot one) (Whole number) (field_no_pointer x one kind spot.width (bits_at spot.bit spot.width (number_of found.bytes)) loaded.one there means) stands }),
       )
 
   -- ---- the member
