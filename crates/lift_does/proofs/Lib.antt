@@ -1,5 +1,6 @@
 pub mod Alignments
 pub mod Arguments
+pub mod ArgumentsRun
 pub mod Around
 pub mod Asking
 pub mod Assignments
