@@ -6,7 +6,7 @@ use Rattle.cr_runs.specs.Runs.{came}
 use Rattle.cr_world.specs.World.{World, blocks_of}
 use Rattle.cx_core.specs.Conversions.{scalar_of as c_scalar_of}
 use Rattle.lift_does.proofs.RecordTypes.{scalar_no_record}
-use Rattle.cx_core.specs.Trees.{CTypes, CTy, CTyForm, ty, void, basic, enum_type, pointer, array, record_type, function, form_of_type, CExpr, CExprs, no_exprs, more_exprs, type_of}
+use Rattle.cx_core.specs.Trees.{CProgram, CTypes, CTy, CTyForm, ty, void, basic, enum_type, pointer, array, record_type, function, form_of_type, CExpr, CExprs, no_exprs, more_exprs, type_of}
 use Rattle.cx_core.specs.Typing.{IsTyped, AreTyped}
 use Rattle.cx_mean.specs.Calls.{is_missing, all_given}
 use Rattle.cx_mean.specs.Operands.{CWhy, breaks, CValue, scalar, cells, names, designates, designates_bits, missing, COperand}
@@ -57,7 +57,7 @@ module _ (x : Around) where
   -- a parameter has the scalar of its argument, or is a pointer to the structure or union
   abbrev pub ParamFits : Bool → CExpr → Ty → Type 0
   ParamFits true first param = (target : Ty) × (param ≡ Pointer target)
-  ParamFits false first param = (kind : Scalar) × (scalar_in_type (setting_in x.s) (type_of first) ≡ Some kind) × (scalar_of param ≡ Some kind)
+  ParamFits false first param = (kind : Scalar) → c_scalar_of x.home.program.types (form_of_type (type_of first)) ≡ Some kind → scalar_of param ≡ Some kind
 
   abbrev pub ParamsFit : CExprs → Tys → Type 0
   ParamsFit no_exprs no_tys = Unit {0}
@@ -85,11 +85,11 @@ module _ (x : Around) where
   argument_runs false last later first given param (scalar one) no_record fits (inl is) there gave =
       let T = type_in x.names (type_of first) in
       let value = value_gives last x.frame later (record { ty = T; given = given }) one gave.stands in
-      let same = kind_same (c_scalar_of x.home.program.types (form_of_type (type_of first))) is.kind fits.0 is.kind_is (setting_kind x (type_of first) fits.0 fits.1) in
-      let range = given_in_range last fits.0 one value.other value.below (subst (λ (k : Scalar). IsValueOf k one) same is.of_kind) in
+      let kind_is : scalar_in_type (setting_in x.s) (type_of first) ≡ Some is.kind = subst (λ (program : CProgram). c_scalar_of program.types (form_of_type (type_of first)) ≡ Some is.kind) x.means.program is.kind_is in
+      let range = given_in_range last is.kind one value.other value.below is.of_kind in
       record {
         given = value.other;
-        gives = passed_gives last x.frame later T param fits.0 (given_value given) value.other (x.means.scalars (type_of first) fits.0 fits.1) fits.2 range value.gives;
+        gives = passed_gives last x.frame later T param is.kind (given_value given) value.other (x.means.scalars (type_of first) is.kind kind_is) (fits is.kind is.kind_is) range value.gives;
         handed = value.below;
       }
   argument_runs true last later first given param (cells list from) of_record fits (inl is) there gave =
