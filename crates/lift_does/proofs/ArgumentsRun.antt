@@ -1,24 +1,23 @@
 -- What the crate passes for arguments that are given (ISO C99, 6.5.2.2p4; the Rust Reference, "Call expressions").
-use Rattle.std.proofs.Common.{◌≡◌, ◌⊎◌, inl, inr, ℕ, Bool, true, false, if◌then◌else◌, List, [], ◌∷◌, map, Some, Ok, Err, refl, sym, ap, subst, ◌∙◌}
+use Rattle.std.proofs.Common.{◌≡◌, inl, inr, ℕ, Bool, true, false, if◌then◌else◌, List, [], ◌∷◌, map, Some, Ok, Err, refl, sym, ap, subst, ◌∙◌}
 use Rattle.cr_base.specs.declared.rule.URule.TheVariants.{U14}
 use Rattle.cr_base.specs.declared.scalar.Scalar.{Scalar}
 use Rattle.cr_runs.specs.Runs.{came}
 use Rattle.cr_world.specs.World.{World, blocks_of}
 use Rattle.cx_core.specs.Conversions.{scalar_of as c_scalar_of}
 use Rattle.lift_does.proofs.RecordTypes.{scalar_no_record}
-use Rattle.cx_core.specs.Trees.{CProgram, CTypes, CTy, CTyForm, ty, void, basic, enum_type, pointer, array, record_type, function, form_of_type, CExpr, CExprs, no_exprs, more_exprs, type_of}
-use Rattle.cx_core.specs.Typing.{IsTyped, AreTyped}
+use Rattle.cx_core.specs.Trees.{CProgram, CTypes, CTy, ty, void, basic, enum_type, pointer, array, record_type, function, form_of_type, CExpr, CExprs, no_exprs, more_exprs, type_of}
+use Rattle.cx_core.specs.Typing.{AreTyped}
 use Rattle.cx_mean.specs.Calls.{is_missing, all_given}
-use Rattle.cx_mean.specs.Operands.{CWhy, breaks, CValue, scalar, cells, names, designates, designates_bits, missing, COperand}
+use Rattle.cx_mean.specs.Operands.{breaks, CValue, scalar, cells, names, designates, designates_bits, missing, COperand}
 use Rattle.cx_mean.specs.Settings.{scalar_in_type}
 use Rattle.cx_mean.specs.State.{values_of_args}
 use Rattle.cx_typed_work.proofs.Given.{value_given}
-use Rattle.cx_typed_work.specs.Operands.{IsGiven, IsOperandOf, IsRecordForm}
+use Rattle.cx_typed_work.specs.Operands.{IsGiven, IsRecordForm}
 use Rattle.lift_calls.specs.Calls.{IsHanded, AreHanded}
 use Rattle.lift_calls.specs.Programs.{setting_in}
 use Rattle.lift_does.proofs.Around.{Around}
 use Rattle.lift_does.proofs.Arguments.{ArgsGiven}
-use Rattle.lift_does.proofs.BitLoads.{kind_same, setting_kind}
 use Rattle.lift_does.proofs.Nodes.{and_then_is, GivesUsed}
 use Rattle.lift_does.proofs.Passed.{passed_gives}
 use Rattle.lift_exprs.specs.Calls.{Argument, argument_of, as_params}
@@ -33,7 +32,6 @@ use Rattle.lift_forms_laws.specs.Gives.{GivesAt}
 use Rattle.lift_held.specs.Held.{is_record, operand_before, some_holds_call}
 use Rattle.lift_stands.specs.Stands.{Images}
 use Rattle.lift_stands_values.proofs.Ranges.{given_in_range}
-use Rattle.mem_bytes.specs.Coding.{IsValueOf}
 use Rattle.mem_bytes.specs.declared.value.Value.{Value}
 use Rattle.rs_mean.specs.Run.{run_expr, run_exprs}
 use Rattle.rs_mean.specs.Scalars.{scalar_of}

@@ -33,6 +33,7 @@ pub mod Narrowed
 pub mod Nodes
 pub mod Numbers
 pub mod Operands
+pub mod Params
 pub mod Passed
 pub mod Places
 pub mod Quiet
