@@ -1,4 +1,6 @@
 pub mod Alignments
+pub mod Arguments
+pub mod ArgumentsRun
 pub mod Around
 pub mod Asking
 pub mod Assignments
@@ -31,6 +33,8 @@ pub mod Narrowed
 pub mod Nodes
 pub mod Numbers
 pub mod Operands
+pub mod Params
+pub mod Passed
 pub mod Places
 pub mod Quiet
 pub mod Reaching

@@ -67,7 +67,7 @@ module _ (images : Images) (frame : Frame) (world : World) where
   cast_number e Boolean which number h c = cast_gives frame world e Boolean (Integer which) (Whole number) (Whole (converted (integer_scalar which) number)) h refl
   cast_number e from which number h c = absurd cc
 
-  cast_to_number : (e : Expr) (from : Ty) (which : IntegerTy) (number : ℤ) → GivesAt frame world e from (Whole number) → casts from (Integer which) ≡ true →
+  pub cast_to_number : (e : Expr) (from : Ty) (which : IntegerTy) (number : ℤ) → GivesAt frame world e from (Whole number) → casts from (Integer which) ≡ true →
       IsOf from (Whole number) → GivesAt frame world (cast_to from (Integer which) e) (Integer which) (Whole (converted (integer_scalar which) number))
   cast_to_number e from which number h c is =
       by_test (λ x. GivesAt frame world x (Integer which) (Whole (converted (integer_scalar which) number))) (same_type from (Integer which)) e (Cast e (Integer which))
