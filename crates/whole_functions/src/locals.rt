@@ -170,7 +170,7 @@ fn put_param(
 }
 
 /// The parameters of a function with these names, behind others.
-pub fn put_params(
+pub(crate) fn put_params(
     alloc: Global,
     whole: &Whole<'_>,
     names: &NameMap,
@@ -248,7 +248,7 @@ fn put_one(
 }
 
 /// The locals of a function with these names and temporaries of these types, behind others.
-pub fn put_locals(
+pub(crate) fn put_locals(
     alloc: Global,
     whole: &Whole<'_>,
     names: &NameMap,
