@@ -209,7 +209,8 @@ fn some_has_function(numbers: &[u32], keys: &[NameKey]) -> bool
     false
 }
 
-fn calls_malloc(called: &Called, externals: &[Outer]) -> bool
+/// Whether an external `malloc` is called.
+pub fn calls_malloc(called: &Called, externals: &[Outer]) -> bool
     ensures { result ≡ calls_malloc_in called.now (map view_outer externals.now) }
 {
     for one in externals {

@@ -14,5 +14,5 @@ pub use called::Called;
 pub use calls::NamedCall;
 pub use entries::{has_params, is_entry, is_outer_named};
 pub use key::NameKey;
-pub use keys::{entries_of, has_function, module_keys, numbers_named, things_of};
+pub use keys::{calls_malloc, entries_of, has_function, module_keys, numbers_named, things_of};
 pub use places::Places;

@@ -20,7 +20,7 @@ use Rattle.whole_given.proofs.OwnNames.{given_own}
 use Rattle.whole_given.specs.Told.{first_of, taken_more}
 use Rattle.whole_known.proofs.Kept.{both_rest}
 use Rattle.whole_known.specs.Entries.{enum_entry}
-use Rattle.whole_known.specs.Modules.{KnowsAll, KnowsModule, IsModule, TakesNames, is_result, item_names, names_taken, outer_made}
+use Rattle.whole_known.specs.Modules.{KnowsAll, KnowsModule, IsModule, TakesNames, is_result, item_names, names_taken, outer_made, some_bare}
 use Rattle.whole_known.specs.Stages.{put, KeepsRest, KnowsMore, HasTypes, IsBase, bare_at, bare_put, bares_put, enum_at, enum_with, outer_where, outers_put}
 use Rattle.whole_names.specs.Keys.{NameKey, a_function, an_object, a_record, a_calloc, a_bare_function, module_keys, same_key}
 use Rattle.whole_names.specs.Kept.{NamedProgram, bare_item, bare_thing, calloc_item, enum_thing, function_item, function_thing, is_key_among, is_replaced, known_thing, no_locals, outer_item, outer_thing, unit_or}
@@ -269,3 +269,34 @@ pub step_at : {A : Type 0} (list : List A) (index : ℕ) (other : A) → index <
 step_at list index other low =
     let next : suc index ≡ index + 1 = omega arith in
     drop-cons list index other low ∙ ap (λ (n : ℕ). get_or list index other ∷ drop n list) next
+
+-- ---- from module to module
+
+among_bare : (n : ℕ) (keys : List NameKey) → some_bare keys ≡ false → is_key_among (a_bare_function n) keys ≡ false
+among_bare n [] e = refl
+among_bare n (a_function number ∷ keys) e = among_bare n keys e
+among_bare n (an_object number ∷ keys) e = among_bare n keys e
+among_bare n (a_record number ∷ keys) e = among_bare n keys e
+among_bare n (a_calloc ∷ keys) e = among_bare n keys e
+among_bare n (a_bare_function number ∷ keys) e = cc
+
+no_bare : (whole : NamedProgram) (unit n : ℕ) (outer : Option COuter) → is_key_among (a_bare_function n) (module_keys whole.program unit) ≡ false → bare_thing whole unit n outer ≡ None
+no_bare whole unit n None e = refl
+no_bare whole unit n (Some one) e = ap (λ (t : Bool). if t then Some (bare_item whole unit one) else None) e
+
+pub base_again : (whole : NamedProgram) (unit : ℕ) (names : Names) (keys : List NameKey) → IsModule whole unit names → keys ≡ module_keys whole.program unit → some_bare keys ≡ false → IsBase whole names
+base_again whole unit names keys is_module same none = record {
+  types = record {
+    has_records = λ n. is_module.known_are (Record n) refl;
+    has_enums = λ n. is_module.known_are (Enum n) refl ∙ sym (enum_in whole unit n is_module.units_there);
+  };
+  objects = λ n. is_module.known_are (Object n) refl;
+  functions = λ n one there. is_module.known_are (Function n) refl ∙ ap (λ (fun : Option CFun). function_thing whole unit fun (outer_with n whole.program.externals)) there;
+  nothing_else = λ n fun outer. is_module.known_are (Function n) refl ∙ ap (λ (found : Option CFun). function_thing whole unit found (outer_with n whole.program.externals)) fun
+      ∙ ap (λ (found : Option COuter). function_thing whole unit None found) outer;
+  no_bares = λ n. is_module.known_are (BareFunction n) refl
+      ∙ no_bare whole unit n (outer_with n whole.program.externals) (among_bare n (module_keys whole.program unit) (sym (ap (λ (list : List NameKey). some_bare list) same) ∙ none));
+  no_temporaries = λ n. is_module.known_are (Temporary n) refl;
+  units_there = is_module.units_there;
+  has_bits_is = is_module.has_bits_is;
+}

@@ -1,5 +1,6 @@
 -- What is known in a module, and which names are taken in it.
 use Rattle.std.specs.Prelude.{◌≡◌, ◌≤◌, ℕ, length, Bool, true, false, if◌then◌else◌, List, [], ◌∷◌}
+use Rattle.std.specs.List.{list_any}
 use Rattle.cx_core.specs.BitFields.{has_bit_fields}
 use Rattle.cx_core.specs.Trees.{COuter, CProgram}
 use Rattle.rs_items.specs.Known.{KnownThing, Names}
@@ -7,7 +8,7 @@ use Rattle.rs_items.specs.declared.known.Named.{Named}
 use Rattle.rs_items.specs.declared.known.Named.TheVariants.{Object, Function, BareFunction, Record, Enum, Temporary, Result}
 use Rattle.whole_given.specs.Told.{taken_more}
 use Rattle.whole_known.specs.Stages.{HasTypes, KeepsRest}
-use Rattle.whole_names.specs.Keys.{NameKey, module_keys}
+use Rattle.whole_names.specs.Keys.{NameKey, a_function, an_object, a_record, a_calloc, a_bare_function, module_keys}
 use Rattle.whole_names.specs.Kept.{LocalNames, NamedProgram, calloc_item, is_replaced, known_thing, no_locals, outer_item}
 use Rattle.whole_names.specs.ModuleNames.{given_from, names_only, own_names}
 
@@ -61,3 +62,16 @@ pub record IsModule (whole : NamedProgram) (unit : ℕ) (names : Names) : Type 0
   pub none_own : names.taken.own_names ≡ []
   pub units_there : length whole.program.types.enums ≤ length whole.program.types.enum_units
   pub has_bits_is : names.has_bits ≡ has_bit_fields whole.program.types
+
+-- ---- from module to module
+
+abbrev pub is_bare_key : NameKey → Bool
+is_bare_key (a_function number) = false
+is_bare_key (an_object number) = false
+is_bare_key (a_record number) = false
+is_bare_key a_calloc = false
+is_bare_key (a_bare_function number) = true
+
+-- an external function is declared once more without parameters
+abbrev pub some_bare : List NameKey → Bool
+some_bare keys = list_any is_bare_key keys

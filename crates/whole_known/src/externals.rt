@@ -1,7 +1,7 @@
 //! What differs from module to module: external functions, which each module that calls them declares, and the names that are taken (ISO C99, 6.2.2). It is refused only for
 //! want of memory.
 
-ghost use Rattle.std.specs.Prelude.{◌≡◌, [], map, IfOk, OnOk};
+ghost use Rattle.std.specs.Prelude.{◌≡◌, [], true, map, IfOk, OnOk};
 ghost use Rattle.cx_core.specs.BitFields.{has_bit_fields};
 ghost use Rattle.cx_core.specs.Views.{view_outer};
 ghost use Rattle.rs_items.specs.Known.{view_known, view_names};
@@ -9,7 +9,7 @@ ghost use Rattle.rs_items.specs.declared.known.Named.TheVariants.{BareFunction, 
 ghost use Rattle.whole_given.specs.Told.{taken_more};
 ghost use Rattle.whole_given.specs.Whole.{named};
 ghost use Rattle.whole_keys.specs.Views.{view_key};
-ghost use Rattle.whole_known.specs.Modules.{IsModule, KnowsModule, TakesNames, item_names, names_taken, outer_made};
+ghost use Rattle.whole_known.specs.Modules.{IsModule, KnowsModule, TakesNames, item_names, names_taken, outer_made, some_bare};
 ghost use Rattle.whole_known.specs.Stages.{HasTypes, IsBase, KnowsMore, bare_at, bare_put, bares_put, outer_where, outers_put, put};
 ghost use Rattle.whole_names.specs.Keys.{module_keys};
 
@@ -209,4 +209,26 @@ pub fn enter_module(
     let keys = whole.keys(unit)?;
     take_own(whole, unit, keys, names)?;
     keep_declared(alloc, whole, unit, keys, names)
+}
+
+// Whether one of these keys is that of an external function without parameters.
+fn some_bare(keys: &[NameKey]) -> bool
+    ensures { result ≡ some_bare (map view_key keys.now) }
+{
+    for one in keys {
+        if matches!(one, NameKey::BareFunction(_)) {
+            return true;
+        }
+    }
+    false
+}
+
+/// Whether what is kept in the module of a unit is right for all modules, but for external functions, so that another module can be gone into from there. It isn't where the module
+/// declares an external function once more without parameters.
+pub fn is_base_again(whole: &Whole<'_>, unit: u32, _names: &NameMap) -> Result<bool, Memory>
+    requires { IsModule (named whole.now) unit (view_names _names.now) }
+    ensures { IfOk result (λ is_base. is_base ≡ true → IsBase (named whole.now) (view_names _names.now)) }
+{
+    let keys = whole.keys(unit)?;
+    Ok(!some_bare(keys))
 }

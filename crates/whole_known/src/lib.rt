@@ -8,6 +8,6 @@ mod program;
 mod types;
 
 pub use entries::{code_type_of, local_entry, object_entry};
-pub use externals::enter_module;
+pub use externals::{enter_module, is_base_again};
 pub use program::{begin_program, keep};
 pub use types::type_of;

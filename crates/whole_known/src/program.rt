@@ -1,6 +1,6 @@
 //! What doesn't differ from module to module. It is refused only for want of memory.
 
-ghost use Rattle.std.specs.Prelude.{◌≡◌, ◌≤◌, true, length, Some, map, IfOk, OnOk};
+ghost use Rattle.std.specs.Prelude.{◌≡◌, ◌≤◌, ℕ, true, length, None, Some, map, IfOk, OnOk};
 ghost use Rattle.cx_core.specs.Views.{view_function, view_object};
 ghost use Rattle.rs_items.specs.Known.{view_known, view_names};
 ghost use Rattle.rs_items.specs.declared.known.Named.TheVariants.{Enum, Function, Object, Record};
@@ -197,7 +197,8 @@ fn keep_types(alloc: Global, whole: &Whole<'_>, names: &mut NameMap) -> Result<(
 
 /// What is kept of a program outside of its modules.
 pub fn begin_program(alloc: Global, whole: &Whole<'_>) -> Result<NameMap, Memory>
-    ensures { IfOk result (λ names. IsBase (named whole.now) (view_names names)) }
+    ensures base { IfOk result (λ names. IsBase (named whole.now) (view_names names)) }
+    ensures fields { IfOk result (λ names. (number : ℕ) → (view_names names).fields number ≡ None) }
 {
     let parts = whole.parts();
     let mut names = NameMap::new(alloc, 0, has_bit_fields(&parts.types));

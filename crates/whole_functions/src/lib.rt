@@ -1,0 +1,7 @@
+//! The functions of the modules of a written crate, around bodies that are given (ISO C99, 6.9.1; the Rust Reference, "Functions").
+#![tactic(auto)]
+
+mod functions;
+mod locals;
+
+pub use functions::{WrittenBody, function_item};
