@@ -3,5 +3,7 @@
 
 mod functions;
 mod locals;
+mod modules;
 
 pub use functions::{WrittenBody, function_item};
+pub use modules::{initialiser_item, module_with};
