@@ -4,7 +4,7 @@ use Rattle.build_flow_nodes.specs.Flows.{flow_of}
 use Rattle.build_flow_nodes.specs.Parts.{BodyNames}
 use Rattle.cx_core.specs.Trees.{CTy, CPuts, CObject, CFun, CProgram}
 use Rattle.emit_rules.specs.Bodies.{emitted}
-use Rattle.flow.specs.Flows.{FlowTree, graph_of}
+use Rattle.flow.specs.Flows.{FlowTree}
 use Rattle.lift_exprs.specs.Lifted.{lifted_puts}
 use Rattle.lift_exprs.specs.Names.{Names, type_in}
 use Rattle.lift_exprs.specs.Objects.{object_at}
@@ -12,7 +12,6 @@ use Rattle.lift_exprs.specs.Written.{copied}
 use Rattle.lift_forms.specs.Given.{address_of}
 use Rattle.lift_forms.specs.Operators.{zero_of}
 use Rattle.lift_held.specs.Held.{is_record, is_void}
-use Rattle.reloop.specs.Graphs.{FlowGraph}
 use Rattle.reloop.specs.Shapes.{ShapeTree, has_dispatch}
 use Rattle.rs_mean.specs.Laws.{behind}
 use Rattle.rs_text.specs.Tree.{Ty, Place, Local, Expr, Read, Stmt, Return, Stmts, no_stmts, more_stmts, stmts, Assign, Eval, CopyBytes, If, Loop, Block, Break, Continue, Match}
@@ -22,9 +21,9 @@ use Rattle.whole_names.specs.FunctionNames.{LocalName, a_passed}
 use Rattle.whole_names.specs.Kept.{NamedProgram, local_among}
 use Rattle.whole_names.specs.ModuleNames.{name_or}
 
--- a shape for each graph
+-- a shape for the flow of each function: two functions whose flows have equal graphs need not have the same
 abbrev pub ShapeOf : Type 0
-ShapeOf = FlowGraph → ShapeTree
+ShapeOf = CFun → ShapeTree
 
 -- ---- functions
 
@@ -61,12 +60,12 @@ with_last_return false e body = body
 abbrev pub body_text : NamedProgram → ShapeOf → CFun → FlowTree → Stmts
 body_text program shape fun flow =
     with_last_return (gives_value (result_type fun)) (zero_of (type_in (body_names program fun).names (result_type fun)))
-    (behind (stmts (copies_of_passed program fun)) (emitted flow (shape (graph_of flow))))
+    (behind (stmts (copies_of_passed program fun)) (emitted flow (shape fun)))
 
 abbrev pub written_from : NamedProgram → ShapeOf → CFun → FlowTree → WrittenBody
 written_from program shape fun flow = record {
   temporaries = temporaries_of program fun;
-  has_dispatch = has_dispatch (shape (graph_of flow));
+  has_dispatch = has_dispatch (shape fun);
   statements = body_text program shape fun flow;
 }
 

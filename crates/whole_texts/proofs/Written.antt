@@ -6,7 +6,6 @@ use Rattle.cx_core.specs.Trees.{CStmt, CFun}
 use Rattle.emit_rules.specs.Bodies.{emitted}
 use Rattle.flow.specs.Flows.{FlowTree, graph_of}
 use Rattle.lift_held.specs.Held.{is_record}
-use Rattle.reloop.specs.Graphs.{FlowGraph}
 use Rattle.reloop.specs.Shapes.{ShapeTree}
 use Rattle.rs_mean.specs.Laws.{behind}
 use Rattle.rs_text.specs.Tree.{Stmt, stmts}
@@ -36,7 +35,7 @@ module _ (program : NamedProgram) (fun : CFun) where
   all_copies [] = refl
   all_copies (number ∷ params) = one_copy number (flat_map (passed_param program fun) params) (flat_map (copy_of_passed program fun) params) (all_copies params)
 
-  same_text : (flow : FlowTree) (shape : ShapeTree) → text_of (body_names program fun) (passed_of program fun) flow shape ≡ body_text program (λ (graph : FlowGraph). shape) fun flow
+  same_text : (flow : FlowTree) (shape : ShapeTree) → text_of (body_names program fun) (passed_of program fun) flow shape ≡ body_text program (λ (one : CFun). shape) fun flow
   same_text flow shape = ap (λ (copies : List Stmt). ended_text (body_names program fun) (behind (stmts copies) (emitted flow shape))) (all_copies fun.params)
 
   module _ (of : BodyNames) (passed : List PassedTree) (body : CStmt) (are : AreNames program fun of passed body) where

@@ -5,7 +5,6 @@ use Rattle.build_flow_nodes.specs.Parts.{BodyNames}
 use Rattle.cx_core.specs.Trees.{CFun}
 use Rattle.cx_core.specs.Views.{view_type}
 use Rattle.flow.specs.Flows.{FlowTree, graph_of}
-use Rattle.reloop.specs.Graphs.{FlowGraph}
 use Rattle.reloop.specs.Shapes.{ShapeTree, has_dispatch}
 use Rattle.rs_text.specs.Tree.{stmts}
 use Rattle.rs_tree.specs.Views.{stmt_view}
@@ -30,5 +29,5 @@ pub record IsText (of : BodyNames) (passed : List PassedTree) (flow : FlowTree) 
 pub record IsWritten (program : NamedProgram) (fun : CFun) (made : BodyText) : Type 0 where
   pub shape : ShapeTree
   pub shaped : IsShape (graph_of (flow_of (body_names program fun) fun.body)) shape
-  pub dispatch : made.has_dispatch ≡ (written_body program (λ (graph : FlowGraph). shape) fun).has_dispatch
-  pub text : stmts (map stmt_view made.statements) ≡ (written_body program (λ (graph : FlowGraph). shape) fun).statements
+  pub dispatch : made.has_dispatch ≡ (written_body program (λ (one : CFun). shape) fun).has_dispatch
+  pub text : stmts (map stmt_view made.statements) ≡ (written_body program (λ (one : CFun). shape) fun).statements
