@@ -29,9 +29,11 @@ pub(crate) enum Group {
     Records,
     /// Bodies of flows.
     Flows,
+    /// Whole programs and their crates.
+    Programs,
 }
 
-const GROUPS: [(&str, Group); 11] = [
+const GROUPS: [(&str, Group); 12] = [
     ("texts", Group::Texts),
     ("stores", Group::Stores),
     ("crates", Group::Crates),
@@ -43,6 +45,7 @@ const GROUPS: [(&str, Group); 11] = [
     ("forms", Group::Forms),
     ("records", Group::Records),
     ("flows", Group::Flows),
+    ("programs", Group::Programs),
 ];
 
 /// The group of the rows behind a row: the one that it names, or the one before.
@@ -78,6 +81,7 @@ pub(crate) fn answer<R: Files>(
         Group::Forms => answer_to(&form_rows::Stages, alloc, row),
         Group::Records => answer_to(&record_rows::Stages, alloc, row),
         Group::Flows => answer_to(&flow_rows::Stages, alloc, row),
+        Group::Programs => answer_to(&program_rows::Stages, alloc, row),
     }
 }
 

@@ -9,12 +9,12 @@ use Rattle.cx_core.specs.Typing.{object_with, outer_with}
 use Rattle.lift_exprs.specs.Names.{KeptFunction, Names, type_in}
 use Rattle.lift_forms.specs.Places.{Kept}
 use Rattle.rs_items.specs.Known.{KnownThing, MemberField}
-use Rattle.rs_items.specs.Records.{fields_walk}
+use Rattle.rs_items.specs.Records.{fields_walk, size_of}
 use Rattle.rs_items.specs.declared.known.Named.TheVariants.{Object, Function, BareFunction}
 use Rattle.rs_text.specs.Tree.{Ty, Code, no_tys, some_ty, no_ty, Place, Local, Static}
 use Rattle.whole_items.specs.Items.{result_of_form}
 use Rattle.whole_names.specs.FunctionNames.{LocalName, a_result, a_passed, a_local, a_temporary, local_names}
-use Rattle.whole_names.specs.Kept.{NamedProgram, LocalNames, known_thing, no_locals, local_among, module_of, name_in, record_unit, types_of, size_of}
+use Rattle.whole_names.specs.Kept.{NamedProgram, LocalNames, known_thing, no_locals, local_among, module_of, name_in, record_unit, types_of}
 use Rattle.whole_names.specs.ModuleNames.{name_or}
 
 -- ---- things
@@ -54,7 +54,8 @@ names_in program unit own = record {
   bare_functions = λ number. option_map kept_function (known_thing program unit own (BareFunction number));
   fields = fields_in program;
   types = types_of program;
-  size_of = size_of program;
+  -- a structure or union has the size that is kept of it
+  size_of = size_of (known_thing program unit no_locals);
   temporary = λ number. name_or [] (local_among (a_temporary number) own.names);
   has_bits = has_bit_fields program.program.types;
 }
@@ -100,8 +101,7 @@ abbrev pub result_type : CFun → CTy
 result_type fun = result_or_void (result_of_form (form_of_type fun.type))
 
 abbrev pub locals_of : NamedProgram → CFun → LocalNames
-locals_of program fun =
-    record { names = own_names program fun; temporaries = temporaries_of program fun; result = result_of_form (form_of_type fun.type) }
+locals_of program fun = record { names = own_names program fun; temporaries = temporaries_of program fun; result = None }
 
 -- the temporary from which zero bytes are copied to an object
 abbrev pub zero_name : NamedProgram → CFun → List LocalName → ℕ → List ℕ

@@ -21,10 +21,10 @@ use Rattle.rs_tree.specs.declared.ty.RPath.{RPath}
 use Rattle.whole_bodies.specs.Names as bodies
 use Rattle.whole_bodies.specs.Names.{fields_in, names_in}
 use Rattle.whole_known.specs.Modules.{KnowsAll}
-use Rattle.whole_lifted_names.specs.Laws.{HasFewTemporaries, kept_names_in}
+use Rattle.whole_lifted_names.specs.Laws.{HasFewTemporaries}
 use Rattle.whole_names.specs.FunctionNames.{a_temporary}
 use Rattle.whole_names.specs.Kept as kept
-use Rattle.whole_names.specs.Kept.{LocalNames, NamedProgram, enum_thing, known_thing, local_among, record_path, record_thing, temporary_thing, types_of}
+use Rattle.whole_names.specs.Kept.{LocalNames, NamedProgram, enum_thing, known_thing, local_among, no_locals, record_path, record_thing, temporary_thing, types_of}
 use Rattle.whole_names.specs.ModuleNames.{name_or}
 
 -- ---- things
@@ -96,9 +96,9 @@ module _ (whole : NamedProgram) (unit : ℕ) (own : LocalNames) (names : Names) 
   all_by objects functions bare fields types sizes temporary bits =
       record { objects = objects; functions = functions; bare_functions = bare; fields = fields; types = types; size_of = sizes; temporary = temporary; has_bits = bits }
 
-  pub lifted_is : ((number : ℕ) → names.fields number ≡ fields_in whole number) → names.has_bits ≡ has_bit_fields whole.program.types → lift_names names ≡ kept_names_in whole unit own
+  pub lifted_is : ((number : ℕ) → names.fields number ≡ fields_in whole number) → names.has_bits ≡ has_bit_fields whole.program.types → lift_names names ≡ names_in whole unit own
   lifted_is fields bits =
-      let to = kept_names_in whole unit own in
+      let to = names_in whole unit own in
       let from = lift_names names in
       ap (λ (o : ℕ → Option Kept). all_by o from.functions from.bare_functions from.fields from.types from.size_of from.temporary from.has_bits)
       (fun_ext (λ number. ap (option_map stores.kept_object) (knows (Object number) refl) ∙ object_alike (known_thing whole unit own (Object number))))
@@ -112,7 +112,7 @@ module _ (whole : NamedProgram) (unit : ℕ) (own : LocalNames) (names : Names) 
       ∙ ap (λ (enums : ℕ → IntegerTy). all_by to.objects to.functions to.bare_functions to.fields (types_by (record_path whole) enums) from.size_of from.temporary from.has_bits)
       (fun_ext (λ number. ap enum_integer (knows (Enum number) refl) ∙ enum_is whole unit number (slice_get whole.program.types.enums number)))
       ∙ ap (λ (sizes : CTy → ℕ). all_by to.objects to.functions to.bare_functions to.fields to.types sizes from.temporary from.has_bits)
-      (fun_ext (sizes_in names.known (known_thing whole unit own) (λ number. knows (Record number) refl)))
+      (fun_ext (sizes_in names.known (known_thing whole unit no_locals) (λ number. knows (Record number) refl)))
       ∙ ap (λ (temporary : ℕ → List ℕ). all_by to.objects to.functions to.bare_functions to.fields to.types to.size_of temporary from.has_bits)
       (fun_ext (λ number. ap (λ (found : Option KnownThing). name_or_none (option_map thing_name found)) (knows (Temporary number) refl)
       ∙ temporary_by unit number (local_among (a_temporary number) own.names) (slice_get own.temporaries number) (untyped number (cases_lt number (length own.temporaries)))))
