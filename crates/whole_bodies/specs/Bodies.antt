@@ -1,12 +1,11 @@
 -- The bodies of a crate's functions, and what its initialisers do (ISO C99, 6.7.8, 6.9.1).
-use Rattle.std.specs.Prelude.{ℕ, ◌==◌, ◌&&◌, ◌||◌, not, Bool, true, false, if◌then◌else◌, List, [], ◌∷◌, ◌++◌, length, map, flat_map, filter, Option, Some, None, is_some}
+use Rattle.std.specs.Prelude.{ℕ, ◌==◌, ◌||◌, not, Bool, true, false, if◌then◌else◌, List, [], ◌∷◌, flat_map, Option, Some, None}
 use Rattle.build_flow_nodes.specs.Flows.{flow_of}
-use Rattle.build_flow_nodes.specs.Parts.{BodyNames}
-use Rattle.cx_core.specs.Trees.{CTy, CPuts, CObject, CFun, CProgram}
+use Rattle.cx_core.specs.Trees.{CTy, CPuts, CObject, CFun}
 use Rattle.emit_rules.specs.Bodies.{emitted}
 use Rattle.flow.specs.Flows.{FlowTree}
 use Rattle.lift_exprs.specs.Lifted.{lifted_puts}
-use Rattle.lift_exprs.specs.Names.{Names, type_in}
+use Rattle.lift_exprs.specs.Names.{type_in}
 use Rattle.lift_exprs.specs.Objects.{object_at}
 use Rattle.lift_exprs.specs.Written.{copied}
 use Rattle.lift_forms.specs.Given.{address_of}
@@ -14,10 +13,10 @@ use Rattle.lift_forms.specs.Operators.{zero_of}
 use Rattle.lift_held.specs.Held.{is_record, is_void}
 use Rattle.reloop.specs.Shapes.{ShapeTree, has_dispatch}
 use Rattle.rs_mean.specs.Laws.{behind}
-use Rattle.rs_text.specs.Tree.{Ty, Place, Local, Expr, Read, Stmt, Return, Stmts, no_stmts, more_stmts, stmts, Assign, Eval, CopyBytes, If, Loop, Block, Break, Continue, Match}
+use Rattle.rs_text.specs.Tree.{Local, Expr, Read, Stmt, Return, Stmts, no_stmts, more_stmts, stmts}
 use Rattle.whole_bodies.specs.Names.{body_names, temporaries_of, own_names, object_type, result_type, module_names_in}
 use Rattle.whole_items.specs.Items.{WrittenBody, WrittenBodies}
-use Rattle.whole_names.specs.FunctionNames.{LocalName, a_passed}
+use Rattle.whole_names.specs.FunctionNames.{a_passed}
 use Rattle.whole_names.specs.Kept.{NamedProgram, local_among}
 use Rattle.whole_names.specs.ModuleNames.{name_or}
 

@@ -1,5 +1,5 @@
 -- The crate that is written for a program: a module for each unit (ISO C99, 5.1.1.1; the Rust Reference, "Crates and source files").
-use Rattle.std.specs.Prelude.{ℕ, zero, suc, ◌==◌, Bool, true, false, if◌then◌else◌, List, [], ◌∷◌, map, length, Option, Some, None}
+use Rattle.std.specs.Prelude.{ℕ, zero, suc, List, [], ◌∷◌, length, Option, Some, None}
 use Rattle.cx_core.specs.Linked.{main_of}
 use Rattle.cx_core.specs.Trees.{CFun, CProgram}
 use Rattle.rs_text.specs.Tree.{ModuleTree, CrateTree}

@@ -1,20 +1,20 @@
 -- What the names are with which the body of a function is written (ISO C99, 6.2.1, 6.9.1).
-use Rattle.std.specs.Prelude.{ℕ, zero, suc, ◌+◌, ◌==◌, Bool, true, false, if◌then◌else◌, List, [], ◌∷◌, ◌++◌, length, map, Option, Some, None, slice_get, option_map}
+use Rattle.std.specs.Prelude.{ℕ, suc, ◌+◌, ◌==◌, false, if◌then◌else◌, List, [], ◌∷◌, ◌++◌, length, map, Option, Some, None, slice_get, option_map}
 use Rattle.std.specs.Option.{option_flatten}
 use Rattle.build_flow_nodes.specs.Parts.{BodyNames, temporaries_in_stmt, zeroed_in}
 use Rattle.cx_core.specs.BitFields.{has_bit_fields}
 use Rattle.cx_core.specs.Layouts.{CRow, row_at, layouts_of}
-use Rattle.cx_core.specs.Trees.{CTy, ty, CTyForm, void, form_of_type, CRecord, CObject, CFun, COuter, CProgram}
-use Rattle.cx_core.specs.Typing.{object_with, outer_with}
+use Rattle.cx_core.specs.Trees.{CTy, ty, void, form_of_type, CRecord, CObject, CFun}
+use Rattle.cx_core.specs.Typing.{object_with}
 use Rattle.lift_exprs.specs.Names.{KeptFunction, Names, type_in}
 use Rattle.lift_forms.specs.Places.{Kept}
 use Rattle.rs_items.specs.Known.{KnownThing, MemberField}
 use Rattle.rs_items.specs.Records.{fields_walk, size_of}
 use Rattle.rs_items.specs.declared.known.Named.TheVariants.{Object, Function, BareFunction}
-use Rattle.rs_text.specs.Tree.{Ty, Code, no_tys, some_ty, no_ty, Place, Local, Static}
+use Rattle.rs_text.specs.Tree.{Ty, Place, Local, Static}
 use Rattle.whole_items.specs.Items.{result_of_form}
-use Rattle.whole_names.specs.FunctionNames.{LocalName, a_result, a_passed, a_local, a_temporary, local_names}
-use Rattle.whole_names.specs.Kept.{NamedProgram, LocalNames, known_thing, no_locals, local_among, module_of, name_in, record_unit, types_of}
+use Rattle.whole_names.specs.FunctionNames.{LocalName, a_result, a_temporary, local_names}
+use Rattle.whole_names.specs.Kept.{NamedProgram, LocalNames, known_thing, no_locals, local_among, record_unit, types_of}
 use Rattle.whole_names.specs.ModuleNames.{name_or}
 
 -- ---- things

@@ -1,14 +1,13 @@
 -- A function's temporaries are those that have types.
-use Rattle.std.proofs.Common.{arith, ◌≡◌, ◌≤◌, ◌+◌, ℕ, zero, suc, ◌==◌, ◌&&◌, Bool, true, false, if◌then◌else◌, List, [], ◌∷◌, ◌++◌, length, map, filter, Option, Some, None, is_some, is_none, codes, refl, ap, ◌∙◌}
+use Rattle.std.proofs.Common.{arith, ◌≡◌, ◌≤◌, ◌+◌, ℕ, zero, suc, ◌==◌, ◌&&◌, Bool, true, false, if◌then◌else◌, List, [], ◌∷◌, ◌++◌, length, map, filter, Some, None, is_some, is_none, codes, refl, ap, ◌∙◌}
 use Rattle.std.proofs.lemmas.Bool.Decides.{nat_tests}
 use Rattle.cx_core.specs.Trees.{form_of_type, CObject, CFun, CProgram}
 use Rattle.cx_core.specs.Typing.{object_with}
 use Rattle.rs_items_sets.specs.Names.{rust_name}
 use Rattle.rs_items_sets.specs.declared.scope.NameScope.TheVariants.{Function}
-use Rattle.rs_text.specs.Tree.{Ty}
 use Rattle.whole_lifted_names.specs.Laws.{TemporariesAreFew}
-use Rattle.whole_names.specs.FunctionNames.{LocalKey, a_passed, a_local, a_result, a_temporary, object_name, LocalName, WantedLocal, gives_record, is_local_of, local_names, locals_from, locals_that, object_is_record, wanted_in, wanted_locals, wanted_object, wanted_param, wanted_params, wanted_temporaries}
-use Rattle.whole_names.specs.Kept.{NamedProgram, local_among, same_local}
+use Rattle.whole_names.specs.FunctionNames.{LocalKey, a_passed, a_local, a_result, a_temporary, object_name, WantedLocal, gives_record, is_local_of, locals_from, object_is_record, wanted_in, wanted_locals, wanted_object, wanted_param, wanted_params, wanted_temporaries}
+use Rattle.whole_names.specs.Kept.{local_among, same_local}
 use Rattle.whole_names.specs.ModuleNames.{taken_names}
 
 -- a key isn't wanted

@@ -1,20 +1,19 @@
 -- What is kept, as the names with which expressions are written.
-use Rattle.std.proofs.Common.{arith, ◌≡◌, ◌<◌, ◌≤◌, ℕ, ◌⊎◌, inl, inr, get_or, Bool, true, false, List, [], length, Option, Some, None, option_map, slice_get, refl, sym, ap, ◌∙◌}
+use Rattle.std.proofs.Common.{◌≡◌, ◌<◌, ◌≤◌, ℕ, ◌⊎◌, inl, inr, get_or, Bool, true, false, List, [], length, Option, Some, None, option_map, slice_get, refl, sym, ap, ◌∙◌}
 use Rattle.std.proofs.Math.Path.{fun_ext}
 use Rattle.std.proofs.lemmas.Bool.{cases_lt}
 use Rattle.std.proofs.lemmas.Option.{slice_get-get_or}
 use Rattle.cx_core.specs.BitFields.{has_bit_fields}
-use Rattle.cx_core.specs.Trees.{CTy, ty, CTyForm, void, basic, enum_type, pointer, array, record_type, function}
+use Rattle.cx_core.specs.Trees.{CTy, ty, void, basic, enum_type, pointer, array, record_type, function}
 use Rattle.lift_exprs.specs.Names as lifted
 use Rattle.lift_exprs.specs.Names.{KeptFunction}
 use Rattle.lift_forms.specs.Places.{Kept}
 use Rattle.lift_stores.specs.Names as stores
 use Rattle.lift_stores.specs.Names.{lift_names, name_or_none, thing_name}
 use Rattle.rs_items.specs.Known.{KnownThing, Knows, MemberField, Names}
-use Rattle.rs_items.specs.Records.{elements_size, form_size, kept_size, size_of}
-use Rattle.rs_items.specs.Types.{TypeNames, enum_integer, record_path as path_of, type_names}
-use Rattle.rs_items.specs.declared.known.Named.{Named}
-use Rattle.rs_items.specs.declared.known.Named.TheVariants.{Object, Function, BareFunction, Record, Enum, Temporary, Result}
+use Rattle.rs_items.specs.Records.{elements_size, kept_size, size_of}
+use Rattle.rs_items.specs.Types.{TypeNames, enum_integer, record_path as path_of}
+use Rattle.rs_items.specs.declared.known.Named.TheVariants.{Object, Function, BareFunction, Record, Enum, Temporary}
 use Rattle.rs_text.specs.Tree.{Ty, Void, Place}
 use Rattle.rs_text.specs.declared.integer.IntegerTy.{IntegerTy}
 use Rattle.rs_tree.specs.declared.ty.RPath.{RPath}
