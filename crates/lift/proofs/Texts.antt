@@ -19,7 +19,7 @@ use Rattle.lift_exprs.specs.Written as written
 use Rattle.lift_exprs.specs.Written.{Written, Both, NodeKind}
 use Rattle.lift_forms.specs.Given.{Given, nothing}
 use Rattle.lift_forms.specs.Operators.{Operand, unary_form}
-use Rattle.lift_held.specs.Held.{is_record, is_void, is_held_form, acts, holds_call, some_holds_call, operand, operand_before, part_of, whole_of}
+use Rattle.lift_held.specs.Held.{is_record, is_void, is_held_form, acts, holds_call, some_holds_call, operand, operand_before, part_of, whole_of, value_for}
 use Rattle.lift_held.specs.declared.asked.Asked.{Asked}
 use Rattle.lift_nodes.specs.Texts as nodes
 use Rattle.lift_nodes.specs.Texts.{ChoiceText}
@@ -253,7 +253,7 @@ mutual
   put_behind : (names : Names) (filled : CTy) (number : ℕ) (one : CPut) (made : Text) →
       text.put_text names filled number one made ≡ text.behind made (text_of (lifted_put names filled (object_at names filled number) one made.next))
   put_behind names filled number (put spot type from) made =
-      ap (λ one. text.behind made (text.stored_text names filled number spot type one)) (lifted_is names operand from made.next)
+      ap (λ one. text.behind made (text.stored_text names filled number spot type one)) (lifted_is names (value_for spot) from made.next)
 
 -- values that are stored in an object, from a number of a temporary on
 pub puts_are : (names : Names) (filled : CTy) (number : ℕ) (puts : CPuts) (next : ℕ) →

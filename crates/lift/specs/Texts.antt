@@ -13,7 +13,7 @@ use Rattle.lift_stores.specs.Texts.{then_does}
 use Rattle.lift_exprs.specs.Written.{kind_in, held_by, held_gives, temporary_place, NodeKind}
 use Rattle.lift_forms.specs.Given.{Given, nothing, value, place}
 use Rattle.lift_forms.specs.Operators.{constant, null_of, unary_form}
-use Rattle.lift_held.specs.Held.{is_void, is_held_form, holds_call, some_holds_call, operand, operand_before, part_of, whole_of}
+use Rattle.lift_held.specs.Held.{is_void, is_held_form, holds_call, some_holds_call, operand, operand_before, part_of, whole_of, value_for}
 use Rattle.lift_held.specs.declared.asked.Asked.{Asked}
 use Rattle.lift_nodes.specs.Texts as nodes
 use Rattle.lift_nodes.specs.Texts.{ChoiceText}
@@ -163,7 +163,7 @@ abbrev mutual
 
   pub put_text : Names → (filled : CTy) → ℕ → CPut → Text → Text
   put_text names filled number (put spot type from) made =
-      behind made (stored_text names filled number spot type (lifted_text names operand from made.next))
+      behind made (stored_text names filled number spot type (lifted_text names (value_for spot) from made.next))
 
 -- a node by its form, before it is held
 abbrev pub node_text : Names → Asked → CExpr → ℕ → Text

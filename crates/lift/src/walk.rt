@@ -466,7 +466,8 @@ fn put_behind(
     ensures { IfOk result (λ made. text_view made ≡
         text.put_text (names_of names.now) (view_type filled.now) number (view_put one.now) (text_view before)) }
 {
-    let value = whole(alloc, one.value.get(), names, operand(), before.next)?;
+    let asked = operand_before(one.spot.width > 0);
+    let value = whole(alloc, one.value.get(), names, asked, before.next)?;
     let stored = put_node(alloc, names, filled, number, one.spot, &one.ty, value)?;
     told_behind(before.body, stored.body, stored.next)
 }

@@ -137,7 +137,8 @@ fn held_in_puts(puts: &[Put], numbered: &mut Numbered) -> Result<(), Memory>
     ensures next { OnOk result (numbered.new.next ≡ numbered.old.next + nodes_in_puts (puts_of (map view_put puts.now))) }
 {
     for one in puts {
-        held_from(operand_before(false), one.value.get(), numbered)?;
+        let asked = operand_before(one.spot.width > 0);
+        held_from(asked, one.value.get(), numbered)?;
     }
     Ok(())
 }

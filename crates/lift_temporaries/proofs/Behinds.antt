@@ -4,7 +4,7 @@ use Rattle.std.proofs.lemmas.List.{append-nil}
 use Rattle.cx_core.specs.Trees.{CTy, CExpr, expr, CForm, whole, null, object, code, load, deref, member, address, convert, unary, binary, and, or, cond, assign, assign_by, step, call, call_by, comma, literal, CExprs, no_exprs, more_exprs, CPut, put, CPuts, no_puts, more_puts}
 use Rattle.lift_exprs.specs.Names.{Names}
 use Rattle.lift_exprs.specs.Temporaries.{own_type, held_types, held_types_in, held_types_in_args, held_types_in_put, held_types_in_puts}
-use Rattle.lift_held.specs.Held.{is_void, holds_call, some_holds_call, operand, operand_before, part_of, whole_of, is_held_form}
+use Rattle.lift_held.specs.Held.{is_void, holds_call, some_holds_call, operand, operand_before, part_of, whole_of, is_held_form, value_for}
 use Rattle.lift_held.specs.declared.asked.Asked.{Asked}
 use Rattle.lift_temporaries.specs.Behind.{own_behind, types_behind, types_behind_form, types_behind_args, types_behind_put, types_behind_puts}
 use Rattle.rs_text.specs.Tree.{Ty}
@@ -58,4 +58,4 @@ mutual
       then_behind before _ _ (behind_put names first before) (behind_puts names others (types_behind_put names first before))
 
   behind_put : (names : Names) (one : CPut) (before : List Ty) → types_behind_put names one before ≡ before ++ held_types_in_put names one
-  behind_put names (put spot type value) before = behind names operand value before
+  behind_put names (put spot type value) before = behind names (value_for spot) value before

@@ -3,7 +3,7 @@ use Rattle.std.specs.Prelude.{Bool, true, false, not, List, [], ◌∷◌, ◌++
 use Rattle.cx_core.specs.Trees.{CTy, CExpr, expr, CForm, whole, null, object, code, load, deref, member, address, convert, unary, binary, and, or, cond, assign, assign_by, step, call, call_by, comma, literal, CExprs, no_exprs, more_exprs, CPut, put, CPuts, no_puts, more_puts}
 use Rattle.lift_exprs.specs.Names.{Names}
 use Rattle.lift_exprs.specs.Written.{kind_in, held_type}
-use Rattle.lift_held.specs.Held.{is_void, holds_call, some_holds_call, operand, operand_before, part_of, whole_of, is_held_form}
+use Rattle.lift_held.specs.Held.{is_void, holds_call, some_holds_call, operand, operand_before, part_of, whole_of, is_held_form, value_for}
 use Rattle.lift_held.specs.declared.asked.Asked.{Asked}
 use Rattle.lift_stores.specs.Names.{lift_names}
 use Rattle.rs_items.specs.Known.{view_names}
@@ -52,7 +52,7 @@ abbrev mutual
       types_behind_args names others (types_behind names (operand_before (some_holds_call others)) first before)
 
   pub types_behind_put : Names → CPut → List Ty → List Ty
-  types_behind_put names (put spot type value) before = types_behind names operand value before
+  types_behind_put names (put spot type value) before = types_behind names (value_for spot) value before
 
   pub types_behind_puts : Names → CPuts → List Ty → List Ty
   types_behind_puts names no_puts before = before

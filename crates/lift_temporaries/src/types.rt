@@ -160,7 +160,8 @@ fn puts_behind(
     ensures { OnOk result (map ty_view types.new ≡ types_behind_puts (names_of names.now) (puts_of (map view_put puts.now)) (map ty_view types.old)) }
 {
     for one in puts {
-        types_behind(alloc, one.value.get(), names, operand_before(false), types)?;
+        let asked = operand_before(one.spot.width > 0);
+        types_behind(alloc, one.value.get(), names, asked, types)?;
     }
     Ok(())
 }
