@@ -53,6 +53,8 @@ group records
 record_rows=$rows
 group flows
 flow_rows=$rows
+group programs
+program_rows=$rows
 built c2rs || exit 1
 
 # The exit status of a unit, as gcc builds it.
@@ -321,6 +323,21 @@ random_flows() {
   fi
 }
 
+# Whole programs and their crates: the runs of both come to the same, and so does the crate as rustc builds it, and the program as gcc does.
+program_crates() {
+  compared 'programs and their crates' program_crates.py --rows "$program_rows" gcc rustc
+}
+
+# Random bodies with jumps: the body's own graph says where a crate may ask by a number where it goes on.
+random_bodies() {
+  compared 'bodies with jumps' random_bodies.py --rows "$program_rows"
+}
+
+# Small programs of csmith.
+csmith_programs() {
+  compared 'programs of csmith' csmith_programs.py --rows "$program_rows" csmith gcc rustc
+}
+
 # Random records of C: a model of the ABI and gcc lay them out alike. The model's answers are rows of the gate.
 random_records() {
   local said
@@ -428,6 +445,9 @@ random_initialisers
 unit_mutants
 relooper_graphs
 random_flows
+program_crates
+random_bodies
+csmith_programs
 random_records
 record_items
 crate_names

@@ -112,6 +112,8 @@ both(21, "struct p { char c; int y; } g = { .y = 20 }; int main(void) { struct p
 both(104, "char s[] = \"hi\"; char *t = \"hi\"; int main(void) { return s[0] == t[0] && sizeof s == 3 ? *t : 1; }")
 both(10, "int a[2][3] = { { 1, 2 }, { 3 } }; int (*p)[3] = a; int *q = &a[1][0]; int main(void) { return p[0][1] + *q + a[0][0] + p[1][0] + (int)(q - a[0]) - 2; }")
 
+both(1, "struct t { unsigned a : 10; }; struct s { struct t t; }; struct t v = { 250 }; int main(void) { struct s x = { .t = v, .t.a = x.t.a + 300 }; return x.t.a == 550; }")
+
 comment("Calls: a local that is entered again behind a call, a missing value whose caller makes an event, other lists, one external function with two lists.")
 both(6, "int putchar(int); int f(int n) { int s = 0; { int x = n; if (n) s = f(n - 1); s += x; } return s; } int main(void) { return f(3); }")
 both(0, "int putchar(int); int f(void) { putchar(65); } int main(void) { f(); putchar(66); return 0; }", calls=put(65, 66))
