@@ -15,6 +15,9 @@ pub mod BitPlaces
 pub mod BitStores
 pub mod BitUpdates
 pub mod Branches
+pub mod CallEnds
+pub mod CalledFunctions
+pub mod CallRuns
 pub mod Choices
 pub mod Commas
 pub mod CompoundAssignments
@@ -33,6 +36,7 @@ pub mod Narrowed
 pub mod Nodes
 pub mod Numbers
 pub mod Operands
+pub mod OwnCalls
 pub mod Params
 pub mod Passed
 pub mod Places
