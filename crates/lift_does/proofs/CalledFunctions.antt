@@ -3,17 +3,20 @@ use Rattle.std.proofs.Common.{◌≡◌, ℕ, zero, suc, Bool, true, false, if�
 use Rattle.std.proofs.lemmas.Bool.{and_parts}
 use Rattle.std.proofs.lemmas.Bool.Decides.{nat_tests}
 use Rattle.std.specs.Bool.{beq}
-use Rattle.std.specs.Prelude.{slice_get}
+use Rattle.std.specs.Prelude.{slice_get, IsSome}
+use Rattle.cr_base.specs.declared.layout.Laid.{Laid}
 use Rattle.cr_base.specs.declared.scalar.Scalar.{Scalar}
 use Rattle.cx_core.specs.Compatible.{AreCompatible, forms_agree, lists_agree, agree, in_pairs}
 use Rattle.cx_core.specs.Conversions.{scalar_of_basic, basic_of_enum, scalar_of as c_scalar_of}
+use Rattle.cx_core.specs.Layouts.{CLayouts, extent, layouts_of}
 use Rattle.cx_core.specs.Linked.{IsLinked, IsTypedFunction}
 use Rattle.cx_core.specs.Statements.{AreParams, AreParamsOf}
 use Rattle.cx_core.specs.Trees.{CProgram, CTypes, CTy, ty, CTyForm, void, basic, enum_type, pointer, array, record_type, function, form_of_type, unqualified, CParams, unlisted, listed, CTys, no_types, more_types, CExprs, no_exprs, more_exprs, CFun}
-use Rattle.cx_core.specs.Typing.{CHome, AreArguments, AreArgumentsOf}
-use Rattle.cx_core.specs.ValidTypes.{IsTypeIn, IsFormIn, IsResultForm, AreTypes}
+use Rattle.cx_core.specs.Typing.{CHome, IsResult, AreArguments, AreArgumentsOf}
+use Rattle.cx_core.specs.ValidTypes.{IsComplete, IsTypeIn, IsFormIn, IsResultForm, AreTypes}
 use Rattle.cx_typed_runs.proofs.Scenes.{all_of}
 use Rattle.cx_typed_runs.specs.Sites.{IsRunning}
+use Rattle.cx_typed_work.proofs.AlikeRecords.{alike_laid}
 use Rattle.cx_typed_work.proofs.AlikeValues.{forms_meet, alike_kind}
 use Rattle.cx_mean.specs.Settings.{extent_in}
 use Rattle.lift_calls.specs.Calls.{result_laid}
@@ -23,7 +26,7 @@ use Rattle.lift_does.proofs.Around.{Around}
 use Rattle.lift_does.proofs.CallEnds.{IsPassed}
 use Rattle.lift_does.proofs.Params.{params_fit, records_alike}
 use Rattle.lift_does.specs.Agree.{FunctionMeans}
-use Rattle.lift_exprs.specs.Calls.{count_of, are_enough}
+use Rattle.lift_exprs.specs.Calls.{Argument, count_of, are_enough}
 use Rattle.lift_exprs.specs.Lifted.{lifted_args}
 use Rattle.lift_exprs.specs.Names.{Names, KeptFunction, type_in, params_of, result_of}
 use Rattle.lift_held.specs.Held.{is_void_form, is_void, is_record}
@@ -153,6 +156,11 @@ module _ (x : Around) where
   fits_enough args next params fit =
       ap (λ (n : ℕ). n == length (lifted_args x.names args next).list) (fits_count args params fit ∙ sym (list_count x.names args next)) ∙ same_count (length (lifted_args x.names args next).list)
 
+  -- and with one more in front of both
+  pub fits_one_more : (args : CExprs) (next : ℕ) (params : Tys) (param : Ty) (first : Argument) → ParamsFit x args params → are_enough (more_tys param params) (first ∷ (lifted_args x.names args next).list) ≡ true
+  fits_one_more args next params param first fit =
+      ap (λ (n : ℕ). suc n == suc (length (lifted_args x.names args next).list)) (fits_count args params fit ∙ sym (list_count x.names args next)) ∙ same_count (suc (length (lifted_args x.names args next).list))
+
   -- ---- parameters
 
   lists_fit : (visible own given result : CTy) (given_params params : CTys) (given_variadic variadic : Bool) (args : CExprs) → AreCompatible x.home.program.types visible own → form_of_type visible ≡ function given (listed given_params) given_variadic →
@@ -266,3 +274,28 @@ module _ (x : Around) where
 
     pub of_record : (type : CTy) → AreCompatible x.home.program.types type (unqualified result) → (test : Bool) → is_record type ≡ test → is_passed result ≡ test
     of_record type by test is = passed_record result ∙ sym (unqualified_record result) ∙ sym (record_same x.home.program.types type (unqualified result) by) ∙ is
+
+    result_complete : (given : CTy) → is_record given ≡ true → IsResult x.home.program.types given → IsComplete x.home.program.types given
+    result_complete (ty (record_type number) is_const) e is = is
+    result_complete (ty void is_const) e is = cc (e)
+    result_complete (ty (basic which) is_const) e is = cc (e)
+    result_complete (ty (enum_type number) is_const) e is = cc (e)
+    result_complete (ty (pointer to) is_const) e is = cc (e)
+    result_complete (ty (array element count) is_const) e is = cc (e)
+    result_complete (ty (function back params variadic) is_const) e is = cc (e)
+
+    some_found : {A : Type 0} (found : Option A) → IsSome found → (one : A) × (found ≡ Some one)
+    some_found (Some one) is = (one, refl)
+    some_found None is = cc (is)
+
+    unqualified_extent : (layouts : CLayouts) (given : CTy) → extent layouts (unqualified given) ≡ extent layouts given
+    unqualified_extent layouts (ty form is_const) = refl
+
+    pub result_laid_is : (type : CTy) (laid : Laid) → AreCompatible x.home.program.types type (unqualified result) → is_record type ≡ true → extent_in (setting_in x.s) type ≡ Some laid → IsResult x.home.program.types result → result_laid x.s one ≡ Some laid
+    result_laid_is type laid by of_it laid_is is =
+        let types = x.home.program.types in
+        let no_plain : is_record result ≡ true = sym (unqualified_record result) ∙ sym (record_same types type (unqualified result) by) ∙ of_it in
+        let found = some_found (extent (layouts_of types) result) (result_complete result no_plain is) in
+        let own_laid : extent (layouts_of types) type ≡ Some laid = subst (λ (program : CProgram). extent (layouts_of program.types) type ≡ Some laid) (sym x.means.program) laid_is in
+        let same : laid ≡ found.0 = alike_laid types type (unqualified result) laid found.0 linked.types by own_laid (unqualified_extent (layouts_of types) result ∙ found.1) in
+        laid_as ∙ laid_of result no_plain ∙ subst (λ (program : CProgram). extent (layouts_of program.types) result ≡ Some found.0) x.means.program found.1 ∙ ap Some (sym same)

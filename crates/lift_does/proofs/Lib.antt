@@ -17,6 +17,7 @@ pub mod BitUpdates
 pub mod Branches
 pub mod CallEnds
 pub mod CalledFunctions
+pub mod CallNodes
 pub mod CallRuns
 pub mod Choices
 pub mod Commas
@@ -32,6 +33,7 @@ pub mod Leaves
 pub mod Loads
 pub mod Lvalues
 pub mod Members
+pub mod NamedCalls
 pub mod Narrowed
 pub mod Nodes
 pub mod Numbers

@@ -158,7 +158,7 @@ module _ (x : Around) (type : CTy) (operands : List COperand) (last : Images) (c
       (call_taken (home_of x.home.program None one.unit) calling.called one gives_result runs_function.params runs_function.variadic linked.types typed calls.callee_is runs_function.type_is
       (definition_of x.home.program one gives_result linked runs_function))))
 
-  stands : (place : Option Ptr) (given rest : List Typed) → ResultHanded last (blocks_of w) (result_laid x.s one) place given rest → AreHanded last (blocks_of w) (values_of_args operands) rest →
+  pub stands : (place : Option Ptr) (given rest : List Typed) → ResultHanded last (blocks_of w) (result_laid x.s one) place given rest → AreHanded last (blocks_of w) (values_of_args operands) rest →
       CallStands x.s last place one means.tree (values_of_args operands) given c w
   stands place given rest result handed = record {
     written = record {
