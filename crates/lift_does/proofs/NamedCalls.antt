@@ -147,7 +147,7 @@ module _ (x : Around) (type : CTy) (at : Place) (number : ℕ) (args : CExprs) (
         let is : callee_of (Some one) (outer_with number x.s.program.externals) ≡ Ok found.0 =
         ap (λ (f : Option CFun). callee_of f (outer_with number x.s.program.externals)) (sym defined_is) ∙ found.1 in
         let same : defined one ≡ found.0 = cc (is) in
-        with_parts type at united.0 operands (defined one) calling united.1 (subst (λ (callee : CCallee). called_with type at united.0 operands callee ≡ Ok calling) (sym same) found.2)
+        with_parts type at united.0 operands (defined one) calling (subst (λ (callee : CCallee). called_with type at united.0 operands callee ≡ Ok calling) (sym same) found.2)
 
     abbrev kept : KeptFunction
     kept = (x.means.functions number one defined_is).0
