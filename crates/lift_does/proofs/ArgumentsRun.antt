@@ -137,12 +137,12 @@ module _ (x : Around) where
     pub types : tys (map (λ (one : Typed). one.ty) values) ≡ params
     pub accepted : accepts (map (λ (one : Typed). one.ty) values) false values ≡ true
 
-  record AllThere (first : COperand) (others all : List COperand) : Type 0 where
-    rest : List COperand
-    rest_is : all_given others ≡ Ok rest
-    there : is_missing first.value ≡ false
+  pub record AllThere (first : COperand) (others all : List COperand) : Type 0 where
+    pub rest : List COperand
+    pub rest_is : all_given others ≡ Ok rest
+    pub there : is_missing first.value ≡ false
 
-  all_there : (first : COperand) (others all : List COperand) → all_given (first ∷ others) ≡ Ok all → AllThere first others all
+  pub all_there : (first : COperand) (others all : List COperand) → all_given (first ∷ others) ≡ Ok all → AllThere first others all
   all_there first others all e =
       let parts = and_then_is (all_given others) _ all e in
       record { rest = parts.0; rest_is = parts.1; there = by (is_missing first.value) parts.0 parts.2 }
