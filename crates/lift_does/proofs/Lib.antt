@@ -42,6 +42,7 @@ pub mod OwnCalls
 pub mod Params
 pub mod Passed
 pub mod Places
+pub mod PointedCalls
 pub mod PointedTypes
 pub mod Quiet
 pub mod Reaching
