@@ -4,7 +4,7 @@ use Rattle.cr_base.specs.declared.layout.Spot.{Spot}
 use Rattle.cr_base.specs.declared.refusal.Place.{Place}
 use Rattle.cr_world.specs.World.{World}
 use Rattle.cx_core.specs.Trees.{CTy, ty, CTyForm, CExpr, expr, CForm, whole, null, object, code, load, deref, member, address, convert, unary, binary, and, or, cond, assign, assign_by, step, call, call_by, comma, literal, type_of, CFun, CExprs, no_exprs, more_exprs}
-use Rattle.cx_core.specs.Typing.{CHome, IsTyped, AreTyped, IsLvalue, function_with, is_bit_field, width_of}
+use Rattle.cx_core.specs.Typing.{CHome, IsTyped, AreTyped, IsCallBy, IsLvalue, function_with, is_bit_field, width_of}
 use Rattle.cx_core.specs.Conversions.{promoted}
 use Rattle.cx_core.specs.Trees.{CProgram, CTypes, CMember, void, basic, enum_type, pointer, array, record_type, function, form_of_type, CTy, ty, CTyForm, CExpr, expr, CForm, whole, null, object, code, load, deref, member, address, convert, unary, binary, and, or, cond, assign, assign_by, step, call, call_by, comma, literal, type_of}
 use Rattle.cx_core.specs.ValidTypes.{member_of}
@@ -26,9 +26,10 @@ use Rattle.lift_does.proofs.BitNodes.{bits_kind_is, bits_node, bits_node_as}
 use Rattle.lift_does.proofs.BitPlaces.{member_bits_owes}
 use Rattle.lift_does.proofs.Arguments.{EachOwes}
 use Rattle.lift_does.proofs.CallNodes.{held_call, named_owes, defined_serves}
+use Rattle.lift_does.proofs.PointedNodes.{pointed_owes}
 use Rattle.lift_does.proofs.Choices.{choice_owes, part_is_taken}
 use Rattle.lift_does.proofs.Records.{void_record}
-use Rattle.lift_exprs.specs.Calls.{Called, Arguments, called_by_name, called_for_record, called_for_value, called_alone, called_with}
+use Rattle.lift_exprs.specs.Calls.{Called, Arguments, called_by_name, called_by_pointer, called_for_record, called_for_value, called_alone, called_with}
 use Rattle.std.specs.Prelude.{IsSome}
 use Rattle.lift_does.proofs.Commas.{comma_owes}
 use Rattle.lift_does.proofs.Conversions.{convert_owes}
@@ -50,7 +51,7 @@ use Rattle.lift_does.proofs.Used.{scalar_has, unary_has, convert_has, left_has, 
 use Rattle.lift_does.specs.Agree.{AreKeptFrom}
 use Rattle.lift_does.specs.Covered.{IsCovered, IsCoveredForm, AreCovered, CoveredDoes}
 use Rattle.lift_does.specs.Does.{IsAsked, is_fixed}
-use Rattle.lift_exprs.specs.Lifted.{lifted, lifted_args, lifted_form, operand_of, Deciding, where_true, where_false, decided_written, Choice, chosen_written}
+use Rattle.lift_exprs.specs.Lifted.{lifted, lifted_args, lifted_form, operand_of, joined_to, Deciding, where_true, where_false, decided_written, Choice, chosen_written}
 use Rattle.lift_exprs.specs.Names.{Names, type_in}
 use Rattle.lift_exprs.specs.Stores.{Target, a_scalar, a_structure, a_field, is_field, target_of, held_store, plain_store, old_value, stored, stored_value, Change, changed, changed_first, stepped, step_by_one, promoted_type, target_type}
 use Rattle.lift_exprs.specs.Written.{Written, Both, both, in_turn, place_of_given, address_of_given, NodeKind, a_value, a_record, lvalue_kind, value_kind, kind_in, held_type, then_held, held_where}
@@ -240,6 +241,24 @@ base_lasts asked home type at (call callee args) base is e = absurd is.2
 base_lasts asked home type at (call_by callee args) base is e = absurd is.2
 base_lasts asked home type at (comma first second) base is e = absurd is.2
 
+-- a pointer to a function has a value
+pointer_has : (types : CTypes) (type : CTy) (args : CExprs) (own : CTy) → IsCallBy types type args own → is_void own ≡ false
+pointer_has types type args (ty (pointer to) is_const) is = refl
+pointer_has types type args (ty void is_const) is = absurd is
+pointer_has types type args (ty (basic which) is_const) is = refl
+pointer_has types type args (ty (enum_type number) is_const) is = refl
+pointer_has types type args (ty (array element count) is_const) is = refl
+pointer_has types type args (ty (record_type number) is_const) is = refl
+pointer_has types type args (ty (function back params variadic) is_const) is = refl
+
+-- what a call gives that is held is no `void`
+call_has : (asked : Asked) (type : CTy) (at : Place) (form : CForm) → IsAsked asked (expr type at form) → (is_record type || asked.used) ≡ true → is_void type ≡ false
+call_has asked type at form asked_is = by (is_record type) refl
+  where
+    by : (of_it : Bool) → is_record type ≡ of_it → (of_it || asked.used) ≡ true → is_void type ≡ false
+    by true of_it some = void_record type of_it
+    by false of_it some = asked_is.used some
+
 -- an lvalue is no call
 covered_form : (home : CHome) (program : CProgram) (type : CTy) (at : Place) (form : CForm) → IsLvalue home (expr type at form) → IsCovered program (expr type at form) → IsCoveredForm program form
 covered_form home program type at (call callee args) typed is = absurd typed.2
@@ -261,7 +280,7 @@ covered_form home program type at (assign target value) typed is = is
 covered_form home program type at (assign_by op computes target value) typed is = is
 covered_form home program type at (step up post on) typed is = is
 covered_form home program type at (comma first second) typed is = is
-covered_form home program type at (call_by callee args) typed is = is
+covered_form home program type at (call_by callee args) typed is = absurd typed.2
 covered_form home program type at (literal number puts) typed is = is
 
 module _ (x : Around) where
@@ -531,15 +550,11 @@ module _ (x : Around) where
       ExprOwes x asked (expr type at (call callee args)) from images c w
   named_any asked type at callee args from images c w here typed asked_is is owes kept_it = by (function_with callee x.s.program.functions) refl is
     where
-      has : (of_it : Bool) → is_record type ≡ of_it → (of_it || asked.used) ≡ true → is_void type ≡ false
-      has true of_it some = void_record type of_it
-      has false of_it some = asked_is.used some
-
       by : (found : Option CFun) → function_with callee x.s.program.functions ≡ found → IsSome found → ExprOwes x asked (expr type at (call callee args)) from images c w
       by None e none = cc (none)
       by (Some one) e some =
           named_owes x asked type at callee args from images c w here typed owes (defined_serves x asked type at callee args from images c w here typed owes one e) asked_is
-          (rises (lifted_args x.names args from).written from (args_numbered x.names args from)) (λ held. kept_it held (has (is_record type) refl held))
+          (rises (lifted_args x.names args from).written from (args_numbered x.names args from)) (λ held. kept_it held (call_has asked type at (call callee args) asked_is held))
 
   mutual
     base_does : (asked : Asked) (e : CExpr) (from : ℕ) → IsAsked asked e → AreKeptFrom x.names x.kept from (lifted x.names asked e from).temporaries → IsLvalue x.home e → IsCovered x.s.program e → asked.is_base ≡ true → (images : Images) (c w : World) → At x images c w →
@@ -576,7 +591,20 @@ module _ (x : Around) where
         let kept_all = call_kept asked type at callee args from are in
         named_any asked type at callee args from images c w here typed asked_is is.0 (args_do args from kept_all.0 typed.1.0 is.1) kept_all.1
     expr_does asked (expr type at (call callee args)) from asked_is are (inr typed) is = absurd typed.2
-    expr_does asked (expr type at (call_by callee args)) from asked_is are typed is = absurd is
+    expr_does asked (expr type at (call_by callee args)) from asked_is are (inl typed) is = λ images c w here.
+        let before = operand_before (some_holds_call args) in
+        let pointer = lifted x.names before callee from in
+        let others = lifted_args x.names args pointer.next in
+        let two : Both = record { first = pointer; second = others.written } in
+        let first_count = numbered x.names before callee from in
+        let second_count = args_numbered x.names args pointer.next in
+        let kept_all =
+        calls_kept x.names x.kept asked type (called_by_pointer (operand_of x.names callee pointer.given)) (joined_to pointer others) from (turn_numbered two given_form.nothing from first_count second_count) are in
+        pointed_owes x asked type at callee args from images c w here typed (rises pointer from first_count) (rises others.written pointer.next second_count)
+        (expr_does before callee from (used_part before callee refl (pointer_has x.home.program.types type args (type_of callee) typed.1.2)) (kept_front x.names x.kept from pointer.temporaries others.written.temporaries kept_all.0) (inl typed.1.0) is.0 images c w here)
+        (args_do args pointer.next (second_kept x.names x.kept two given_form.nothing from first_count kept_all.0) typed.1.1 is.1) asked_is
+        (λ held. kept_all.1 held (call_has asked type at (call_by callee args) asked_is held))
+    expr_does asked (expr type at (call_by callee args)) from asked_is are (inr typed) is = absurd typed.2
     expr_does asked (expr type at (literal number puts)) from asked_is are typed is = absurd is
 
     -- arguments, from the left

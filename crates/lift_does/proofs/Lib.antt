@@ -43,6 +43,8 @@ pub mod Params
 pub mod Passed
 pub mod Places
 pub mod PointedCalls
+pub mod PointedNodes
+pub mod PointedServes
 pub mod PointedTypes
 pub mod Quiet
 pub mod Reaching

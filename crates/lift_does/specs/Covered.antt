@@ -1,6 +1,6 @@
--- The part of the law that is proved: the expressions without compound literals, calls by a pointer and calls of functions that no unit defines.
+-- The part of the law that is proved: the expressions without compound literals and calls of functions that no unit defines.
 use Rattle.std.specs.Prelude.{◌≡◌, ◌⊎◌, ℕ, false, IsSome}
-use Rattle.cx_core.specs.Trees.{CProgram, CExpr, expr, CForm, whole, null, object, code, load, deref, member, address, convert, unary, binary, and, or, cond, assign, assign_by, step, call, comma, CExprs, no_exprs, more_exprs, type_of}
+use Rattle.cx_core.specs.Trees.{CProgram, CExpr, expr, CForm, whole, null, object, code, load, deref, member, address, convert, unary, binary, and, or, cond, assign, assign_by, step, call, call_by, comma, CExprs, no_exprs, more_exprs, type_of}
 use Rattle.cx_core.specs.Typing.{CHome, IsTyped, IsLvalue, function_with}
 use Rattle.cx_typed_leftmost.specs.Laws.{CallsAreTyped}
 use Rattle.lift_calls.specs.Calls.{Promise}
@@ -19,6 +19,7 @@ abbrev mutual
   pub IsCovered : CProgram → CExpr → Type 0
   -- a call of a function that a unit defines
   IsCovered program (expr type at (call callee args)) = IsSome (function_with callee program.functions) × AreCovered program args
+  IsCovered program (expr type at (call_by callee args)) = IsCovered program callee × AreCovered program args
   IsCovered program (expr type at form) = IsCoveredForm program form
 
   -- what isn't a call
