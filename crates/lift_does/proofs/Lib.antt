@@ -38,6 +38,7 @@ pub mod Narrowed
 pub mod Nodes
 pub mod Numbers
 pub mod Operands
+pub mod OuterArguments
 pub mod OwnCalls
 pub mod Params
 pub mod Passed
