@@ -39,6 +39,8 @@ pub mod Nodes
 pub mod Numbers
 pub mod Operands
 pub mod OuterArguments
+pub mod OuterCalls
+pub mod OuterTypes
 pub mod OwnCalls
 pub mod Params
 pub mod Passed
