@@ -40,6 +40,9 @@ pub mod Numbers
 pub mod Operands
 pub mod OuterArguments
 pub mod OuterCalls
+pub mod OuterEffects
+pub mod OuterOpaque
+pub mod OuterServes
 pub mod OuterTypes
 pub mod OwnCalls
 pub mod Params
