@@ -41,6 +41,7 @@ pub mod Operands
 pub mod OuterArguments
 pub mod OuterCalls
 pub mod OuterEffects
+pub mod OuterNodes
 pub mod OuterOpaque
 pub mod OuterServes
 pub mod OuterTypes

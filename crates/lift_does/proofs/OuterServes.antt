@@ -50,7 +50,7 @@ use Rattle.rs_mean.specs.declared.cause.Cause.{Cause}
 use Rattle.rs_mean.specs.declared.cause.Cause.TheVariants.{WrongCall}
 use Rattle.rs_text.specs.Tree.{Ty, OuterTree}
 
-kinds_by : (x : Around) (args : CExprs) (operands : List COperand) (passed : List Typed) → AreOperandsOf x.home args operands → HaveScalars x args passed → HaveKinds (setting_in x.s) operands passed
+pub kinds_by : (x : Around) (args : CExprs) (operands : List COperand) (passed : List Typed) → AreOperandsOf x.home args operands → HaveScalars x args passed → HaveKinds (setting_in x.s) operands passed
 kinds_by x no_exprs [] passed are have = tt
 kinds_by x no_exprs (one ∷ rest) passed are have = absurd are
 kinds_by x (more_exprs first others) [] passed are have = absurd are
@@ -136,7 +136,7 @@ module _ (x : Around) (type : CTy) (images : Images) (c w : World) (here : At x 
   values_step n m row no_bytes frees_void (Ok list) e leaves =
       known_step x type images c w here calling one callee_is type_is typed_call tree.result passes plain n m no_bytes row.does frees_void list (map value_in passed) (values_below images (blocks_of w) calling.called.args list passed e handed) calling.called.place leaves
 
-  table_step : (n m : ℕ) (found : Option KnownFunction) → known_named one.name ≡ found → (IsSome found → images.in_bytes ≡ false) → ((row : KnownFunction) → found ≡ Some row → row.does ≡ frees → tree.result ≡ None) → LeavesSo (call_by_table (setting_in x.s) calling.called one c found) →
+  pub table_step : (n m : ℕ) (found : Option KnownFunction) → known_named one.name ≡ found → (IsSome found → images.in_bytes ≡ false) → ((row : KnownFunction) → found ≡ Some row → row.does ≡ frees → tree.result ≡ None) → LeavesSo (call_by_table (setting_in x.s) calling.called one c found) →
       StepTo n m (call_by_table (setting_in x.s) calling.called one c found) (λ left. outer_by found tree passed w left)
   table_step n m None e no_bytes frees_void leaves = opaque_step n m leaves
   table_step n m (Some row) e no_bytes frees_void leaves =

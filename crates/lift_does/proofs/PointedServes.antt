@@ -126,7 +126,7 @@ passed_retyped own (some_ty other) to e is =
     record { from = other; own_is = refl; kind = is.kind; from_kind = sym (same_scalar is.from other one_alike) ∙ is.from_kind; kind_is = is.kind_is }
 
 module _ (x : Around) where
-  void_type : (type : CTy) → is_void type ≡ true → rust_type x.names.types type ≡ Void
+  pub void_type : (type : CTy) → is_void type ≡ true → rust_type x.names.types type ≡ Void
   void_type (ty void is_const) e = refl
   void_type (ty (basic which) is_const) e = cc (e)
   void_type (ty (enum_type number) is_const) e = cc (e)
@@ -135,7 +135,7 @@ module _ (x : Around) where
   void_type (ty (record_type number) is_const) e = cc (e)
   void_type (ty (function back params variadic) is_const) e = cc (e)
 
-  void_back : (first second : CTy) (test : Bool) → AreCompatible x.home.program.types first second → is_void first ≡ true → is_void second ≡ test → test ≡ true
+  pub void_back : (first second : CTy) (test : Bool) → AreCompatible x.home.program.types first second → is_void first ≡ true → is_void second ≡ test → test ≡ true
   void_back first second true by is e = refl
   void_back first second false by is e = let clash : true ≡ false = sym is ∙ some_same x.home.program.types second first (alike_back x.home.program.types first second by) e in cc (clash)
 
@@ -152,7 +152,7 @@ module _ (x : Around) where
   scalar_result type kind plain is =
       ap (λ (b : Bool). result_type b (rust_type x.names.types type)) (passed_record type ∙ plain) ∙ ap (λ (v : Bool). if v then no_ty else some_ty (rust_type x.names.types type)) (void_none (rust_type x.names.types type) kind is)
 
-  kind_in : (type : CTy) (kind : Scalar) → c_scalar_of x.home.program.types (form_of_type type) ≡ Some kind → scalar_of (rust_type x.names.types type) ≡ Some kind
+  pub kind_in : (type : CTy) (kind : Scalar) → c_scalar_of x.home.program.types (form_of_type type) ≡ Some kind → scalar_of (rust_type x.names.types type) ≡ Some kind
   kind_in type kind e = x.means.scalars type kind (subst (λ (program : CProgram). c_scalar_of program.types (form_of_type type) ≡ Some kind) x.means.program e)
 
   types_are_alike : (visible back : CTy) (kind : Scalar) (by : AreCompatible x.home.program.types visible back) → c_scalar_of x.home.program.types (form_of_type visible) ≡ Some kind → c_scalar_of x.home.program.types (form_of_type back) ≡ Some kind →
