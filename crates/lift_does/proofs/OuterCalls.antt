@@ -1,19 +1,19 @@
 -- A call of a function that no unit defines: what it does in the crate is what it does in C (ISO C99, 6.5.2.2, 7.20.3, 7.20.4 and 7.21; the Rust Reference, "External blocks").
-use Rattle.std.proofs.Common.{◌≡◌, ◌⊎◌, inl, inr, ℕ, pred, ℤ, Bool, true, false, ◌||◌, List, [], ◌∷◌, ◌++◌, length, map, Option, Some, None, Result, Ok, Err, refl, sym, ap, subst, ◌∙◌, arith}
+use Rattle.std.proofs.Common.{◌≡◌, inl, inr, ℕ, ℤ, Bool, true, false, List, [], ◌∷◌, length, map, Option, Some, None, Result, Ok, Err, refl, sym, ap, subst, ◌∙◌, arith}
 use Rattle.cr_base.specs.declared.refusal.Place.{Place}
 use Rattle.cr_base.specs.declared.scalar.Scalar.{Scalar}
 use Rattle.cr_runs.proofs.Rules.{values, no_meaning, renamed}
 use Rattle.cr_runs.specs.Owes.{Owes}
-use Rattle.cr_runs.specs.Runs.{Ran, came, halted, bad, bind, tick}
-use Rattle.cr_runs_rules.proofs.Rules.{ticks_by, halted_owe}
+use Rattle.cr_runs.specs.Runs.{Ran, came, halted, bind}
+use Rattle.cr_runs_rules.proofs.Rules.{halted_owe}
 use Rattle.cr_world.specs.Held.{Held}
-use Rattle.cr_world.specs.Known.{KnownFunction, known_named, Known, frees, Effect, gives, gives_nothing, ends_program, wants_block, fails as effect_fails, effect}
+use Rattle.cr_world.specs.Known.{Known, frees, Effect, gives, gives_nothing, ends_program, wants_block, fails as effect_fails, effect}
 use Rattle.cr_world.specs.World.{World, Stop, Got, blocks_of, events_of, with_held, granted}
 use Rattle.cx_core.specs.Conversions.{scalar_of as c_scalar_of}
 use Rattle.cx_core.specs.Trees.{CProgram, CTy, COuter, form_of_type}
-use Rattle.cx_mean.specs.Calls.{CCallee, external, CCalled, CCalling, COutcome, returns_value, ends_with, wrong_at, values_of, by_effect, with_block, known_call as c_known_call, opaque_call as c_opaque_call, call_by_table, external_call}
-use Rattle.cx_mean.specs.Leftmost.{CRan, c_returned}
-use Rattle.cx_mean.specs.Operands.{CWhy, CFault, CStop, stops, CValue, scalar, cells, names, designates, designates_bits, missing, COperand, scalar_value}
+use Rattle.cx_mean.specs.Calls.{external, CCalling, COutcome, returns_value, ends_with, values_of, by_effect, with_block, external_call}
+use Rattle.cx_mean.specs.Leftmost.{c_returned}
+use Rattle.cx_mean.specs.Operands.{CWhy, CFault, CStop, CValue, scalar, missing, COperand, scalar_value}
 use Rattle.cx_mean.specs.Settings.{setting_of}
 use Rattle.cx_mean.specs.State.{values_of_args}
 use Rattle.cx_typed_leftmost.proofs.Worlds.{typed_kept}
@@ -21,7 +21,6 @@ use Rattle.cx_typed_runs.proofs.CallsOutside.{LeavesHeld, outside_held}
 use Rattle.cx_typed_work.proofs.ExternalCalls.{external_calls_give_typed}
 use Rattle.cx_typed_work.specs.Calls.{IsTypedCall, IsReturned}
 use Rattle.cx_typed_work.specs.ExternalCalls.{CallLeaves}
-use Rattle.cx_typed_work.specs.Operands.{IsScalarIn}
 use Rattle.lift_calls.specs.Calls.{is_place, type_in as type_of_given, IsOfItsType, GivesBack, IsHanded, AreHanded}
 use Rattle.lift_calls.specs.Programs.{setting_in}
 use Rattle.lift_does.proofs.Around.{Around, scope, At}
@@ -34,7 +33,6 @@ use Rattle.lift_does.proofs.Runs.{same_events}
 use Rattle.lift_does.proofs.Used.{scalar_has}
 use Rattle.lift_exprs.specs.Names.{type_in}
 use Rattle.std.specs.Prelude.{IsSome}
-use Rattle.lift_forms_laws.proofs.Runs.{pure_is, looks_is}
 use Rattle.lift_held.specs.Held.{is_void, is_record}
 use Rattle.lift_stands.specs.Keeps.{KeepsOthers}
 use Rattle.lift_stands.specs.Stands.{Images, ValueBelow}
@@ -48,12 +46,12 @@ use Rattle.lift_stands_values.specs.Given.{align_in}
 use Rattle.mem_bytes.specs.Coding.{IsValueOf}
 use Rattle.mem_bytes.specs.Memory.{Blocks}
 use Rattle.mem_bytes.specs.declared.value.Value.{Value}
-use Rattle.rs_mean.specs.Calls.{value_in, given, takes_effect, kept_as, known_call, held_now, outer_by, opaque_call}
+use Rattle.rs_mean.specs.Calls.{value_in, given, takes_effect, kept_as}
 use Rattle.rs_mean.specs.Scalars.{scalar_of}
 use Rattle.rs_mean.specs.Values.{Typed, typed}
-use Rattle.rs_mean.specs.World.{Run, pure, seq, local, grants, ends, after_got}
+use Rattle.rs_mean.specs.World.{pure, seq, local, grants, ends, after_got}
 use Rattle.rs_mean.specs.declared.cause.Cause.{Cause}
-use Rattle.rs_text.specs.Tree.{Ty, OuterTree}
+use Rattle.rs_text.specs.Tree.{Ty}
 
 -- ---- values
 

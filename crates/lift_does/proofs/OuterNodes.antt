@@ -1,5 +1,5 @@
 -- Calls of external functions, as nodes of an expression (ISO C99, 6.5.2.2 and 7.1.4; the Rust Reference, "External blocks").
-use Rattle.std.proofs.Common.{◌≡◌, ◌⊎◌, inl, inr, ℕ, pred, zero, Bool, true, false, not, if◌then◌else◌, ◌&&◌, ◌==◌, List, [], ◌∷◌, length, map, Option, Some, None, option_map, Result, Ok, Err, refl, sym, ap, subst, ◌∙◌}
+use Rattle.std.proofs.Common.{◌≡◌, ◌⊎◌, inl, inr, ℕ, pred, Bool, true, false, not, if◌then◌else◌, ◌&&◌, ◌==◌, List, ◌∷◌, Option, Some, None, option_map, Ok, refl, sym, ap, subst, ◌∙◌}
 use Rattle.std.specs.List.{Contains}
 use Rattle.std.specs.Prelude.{IsSome, IfSome, bytes_eq, codes}
 use Rattle.cr_base.specs.declared.refusal.Place.{Place}
@@ -12,9 +12,9 @@ use Rattle.cr_world.specs.Known.{KnownFunction, known_table, known_named, frees}
 use Rattle.cr_world.specs.World.{World, Stop, blocks_of, events_of}
 use Rattle.cx_core.specs.Compatible.{AreCompatible}
 use Rattle.cx_core.specs.Conversions.{scalar_of as c_scalar_of}
-use Rattle.cx_core.specs.Externals.{CKnown, known_as, HasSignature, IsOpaque, IsExternalType}
+use Rattle.cx_core.specs.Externals.{CKnown, HasSignature, IsOpaque, IsExternalType}
 use Rattle.cx_core.specs.Linked.{IsLinked, IsTypedOuter}
-use Rattle.cx_core.specs.Trees.{CProgram, CTypes, CTy, ty, CTyForm, void, basic, enum_type, pointer, array, record_type, function, form_of_type, unqualified, CExpr, expr, call, CExprs, no_exprs, more_exprs, CFun, COuter}
+use Rattle.cx_core.specs.Trees.{CProgram, CTypes, CTy, CTyForm, void, basic, enum_type, pointer, array, record_type, function, form_of_type, unqualified, expr, call, CExprs, no_exprs, more_exprs, CFun, COuter}
 use Rattle.cx_core.specs.Typing.{function_with, outer_with, IsTyped, IsCalleeOf, CCallee as CoreCallee}
 use Rattle.cx_mean.specs.Calls.{CCallee, external, CCalling, callee_of, callee_numbered, called_with, node_calling, type_of_callee, external_call}
 use Rattle.cx_mean.specs.Leftmost.{CRan, c_callee, c_returned}
@@ -32,10 +32,10 @@ use Rattle.lift_calls.specs.Programs.{setting_in, c_calls}
 use Rattle.lift_does.proofs.Arguments.{EachOwes, ArgsGiven}
 use Rattle.lift_does.proofs.Around.{Around, At}
 use Rattle.lift_does.proofs.CallEnds.{IsPassed, Came, Served}
-use Rattle.lift_does.proofs.CallNodes.{Serving, Serves}
+use Rattle.lift_does.proofs.CallNodes.{Serves}
 use Rattle.lift_does.proofs.CallRuns.{dropped_runs, stored_runs}
-use Rattle.lift_does.proofs.CalledFunctions.{pointer_is, code_parts, option_same, void_none, record_same, unqualified_record, unqualified_form, passed_record, some_same}
-use Rattle.lift_does.proofs.NamedCalls.{call_typed, operands_are, Visible, IsListed, listed_by}
+use Rattle.lift_does.proofs.CalledFunctions.{pointer_is, option_same, void_none, record_same, unqualified_record, unqualified_form, passed_record, some_same}
+use Rattle.lift_does.proofs.NamedCalls.{call_typed, operands_are, Visible, listed_by}
 use Rattle.lift_does.proofs.Nodes.{and_then_is}
 use Rattle.lift_does.proofs.OuterArguments.{FrontFits, OuterRan, outer_run}
 use Rattle.lift_does.proofs.OuterServes.{kinds_by, table_step}
@@ -53,15 +53,14 @@ use Rattle.lift_held.specs.Held.{is_void_form, is_void, is_record}
 use Rattle.lift_held.specs.declared.asked.Asked.{Asked}
 use Rattle.lift_stands.specs.Stands.{Images}
 use Rattle.rs_items.specs.Types.{is_record as is_passed, rust_type, rust_params, code_type, result_type}
-use Rattle.rs_mean.specs.Calls.{accepts, outer_by, outer_call}
-use Rattle.rs_mean.specs.Lookups.{outer, callee_at, symbol_of}
+use Rattle.rs_mean.specs.Calls.{outer_by}
+use Rattle.rs_mean.specs.Lookups.{outer, callee_at}
 use Rattle.rs_mean.specs.Run.{run_callee, call_found, run_exprs}
-use Rattle.rs_mean.specs.Scalars.{scalar_of}
 use Rattle.rs_mean.specs.Values.{Typed}
 use Rattle.rs_mean.specs.World.{takes_unit, either, fails}
 use Rattle.rs_mean.specs.declared.cause.Cause.{Cause}
 use Rattle.rs_mean.specs.declared.cause.Cause.TheVariants.{WrongCall}
-use Rattle.rs_text.specs.Tree.{Ty, Void, Tys, no_tys, more_tys, tys, OptionTy, no_ty, some_ty, option_ty, Code, Expr, exprs, OuterTree, ModuleTree}
+use Rattle.rs_text.specs.Tree.{Ty, Tys, no_tys, more_tys, tys, OptionTy, no_ty, some_ty, option_ty, Code, Expr, exprs, OuterTree, ModuleTree}
 
 -- ---- `free`, and what is no `malloc`
 

@@ -1,5 +1,5 @@
 -- What has to be known of the names of lifting where a function is called that no unit defines (ISO C99, 6.5.2.2 and 7.1.4; the Rust Reference, "External blocks").
-use Rattle.std.specs.Prelude.{◌≡◌, ◌⊎◌, ℕ, Bool, true, false, Option, Some, None}
+use Rattle.std.specs.Prelude.{◌≡◌, ◌⊎◌, ℕ, Bool, true, false, Some, None}
 use Rattle.cr_world.specs.Known.{known_named}
 use Rattle.cx_core.specs.Trees.{CTyForm, function, ty, pointer, form_of_type, CExprs, no_exprs, more_exprs, COuter}
 use Rattle.cx_core.specs.Typing.{function_with, outer_with}
