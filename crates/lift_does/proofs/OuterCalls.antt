@@ -7,7 +7,7 @@ use Rattle.cr_runs.specs.Owes.{Owes}
 use Rattle.cr_runs.specs.Runs.{Ran, came, halted, bind}
 use Rattle.cr_runs_rules.proofs.Rules.{halted_owe}
 use Rattle.cr_world.specs.Held.{Held}
-use Rattle.cr_world.specs.Known.{Known, frees, Effect, gives, gives_nothing, ends_program, wants_block, fails as effect_fails, effect}
+use Rattle.cr_world.specs.Known.{Known, allocates, frees, Effect, gives, gives_nothing, ends_program, wants_block, fails as effect_fails, effect}
 use Rattle.cr_world.specs.World.{World, Stop, Got, blocks_of, events_of, with_held, granted}
 use Rattle.cx_core.specs.Conversions.{scalar_of as c_scalar_of}
 use Rattle.cx_core.specs.Trees.{CProgram, CTy, COuter, form_of_type}
@@ -174,14 +174,19 @@ module _ (x : Around) (type : CTy) (images : Images) (c w : World) (here : At x 
   unfolding seq pure grants
   grants_comes is_zero size got left e = ap (λ (found : Result (Got Value) (Stop Cause)). bind (after_got left w found) (λ value. pure (given result value))) e
 
-  module _ (n m : ℕ) (no_bytes : images.in_bytes ≡ false) (does : Known) (frees_void : does ≡ frees → result ≡ None) (list given_list : List Value) (below : ValuesBelow images list given_list) (place : Place) where
+  module _ (n m : ℕ) (does : Known) (no_bytes : does ≡ allocates false → images.in_bytes ≡ false) (frees_void : does ≡ frees → result ≡ None) (list given_list : List Value) (below : ValuesBelow images list given_list) (place : Place) where
     abbrev pub effect_target : ℕ → Ran (Stop Cause) World (Option Typed)
     effect_target left = takes_effect result (effect does given_list w.held) w left
 
-    granted_step : (is_zero : Bool) (size : ℕ) (found : Result (Got Value) CStop) → granted is_zero size c ≡ found → Leaves (with_block found) → effect does given_list w.held ≡ wants_block is_zero size → Step n m (with_block found) effect_target
-    granted_step is_zero size (Err stop) e leaves is = bad_step n m stop effect_target
-    granted_step is_zero size (Ok got) e leaves is =
-        let below_it = granted_below CFault Cause images c w is_zero is_zero size got here.worlds (record { zero = λ z. z; bytes = λ b. let clash : true ≡ false = sym b ∙ no_bytes in cc (clash) }) e in
+    -- where the crate holds bytes alone, the block is zero
+    zero_there : (is_zero : Bool) → does ≡ allocates is_zero → images.in_bytes ≡ true → is_zero ≡ true
+    zero_there true is b = refl
+    zero_there false is b = let clash : true ≡ false = sym b ∙ no_bytes is in cc (clash)
+
+    granted_step : (is_zero : Bool) (size : ℕ) (found : Result (Got Value) CStop) → does ≡ allocates is_zero → granted is_zero size c ≡ found → Leaves (with_block found) → effect does given_list w.held ≡ wants_block is_zero size → Step n m (with_block found) effect_target
+    granted_step is_zero size (Err stop) does_is e leaves is = bad_step n m stop effect_target
+    granted_step is_zero size (Ok got) does_is e leaves is =
+        let below_it = granted_below CFault Cause images c w is_zero is_zero size got here.worlds (record { zero = λ z. z; bytes = λ b. zero_there is_zero does_is b }) e in
         scalar_step n m got.value below_it.given.value got.world below_it.later below_it.given.world effect_target leaves below_it.below (below_it.keeps (length (blocks_of w)) (is_place None) (omega arith)) below_it.stands
         (λ left. ap (λ (one : Effect). takes_effect result one w left) is ∙ grants_comes is_zero size below_it.given left below_it.is)
 
@@ -195,7 +200,7 @@ module _ (x : Around) (type : CTy) (images : Images) (c w : World) (here : At x 
         (λ left. ap (λ (one : Effect). takes_effect result one w left) stands.is ∙ kept_comes stands.beyond None left)
     by_effect_step (ends_program status) shape stands leaves =
         end_step n m status c effect_target leaves.held (λ left. ap (λ (one : Effect). takes_effect result one w left) stands ∙ ends_comes status left)
-    by_effect_step (wants_block is_zero size) shape stands leaves = granted_step is_zero size (granted is_zero size c) refl leaves stands
+    by_effect_step (wants_block is_zero size) shape stands leaves = granted_step is_zero size (granted is_zero size c) shape refl leaves stands
     by_effect_step (effect_fails fault) shape stands leaves = bad_step n m _ effect_target
 
     pub known_step : Leaves (by_effect place c (effect does list c.held)) → Step n m (by_effect place c (effect does list c.held)) effect_target

@@ -8,7 +8,7 @@ use Rattle.cr_runs.proofs.Rules.{renamed}
 use Rattle.cr_runs.specs.Owes.{Owes}
 use Rattle.cr_runs.specs.Runs.{Ran, came, tick}
 use Rattle.cr_runs_rules.proofs.Rules.{ticks_by}
-use Rattle.cr_world.specs.Known.{KnownFunction, known_table, known_named, frees}
+use Rattle.cr_world.specs.Known.{KnownFunction, known_table, known_named, allocates, frees}
 use Rattle.cr_world.specs.World.{World, Stop, blocks_of, events_of}
 use Rattle.cx_core.specs.Compatible.{AreCompatible}
 use Rattle.cx_core.specs.Conversions.{scalar_of as c_scalar_of}
@@ -38,6 +38,7 @@ use Rattle.lift_does.proofs.CalledFunctions.{pointer_is, option_same, void_none,
 use Rattle.lift_does.proofs.NamedCalls.{call_typed, operands_are, Visible, listed_by}
 use Rattle.lift_does.proofs.Nodes.{and_then_is}
 use Rattle.lift_does.proofs.OuterArguments.{FrontFits, OuterRan, outer_run}
+use Rattle.lift_does.proofs.OuterEffects.{unset_malloc}
 use Rattle.lift_does.proofs.OuterServes.{kinds_by, table_step}
 use Rattle.lift_does.proofs.OuterCalls.{all_leave}
 use Rattle.lift_does.proofs.OuterOpaque.{HaveKinds}
@@ -80,22 +81,6 @@ free_form program name row type operands (pointer to) e does served called = abs
 free_form program name row type operands (array element count) e does served called = absurd called
 free_form program name row type operands (record_type number) e does served called = absurd called
 
-first_missed : {A : Type 0} (test : Bool) (one : A) (rest : Option A) → (if test then Some one else rest) ≡ None → test ≡ false
-first_missed true one rest e = cc (e)
-first_missed false one rest e = refl
-
-no_malloc : (name : List ℕ) → known_named name ≡ None → bytes_eq name (codes "malloc") ≡ false
-unfolding known_table
-no_malloc name e = first_missed (bytes_eq name (codes "malloc")) _ _ e
-
-as_it_is : (names_of : Names) (name : List ℕ) → (names_of.has_bits ≡ false) ⊎ (known_named name ≡ None) → is_malloc names_of name ≡ false
-as_it_is names_of name (inl none) = rw (none) refl
-as_it_is names_of name (inr none) = by names_of.has_bits
-  where
-    by : (bits : Bool) → (bits && bytes_eq name (codes "malloc")) ≡ false
-    by true = no_malloc name none
-    by false = refl
-
 -- it isn't called without the parameters that its item lists
 not_bare : (kept : KeptFunction) (variadic : Bool) (args : CExprs) (names_of : Names) (next : ℕ) → TakesAll (params_of kept.ty) variadic args → is_bare kept (lifted_args names_of args next).list ≡ false
 not_bare kept variadic no_exprs names_of next takes = by (params_of kept.ty) takes
@@ -108,9 +93,6 @@ not_bare kept variadic (more_exprs first others) names_of next takes = refl
 same_item : (kept : KeptFunction) (bare : Option KeptFunction) (list : List Argument) → is_bare kept list ≡ false → outer_called kept bare list ≡ kept
 same_item kept None list is = refl
 same_item kept (Some other) list is = ap (λ (b : Bool). if b then other else kept) is
-
-none_there : {A : Type 0} → IsSome {T = KnownFunction} None → A
-none_there is = cc (is)
 
 -- ---- the type that is visible
 
@@ -247,7 +229,7 @@ module _ (x : Around) (type : CTy) (at : Place) (number : ℕ) (args : CExprs) (
       ap (λ (f : Option KeptFunction). called_by_symbol x.names number (function_or f) (function_or f).symbol list) item.kept_is
       ∙ ap (λ (s : Option (List ℕ)). called_by_symbol x.names number kept s list) item.means.symbol_is
       ∙ ap (λ (k : KeptFunction). call_of k (outer_arguments x.names item.one.name list)) (same_item kept (x.names.bare_functions number) list (not_bare kept tree.variadic args x.names next item.takes))
-      ∙ ap (λ (b : Bool). call_of kept (if b then one_item ∷ list else list)) (as_it_is x.names item.one.name item.as_it_is)
+      ∙ ap (λ (b : Bool). call_of kept (if b then one_item ∷ list else list)) item.as_it_is
 
   result_is : (called_by_name x.names number).result ≡ option_ty tree.result
   result_is = ap (λ (f : Option KeptFunction). result_of (function_or f).ty) item.kept_is ∙ ap result_of item.means.ty_is
@@ -264,12 +246,12 @@ module _ (x : Around) (type : CTy) (at : Place) (number : ℕ) (args : CExprs) (
       ap (λ (name : List ℕ). tick w (λ left. outer_by (known_named name) tree ran.values w left) k) (sym item.means.named)
       ∙ ap (λ (b : Bool). either b (takes_unit (run_callee x.frame.bodies ran.values (outer tree))) (fails WrongCall) w k) (sym ran.accepted)
 
-  no_bytes : (known_named item.one.name ≡ known_named item.one.name) → IsSome (known_named item.one.name) → last.in_bytes ≡ false
-  no_bytes same some = by item.as_it_is some
+  no_bytes : (row : KnownFunction) → known_named item.one.name ≡ Some row → row.does ≡ allocates false → last.in_bytes ≡ false
+  no_bytes row e does = here.program.bytes ∙ (sym x.means.bits ∙ no_bits x.names.has_bits (bytes_eq item.one.name (codes "malloc")) (unset_malloc item.one.name row e does) item.as_it_is)
     where
-      by : (x.names.has_bits ≡ false) ⊎ (known_named item.one.name ≡ None) → IsSome (known_named item.one.name) → last.in_bytes ≡ false
-      by (inl none) is = here.program.bytes ∙ sym x.means.bits ∙ none
-      by (inr none) is = none_there (subst (λ (found : Option KnownFunction). IsSome found) none is)
+      no_bits : (bits test : Bool) → test ≡ true → (bits && test) ≡ false → bits ≡ false
+      no_bits false test is none = refl
+      no_bits true test is none = let clash : true ≡ false = sym is ∙ none in cc (clash)
 
   frees_void : (row : KnownFunction) → known_named item.one.name ≡ Some row → row.does ≡ frees → tree.result ≡ None
   frees_void row e does =
@@ -286,7 +268,7 @@ module _ (x : Around) (type : CTy) (at : Place) (number : ℕ) (args : CExprs) (
       (ticks_by events_of events_of (Came x None tree.result type last c w) x.units x.steps c w (λ left. c_returned type calling.marks c left (external_call (setting_in x.s) calling.called item.one c)) (λ left. outer_by (known_named item.one.name) tree ran.values w left)
       (same_events last c w here.worlds)
       (table_step x type last c w here calling item.one calls.callee_is calls.type_is typed_call tree passes plain nothing kind_there ran.values operands_now kinds item.means.named (pred x.units) (pred x.steps) (known_named item.one.name) refl
-      (no_bytes refl) frees_void (all_leave x type last c w here calling item.one calls.callee_is calls.type_is typed_call tree.result passes plain)))
+      no_bytes frees_void (all_leave x type last c w here calling item.one calls.callee_is calls.type_is typed_call tree.result passes plain)))
 
   pub outer_serves : Served x None type (called_by_name x.names number).result ((called_by_name x.names number).call list) source last c w
   outer_serves =

@@ -7,7 +7,7 @@ use Rattle.cr_base.specs.declared.scalar.Scalar.TheVariants as scalars
 use Rattle.ext_calls.specs.declared.call.Arg.{Arg}
 use Rattle.cr_runs.proofs.Rules.{renamed}
 use Rattle.cr_runs.specs.Runs.{Ran, came}
-use Rattle.cr_world.specs.Known.{KnownFunction, known_named, frees, effect}
+use Rattle.cr_world.specs.Known.{KnownFunction, known_named, allocates, frees, effect}
 use Rattle.cr_world.specs.World.{World, Stop, Got, blocks_of, events_of, answered}
 use Rattle.cx_core.specs.Conversions.{scalar_of as c_scalar_of}
 use Rattle.cx_core.specs.Trees.{CProgram, CTy, COuter, CExprs, no_exprs, more_exprs, form_of_type}
@@ -120,17 +120,17 @@ module _ (x : Around) (type : CTy) (images : Images) (c w : World) (here : At x 
   known_runs : (row : KnownFunction) (left : ℕ) → known_call row tree.result passed w left ≡ takes_effect tree.result (effect row.does (map value_in passed) w.held) w left
   known_runs row left = seq_is held_now (λ held. takes_effect tree.result (effect row.does (map value_in passed) held)) w left w.held (looks_is (λ held. Ok held) w left w.held refl)
 
-  values_step : (n m : ℕ) (row : KnownFunction) (no_bytes : images.in_bytes ≡ false) (frees_void : row.does ≡ frees → tree.result ≡ None) (outcome : Result (List Value) CWhy) → values_of calling.called.args ≡ outcome →
+  values_step : (n m : ℕ) (row : KnownFunction) (no_bytes : row.does ≡ allocates false → images.in_bytes ≡ false) (frees_void : row.does ≡ frees → tree.result ≡ None) (outcome : Result (List Value) CWhy) → values_of calling.called.args ≡ outcome →
       LeavesSo (and_then (wrong_at calling.called.place outcome) (λ list. by_effect calling.called.place c (effect row.does list c.held))) →
       StepTo n m (and_then (wrong_at calling.called.place outcome) (λ list. by_effect calling.called.place c (effect row.does list c.held))) (λ left. takes_effect tree.result (effect row.does (map value_in passed) w.held) w left)
   values_step n m row no_bytes frees_void (Err why) e leaves = bad_step x type images c w here calling one callee_is type_is typed_call tree.result passes plain n m (stops why calling.called.place) _
   values_step n m row no_bytes frees_void (Ok list) e leaves =
-      known_step x type images c w here calling one callee_is type_is typed_call tree.result passes plain n m no_bytes row.does frees_void list (map value_in passed) (values_below images (blocks_of w) calling.called.args list passed e handed) calling.called.place leaves
+      known_step x type images c w here calling one callee_is type_is typed_call tree.result passes plain n m row.does no_bytes frees_void list (map value_in passed) (values_below images (blocks_of w) calling.called.args list passed e handed) calling.called.place leaves
 
-  pub table_step : (n m : ℕ) (found : Option KnownFunction) → known_named one.name ≡ found → (IsSome found → images.in_bytes ≡ false) → ((row : KnownFunction) → found ≡ Some row → row.does ≡ frees → tree.result ≡ None) → LeavesSo (call_by_table (setting_in x.s) calling.called one c found) →
+  pub table_step : (n m : ℕ) (found : Option KnownFunction) → known_named one.name ≡ found → ((row : KnownFunction) → found ≡ Some row → row.does ≡ allocates false → images.in_bytes ≡ false) → ((row : KnownFunction) → found ≡ Some row → row.does ≡ frees → tree.result ≡ None) → LeavesSo (call_by_table (setting_in x.s) calling.called one c found) →
       StepTo n m (call_by_table (setting_in x.s) calling.called one c found) (λ left. outer_by found tree passed w left)
   table_step n m None e no_bytes frees_void leaves = opaque_step n m leaves
   table_step n m (Some row) e no_bytes frees_void leaves =
       renamed events_of events_of _ n m (λ left. c_returned type calling.marks c left (c_known_call calling.called row.does c)) (λ left. c_returned type calling.marks c left (c_known_call calling.called row.does c))
       (λ left. takes_effect tree.result (effect row.does (map value_in passed) w.held) w left) (λ left. outer_by (Some row) tree passed w left) (λ k. refl) (λ k. sym (known_runs row k))
-      (values_step n m row (no_bytes refl) (frees_void row refl) (values_of calling.called.args) refl leaves)
+      (values_step n m row (no_bytes row refl) (frees_void row refl) (values_of calling.called.args) refl leaves)

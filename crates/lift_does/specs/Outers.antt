@@ -5,6 +5,7 @@ use Rattle.cx_core.specs.Trees.{CTyForm, function, ty, pointer, form_of_type, CE
 use Rattle.cx_core.specs.Typing.{function_with, outer_with}
 use Rattle.lift_calls.specs.Programs.{Setting}
 use Rattle.lift_does.specs.Agree.{OuterMeans}
+use Rattle.lift_exprs.specs.Calls.{is_malloc}
 use Rattle.lift_exprs.specs.Names.{Names, KeptFunction, type_in, params_of}
 use Rattle.rs_text.specs.Tree.{Tys, no_tys, more_tys}
 
@@ -31,4 +32,4 @@ pub record OuterItem (s : Setting) (names : Names) (number : ℕ) (args : CExprs
   pub variadic_is : means.tree.variadic ≡ is_variadic (form_of_type one.type)
   pub takes : TakesAll (params_of kept.ty) means.tree.variadic args
   -- in a program with a bit-field member `malloc` is called as `calloc`, by an item of its own
-  pub as_it_is : (names.has_bits ≡ false) ⊎ (known_named one.name ≡ None)
+  pub as_it_is : is_malloc names one.name ≡ false
