@@ -1,14 +1,14 @@
 -- Calls of external functions, as nodes of an expression (ISO C99, 6.5.2.2 and 7.1.4; the Rust Reference, "External blocks").
-use Rattle.std.proofs.Common.{◌≡◌, ◌⊎◌, inl, inr, ℕ, pred, Bool, true, false, not, if◌then◌else◌, ◌&&◌, ◌==◌, List, ◌∷◌, Option, Some, None, option_map, Ok, refl, sym, ap, subst, ◌∙◌}
+use Rattle.std.proofs.Common.{◌≡◌, ℕ, pred, Bool, true, false, not, if◌then◌else◌, ◌&&◌, ◌==◌, List, ◌∷◌, Option, Some, None, option_map, Ok, refl, sym, ap, subst, ◌∙◌, ⊎_elim}
 use Rattle.std.specs.List.{Contains}
-use Rattle.std.specs.Prelude.{IsSome, IfSome, bytes_eq, codes}
+use Rattle.std.specs.Prelude.{IfSome, bytes_eq, codes}
 use Rattle.cr_base.specs.declared.refusal.Place.{Place}
 use Rattle.cr_base.specs.declared.scalar.Scalar.{Scalar}
 use Rattle.cr_runs.proofs.Rules.{renamed}
 use Rattle.cr_runs.specs.Owes.{Owes}
 use Rattle.cr_runs.specs.Runs.{Ran, came, tick}
 use Rattle.cr_runs_rules.proofs.Rules.{ticks_by}
-use Rattle.cr_world.specs.Known.{KnownFunction, known_table, known_named, allocates, frees}
+use Rattle.cr_world.specs.Known.{KnownFunction, known_named, allocates, frees}
 use Rattle.cr_world.specs.World.{World, Stop, blocks_of, events_of}
 use Rattle.cx_core.specs.Compatible.{AreCompatible}
 use Rattle.cx_core.specs.Conversions.{scalar_of as c_scalar_of}
@@ -46,14 +46,14 @@ use Rattle.lift_does.proofs.OuterTypes.{OuterForm, outer_form, outer_fits}
 use Rattle.lift_does.proofs.OwnCalls.{CallsAs, with_parts}
 use Rattle.lift_does.proofs.PointedServes.{void_back, void_type, kind_in}
 use Rattle.lift_does.proofs.Runs.{same_events}
-use Rattle.lift_does.specs.Outers.{is_variadic, TakesAll, OuterItem}
-use Rattle.lift_exprs.specs.Calls.{Argument, count_of, call_of, called_by_name, called_by_symbol, is_bare, outer_called, is_malloc, outer_arguments, one_item, as_params}
+use Rattle.lift_does.specs.Outers.{is_variadic, TakesAll, AsListed, AsBare, OuterItem}
+use Rattle.lift_exprs.specs.Calls.{Argument, count_of, call_of, called_by_name, called_by_symbol, is_bare, outer_called, outer_arguments, one_item, as_params}
 use Rattle.lift_exprs.specs.Lifted.{lifted_args}
 use Rattle.lift_exprs.specs.Names.{Names, KeptFunction, function_or, type_in, params_of, result_of}
 use Rattle.lift_held.specs.Held.{is_void_form, is_void, is_record}
 use Rattle.lift_held.specs.declared.asked.Asked.{Asked}
 use Rattle.lift_stands.specs.Stands.{Images}
-use Rattle.rs_items.specs.Types.{is_record as is_passed, rust_type, rust_params, code_type, result_type}
+use Rattle.rs_items.specs.Types.{rust_type, rust_params, code_type, result_type}
 use Rattle.rs_mean.specs.Calls.{outer_by}
 use Rattle.rs_mean.specs.Lookups.{outer, callee_at}
 use Rattle.rs_mean.specs.Run.{run_callee, call_found, run_exprs}
@@ -61,7 +61,7 @@ use Rattle.rs_mean.specs.Values.{Typed}
 use Rattle.rs_mean.specs.World.{takes_unit, either, fails}
 use Rattle.rs_mean.specs.declared.cause.Cause.{Cause}
 use Rattle.rs_mean.specs.declared.cause.Cause.TheVariants.{WrongCall}
-use Rattle.rs_text.specs.Tree.{Ty, Tys, no_tys, more_tys, tys, OptionTy, no_ty, some_ty, option_ty, Code, Expr, exprs, OuterTree, ModuleTree}
+use Rattle.rs_text.specs.Tree.{Ty, Tys, no_tys, more_tys, tys, no_ty, some_ty, option_ty, Code, Expr, exprs, OuterTree, ModuleTree}
 
 -- ---- `free`, and what is no `malloc`
 
@@ -114,7 +114,7 @@ module _ (x : Around) (type : CTy) (at : Place) (number : ℕ) (args : CExprs) (
   one = item.one
 
   abbrev kept : KeptFunction
-  kept = item.kept
+  kept = item.called
 
   abbrev tree : OuterTree
   tree = item.means.tree
@@ -161,20 +161,12 @@ module _ (x : Around) (type : CTy) (at : Place) (number : ℕ) (args : CExprs) (
   kind_there : is_void type ≡ false → (kind : Scalar) × (scalar_in_type (setting_in x.s) type ≡ Some kind)
   kind_there some = ((form.gives.kind (back_some some)).0, subst (λ (program : CProgram). c_scalar_of program.types (form_of_type type) ≡ Some (form.gives.kind (back_some some)).0) x.means.program (c_kind some))
 
-  item_is : Code (tys tree.params) (option_ty tree.result) ≡ code_type (is_passed form.back) Back (rust_params x.names.types form.params)
-  item_is = sym item.means.ty_is ∙ item.ty_is ∙ pointer_is x item.one.type form.back form.params form.variadic form.form_is
-
-  plain_is : code_type (is_passed form.back) Back (rust_params x.names.types form.params) ≡ Code (rust_params x.names.types form.params) (result_type false Back)
-  plain_is = ap (λ (b : Bool). code_type b Back (rust_params x.names.types form.params)) (passed_record form.back ∙ form.gives.plain)
-
-  parts : (params others : Tys) (back other : OptionTy) → Code params back ≡ Code others other → (params ≡ others) × (back ≡ other)
-  parts params others back other e = (cc (e), cc (e))
-
-  item_params : tys tree.params ≡ rust_params x.names.types form.params
-  item_params = (parts _ _ _ _ (item_is ∙ plain_is)).0
+  kept_is : item.kept.ty ≡ Code (rust_params x.names.types form.params) (result_type false Back)
+  kept_is =
+      item.ty_is ∙ pointer_is x item.one.type form.back form.params form.variadic form.form_is ∙ ap (λ (b : Bool). code_type b Back (rust_params x.names.types form.params)) (passed_record form.back ∙ form.gives.plain)
 
   item_result : option_ty tree.result ≡ result_type false Back
-  item_result = (parts _ _ _ _ (item_is ∙ plain_is)).1
+  item_result = sym (ap result_of item.means.ty_is) ∙ item.result_is ∙ ap result_of kept_is
 
   passes : is_void type ≡ false → is_record type ≡ false → IsPassed tree.result (type_in x.names type)
   passes some no_record =
@@ -205,16 +197,34 @@ module _ (x : Around) (type : CTy) (at : Place) (number : ℕ) (args : CExprs) (
   kept_params : params_of kept.ty ≡ tys tree.params
   kept_params = ap params_of item.means.ty_is
 
+  -- the item's parameters, where they are those of the function
+  listed_params : AsListed x.s item.kept item.called tree item.one args → tys tree.params ≡ rust_params x.names.types form.params
+  listed_params way = sym kept_params ∙ ap (λ (k : KeptFunction). params_of k.ty) way.same ∙ ap params_of kept_is
+
+  listed_takes : AsListed x.s item.kept item.called tree item.one args → TakesAll (tys tree.params) tree.variadic args
+  listed_takes way = subst (λ (params : Tys). TakesAll params tree.variadic args) (ap (λ (k : KeptFunction). params_of k.ty) (sym way.same) ∙ kept_params) way.takes
+
+  bare_params : AsBare x.names number item.kept item.called args → tys tree.params ≡ no_tys
+  bare_params way = sym kept_params ∙ way.no_params
+
   takes_all : TakesAll (tys tree.params) tree.variadic args
-  takes_all = subst (λ (params : Tys). TakesAll params tree.variadic args) kept_params item.takes
+  takes_all =
+      ⊎_elim (λ (way : AsListed x.s item.kept item.called tree item.one args). listed_takes way)
+      (λ (way : AsBare x.names number item.kept item.called args). subst (λ (params : Tys). TakesAll params tree.variadic args) (sym (bare_params way)) (subst (TakesAll no_tys tree.variadic) (sym way.none) tt)) item.way
+
+  listed_front : AsListed x.s item.kept item.called tree item.one args → FrontFits x args (tys tree.params)
+  listed_front way =
+      let listed = listed_by x type args visible.visible (form_of_type visible.visible) refl visible.call in
+      let variadic : tree.variadic ≡ form.variadic = way.variadic_is ∙ ap is_variadic form.form_is in
+      let params = listed_params way in
+      subst (FrontFits x args) (sym params)
+      (outer_fits x visible.visible item.one.type listed.back form.back listed.params form.params listed.variadic form.variadic args visible.compatible listed.form_is form.form_is listed.typed
+      (subst (λ (v : Bool). TakesAll (rust_params x.names.types form.params) v args) variadic (subst (λ (all : Tys). TakesAll all tree.variadic args) params (listed_takes way))))
 
   front : FrontFits x args (tys tree.params)
   front =
-      let listed = listed_by x type args visible.visible (form_of_type visible.visible) refl visible.call in
-      let variadic : tree.variadic ≡ form.variadic = item.variadic_is ∙ ap is_variadic form.form_is in
-      subst (FrontFits x args) (sym item_params)
-      (outer_fits x visible.visible item.one.type listed.back form.back listed.params form.params listed.variadic form.variadic args visible.compatible listed.form_is form.form_is listed.typed
-      (subst (λ (v : Bool). TakesAll (rust_params x.names.types form.params) v args) variadic (subst (λ (params : Tys). TakesAll params tree.variadic args) item_params takes_all)))
+      ⊎_elim (λ (way : AsListed x.s item.kept item.called tree item.one args). listed_front way)
+      (λ (way : AsBare x.names number item.kept item.called args). subst (FrontFits x args) (sym (bare_params way)) tt) item.way
 
   abbrev list : List Argument
   list = (lifted_args x.names args next).list
@@ -224,15 +234,23 @@ module _ (x : Around) (type : CTy) (at : Place) (number : ℕ) (args : CExprs) (
 
   -- ---- what is written
 
+  called_item : outer_called item.kept (x.names.bare_functions number) list ≡ item.called
+  called_item =
+      ⊎_elim
+      (λ (way : AsListed x.s item.kept item.called tree item.one args). same_item item.kept (x.names.bare_functions number) list (not_bare item.kept tree.variadic args x.names next way.takes) ∙ sym way.same)
+      (λ (way : AsBare x.names number item.kept item.called args).
+      ap (λ (bare : Option KeptFunction). outer_called item.kept bare list) way.bare_is
+      ∙ (ap (λ (all : CExprs). outer_called item.kept (Some item.called) (lifted_args x.names all next).list) way.none ∙ ap (λ (b : Bool). if not b then item.called else item.kept) way.lists)) item.way
+
   call_is : (called_by_name x.names number).call list ≡ call_of kept list
   call_is =
       ap (λ (f : Option KeptFunction). called_by_symbol x.names number (function_or f) (function_or f).symbol list) item.kept_is
-      ∙ ap (λ (s : Option (List ℕ)). called_by_symbol x.names number kept s list) item.means.symbol_is
-      ∙ ap (λ (k : KeptFunction). call_of k (outer_arguments x.names item.one.name list)) (same_item kept (x.names.bare_functions number) list (not_bare kept tree.variadic args x.names next item.takes))
+      ∙ ap (λ (s : Option (List ℕ)). called_by_symbol x.names number item.kept s list) item.symbol_is
+      ∙ ap (λ (k : KeptFunction). call_of k (outer_arguments x.names item.one.name list)) called_item
       ∙ ap (λ (b : Bool). call_of kept (if b then one_item ∷ list else list)) item.as_it_is
 
   result_is : (called_by_name x.names number).result ≡ option_ty tree.result
-  result_is = ap (λ (f : Option KeptFunction). result_of (function_or f).ty) item.kept_is ∙ ap result_of item.means.ty_is
+  result_is = ap (λ (f : Option KeptFunction). result_of (function_or f).ty) item.kept_is ∙ (sym item.result_is ∙ ap result_of item.means.ty_is)
 
   abbrev source : ℕ → CRan COperand
   source = tick c (λ left. c_callee (setting_in x.s) (c_calls x.s) type calling calling.called.callee c left)

@@ -1,6 +1,5 @@
 -- A call of an external function is written for what C does (ISO C99, 6.5.2.2; the Rust Reference, "Call expressions" and "External blocks").
 use Rattle.std.proofs.Common.{◌≡◌, ℕ, ℤ, length, Bool, true, false, List, [], ◌∷◌, map, Option, Some, None, Result, Ok, Err, refl, sym, ap, subst, ◌∙◌}
-use Rattle.std.specs.Prelude.{IsSome}
 use Rattle.cr_base.specs.Scalar.{converted}
 use Rattle.cr_base.specs.declared.scalar.Scalar.{Scalar}
 use Rattle.cr_base.specs.declared.scalar.Scalar.TheVariants as scalars
