@@ -15,6 +15,10 @@ pub mod BitPlaces
 pub mod BitStores
 pub mod BitUpdates
 pub mod Branches
+pub mod CallEnds
+pub mod CalledFunctions
+pub mod CallNodes
+pub mod CallRuns
 pub mod Choices
 pub mod Commas
 pub mod CompoundAssignments
@@ -29,13 +33,26 @@ pub mod Leaves
 pub mod Loads
 pub mod Lvalues
 pub mod Members
+pub mod NamedCalls
 pub mod Narrowed
 pub mod Nodes
 pub mod Numbers
 pub mod Operands
+pub mod OuterArguments
+pub mod OuterCalls
+pub mod OuterEffects
+pub mod OuterNodes
+pub mod OuterOpaque
+pub mod OuterServes
+pub mod OuterTypes
+pub mod OwnCalls
 pub mod Params
 pub mod Passed
 pub mod Places
+pub mod PointedCalls
+pub mod PointedNodes
+pub mod PointedServes
+pub mod PointedTypes
 pub mod Quiet
 pub mod Reaching
 pub mod RecordAssignments
@@ -50,5 +67,6 @@ pub mod Temporaries
 pub mod Types
 pub mod Unary
 pub mod ValueMembers
+mod WorkedCalls
 pub mod Updates
 pub mod Used
