@@ -1,0 +1,5 @@
+pub mod Keys
+pub mod Lists
+pub mod Modules
+pub mod Named
+pub mod Things
