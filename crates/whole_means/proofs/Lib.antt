@@ -1,3 +1,5 @@
+pub mod Callees
+pub mod Items
 pub mod Keys
 pub mod Lists
 pub mod Modules
