@@ -40,7 +40,7 @@ one_outer whole symbol name (pointer to) t u there also = absurd there
 one_outer whole symbol name (array element size) t u there also = absurd there
 one_outer whole symbol name (record_type number) t u there also = absurd there
 
-function_number_same : (n m : ℕ) → a_function n ≡ a_function m → n ≡ m
+pub function_number_same : (n m : ℕ) → a_function n ≡ a_function m → n ≡ m
 function_number_same n m same = number_same n m (ap (λ k. same_key (a_function n) k) (sym same) ∙ key_self (a_function n))
 
 bare_number_same : (n m : ℕ) → a_bare_function n ≡ a_bare_function m → n ≡ m
@@ -141,10 +141,10 @@ module _ (whole : NamedProgram) (is : IsNamed whole) (bodies : WrittenBodies) wh
         let one = among_flat callees_of items callee there in callee_in one.from callee (item_stands whole bodies unit one.from one.there) one.made
 
     -- two names of the module that are equal are those of one key
-    one_key : (key other : NameKey) → HasName whole unit key → HasName whole unit other → name_in whole unit key ≡ name_in whole unit other → key ≡ other
+    pub one_key : (key other : NameKey) → HasName whole unit key → HasName whole unit other → name_in whole unit key ≡ name_in whole unit other → key ≡ other
     one_key key other first second same = keys_apart whole is unit key other (name_in whole unit other) (first.name_is ∙ ap Some same) second.name_is
 
-    same_function : (f g : CFun) → Among program.functions f → Among program.functions g → g.function ≡ f.function → g ≡ f
+    pub same_function : (f g : CFun) → Among program.functions f → Among program.functions g → g.function ≡ f.function → g ≡ f
     same_function f g there also same =
         let found : Some g ≡ Some f = sym (function_there whole is g also) ∙ ap (λ n. function_with n program.functions) same ∙ function_there whole is f there in cc (found)
 

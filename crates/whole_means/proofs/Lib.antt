@@ -4,4 +4,5 @@ pub mod Keys
 pub mod Lists
 pub mod Modules
 pub mod Named
+pub mod Numbers
 pub mod Things
