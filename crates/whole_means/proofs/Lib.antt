@@ -5,4 +5,6 @@ pub mod Lists
 pub mod Modules
 pub mod Named
 pub mod Numbers
+pub mod Records
+pub mod Rows
 pub mod Things
