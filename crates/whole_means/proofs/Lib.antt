@@ -1,6 +1,8 @@
 pub mod Callees
 pub mod Items
 pub mod Keys
+pub mod Laid
+pub mod Layouts
 pub mod Lists
 pub mod Modules
 pub mod Named
