@@ -92,5 +92,6 @@ returned_meets images place align result c_before before frame value c_world flo
       stays = both_keep base (is_place place) images later later c_before.held c_world.held c_world.held before.held world.held (with_blocks after world.held) started.held.memories.mapped mapped returned.stays newer;
       worlds = worlds_held later later c_world world c_world.held (with_blocks after world.held) returned.worlds held;
       typed = returned.typed;
+      of_type = returned.of_type;
       gives = gives_still later (blocks_of world) after align place value (given_by result flow) (λ at e. same at.block (older at e)) returned.gives;
     }

@@ -21,7 +21,7 @@ use Rattle.mem_bytes.specs.declared.value.Value.TheVariants.{Object}
 use Rattle.rs_mean.specs.Lookups.{LocalBlock}
 use Rattle.rs_mean.specs.Run.{Frame, Flow, run_stmts, given_by}
 use Rattle.rs_text.specs.Tree.{Ty, Pointer, Stmts, FunctionTree}
-use Rattle.lift_calls.specs.Calls.{result_laid, ResultPlace, is_place, type_in, GivesBack}
+use Rattle.lift_calls.specs.Calls.{result_laid, ResultPlace, is_place, type_in, IsOfItsType, GivesBack}
 use Rattle.lift_calls.specs.Frames.{KeptTemporary, FunctionNames, IsLocal, FramesAgree}
 use Rattle.lift_calls.specs.Programs.{Setting, c_goes, ProgramAgrees, IsTypedScope}
 
@@ -79,6 +79,7 @@ pub record Returned (images : Images) (place : Option Ptr) (align : ℕ) (result
   pub worlds : WorldsStand later c_world world
   pub vacant : (local : LocalBlock) → Contains frame.locals local → IsVacant later (blocks_of c_world) local.block
   pub typed : type_in (given_by result flow) ≡ result
+  pub of_type : IsOfItsType (given_by result flow)
   pub gives : GivesBack later (blocks_of world) align place value (given_by result flow)
 
 -- what the statements of a body owe below a bound of units and one of steps, from where the parameters have begun

@@ -3,6 +3,7 @@
 -- in a place to which a first parameter points.
 use Rattle.std.specs.Prelude.{◌≡◌, ℕ, ◌+◌, ◌<◌, ◌≤◌, Bool, false, ◌==◌, List, [], ◌∷◌, length, Option, Some, None, option_map}
 use Rattle.cr_base.specs.declared.layout.Laid.{Laid}
+use Rattle.cr_base.specs.declared.scalar.Scalar.{Scalar}
 use Rattle.cr_runs.specs.Owes.{Owes}
 use Rattle.cr_world.specs.World.{World, blocks_of, events_of}
 use Rattle.cx_core.specs.Trees.{CTy, CTyForm, void, basic, enum_type, pointer, array, record_type, function, form_of_type, CFun}
@@ -13,10 +14,12 @@ use Rattle.lift_stands.specs.Keeps.{KeepsOthers}
 use Rattle.lift_stands.specs.Stands.{Images, IsNoImage, ValueBelow, PlaceHolds}
 use Rattle.lift_stands.specs.Worlds.{WorldsStand}
 use Rattle.lift_stands_values.specs.Given.{align_or}
+use Rattle.mem_bytes.specs.Coding.{IsValueOf}
 use Rattle.mem_bytes.specs.Memory.{Block, Blocks, live_block, size_of}
 use Rattle.mem_bytes.specs.declared.value.Ptr.{Ptr}
 use Rattle.mem_bytes.specs.declared.value.Value.{Value}
 use Rattle.mem_bytes.specs.declared.value.Value.TheVariants.{Object}
+use Rattle.rs_mean.specs.Scalars.{scalar_of}
 use Rattle.rs_mean.specs.Values.{Typed}
 use Rattle.rs_text.specs.Tree.{Ty, FunctionTree}
 use Rattle.lift_calls.specs.Programs.{Setting, setting_in, c_calls, crate_bodies, IsWritten, ProgramAgrees, IsTypedScope}
@@ -98,14 +101,20 @@ GivesBack images others align None (scalar value) (Some given) = ValueBelow imag
 GivesBack images others align (Some at) (cells list from) given = PlaceHolds images others align (Object at) list
 GivesBack images others align place value given = ⊥
 
+-- a value of the crate is one of the scalar of its type
+abbrev pub IsOfItsType : Option Typed → Type 0
+IsOfItsType None = Unit {0}
+IsOfItsType (Some one) = (kind : Scalar) → scalar_of one.ty ≡ Some kind → IsValueOf kind one.value
+
 -- a call of the crate has come to where that of C has
 pub record CallMeets (images : Images) (place : Option Ptr) (align : ℕ) (result : Option Ty) (c_before before : World) (value : CValue) (c_world : World)
     (given : Option Typed) (world : World) : Type 0 where
   pub later : Images
   pub stays : KeepsOthers (length (blocks_of before)) (is_place place) images later c_before.held c_world.held before.held world.held
   pub worlds : WorldsStand later c_world world
-  -- it has the type that the function gives, also where C's has no value
+  -- it has the type that the function gives, and is a value of this type, also where C's has no value
   pub typed : type_in given ≡ result
+  pub of_type : IsOfItsType given
   pub gives : GivesBack later (blocks_of world) align place value given
 
 -- a call of the crate that is about to run beside one of C

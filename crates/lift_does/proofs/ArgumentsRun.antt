@@ -1,5 +1,5 @@
 -- What the crate passes for arguments that are given (ISO C99, 6.5.2.2p4; the Rust Reference, "Call expressions").
-use Rattle.std.proofs.Common.{◌≡◌, inl, inr, ℕ, Bool, true, false, if◌then◌else◌, List, [], ◌∷◌, map, Some, Ok, Err, refl, sym, ap, subst, ◌∙◌}
+use Rattle.std.proofs.Common.{◌≡◌, inl, inr, ℕ, Bool, true, false, ◌&&◌, if◌then◌else◌, List, [], ◌∷◌, map, Some, Ok, Err, refl, sym, ap, subst, ◌∙◌}
 use Rattle.cr_base.specs.declared.rule.URule.TheVariants.{U14}
 use Rattle.cr_base.specs.declared.scalar.Scalar.{Scalar}
 use Rattle.cr_runs.specs.Runs.{came}
@@ -26,6 +26,7 @@ use Rattle.lift_exprs.specs.Names.{type_in}
 use Rattle.lift_exprs.specs.Written.{address_of_given}
 use Rattle.lift_forms.specs.Given.{Given}
 use Rattle.lift_forms.specs.Operators.{as_type, given_value}
+use Rattle.lift_forms.proofs.SameTypes.{same_integer_itself}
 use Rattle.lift_forms_laws.proofs.Operands.{as_type_gives, value_gives}
 use Rattle.lift_forms_laws.proofs.Runs.{seq_is, pure_is}
 use Rattle.lift_forms_laws.specs.Gives.{GivesAt}
@@ -34,10 +35,11 @@ use Rattle.lift_stands.specs.Stands.{Images}
 use Rattle.lift_stands_values.proofs.Ranges.{given_in_range}
 use Rattle.mem_bytes.specs.declared.value.Value.{Value}
 use Rattle.rs_mean.specs.Run.{run_expr, run_exprs}
-use Rattle.rs_mean.specs.Scalars.{scalar_of}
+use Rattle.rs_mean.specs.Calls.{accepts}
+use Rattle.rs_mean.specs.Scalars.{scalar_of, alike}
 use Rattle.rs_mean.specs.Values.{Typed, typed}
 use Rattle.rs_mean.specs.World.{seq, pure}
-use Rattle.rs_text.specs.Tree.{Ty, Pointer, Tys, no_tys, more_tys, tys, Expr, exprs}
+use Rattle.rs_text.specs.Tree.{Ty, Integer, Boolean, Void, Pointer, Array, Code, Record, Tys, no_tys, more_tys, tys, Expr, exprs}
 
 no_record_form : (type : CTy) → IsRecordForm (form_of_type type) → is_record type ≡ false → ⊥
 no_record_form (ty (record_type number) is_const) is e = let clash : true ≡ false = e in cc (clash)
@@ -50,6 +52,19 @@ no_record_form (ty (function result params variadic) is_const) is e = absurd is
 
 no_scalar_record : (types : CTypes) (type : CTy) (kind : Scalar) → c_scalar_of types (form_of_type type) ≡ Some kind → is_record type ≡ true → ⊥
 no_scalar_record types type kind is e = let clash : true ≡ false = sym e ∙ scalar_no_record types type kind is in cc (clash)
+
+-- a scalar type passes as itself
+alike_itself : (ty : Ty) (kind : Scalar) → scalar_of ty ≡ Some kind → alike ty ty ≡ true
+alike_itself (Integer which) kind e = same_integer_itself which
+alike_itself Boolean kind e = refl
+alike_itself (Pointer target) kind e = refl
+alike_itself (Code params result) kind e = refl
+alike_itself Void kind e = cc (e)
+alike_itself (Array element size) kind e = cc (e)
+alike_itself (Record m y) kind e = cc (e)
+
+both_true : (one other : Bool) → one ≡ true → other ≡ true → (one && other) ≡ true
+both_true one other is too = rw (is) too
 
 module _ (x : Around) where
   -- a parameter has the scalar of its argument, or is a pointer to the structure or union
@@ -69,6 +84,7 @@ module _ (x : Around) where
     pub given : Value
     pub gives : GivesAt x.frame world e param given
     pub handed : IsHanded images (blocks_of world) of_c given
+    pub passes : alike param param ≡ true
 
   abbrev argument_by : Bool → CExpr → Given → Argument
   argument_by record_is first given =
@@ -89,6 +105,7 @@ module _ (x : Around) where
         given = value.other;
         gives = passed_gives last x.frame later T param is.kind (given_value given) value.other (x.means.scalars (type_of first) is.kind kind_is) (fits is.kind is.kind_is) range value.gives;
         handed = value.below;
+        passes = alike_itself param is.kind (fits is.kind is.kind_is);
       }
   argument_runs true last later first given param (cells list from) of_record fits (inl is) there gave =
       let T = type_in x.names (type_of first) in
@@ -97,6 +114,7 @@ module _ (x : Around) where
         gives = subst (λ (t : Ty). GivesAt x.frame later (as_type (Pointer T) t (address_of_given given)) t gave.at) (sym fits.1)
             (as_type_gives last x.frame later (Pointer T) (Pointer fits.0) (address_of_given given) gave.at gave.gives refl);
         handed = (_, gave.holds);
+        passes = subst (λ (t : Ty). alike t t ≡ true) (sym fits.1) refl;
       }
   argument_runs true last later first given param (scalar one) of_record fits (inl is) there gave = absurd (no_scalar_record x.home.program.types (type_of first) is.kind is.kind_is of_record)
   argument_runs false last later first given param (cells list from) no_record fits (inl is) there gave = absurd (no_record_form (type_of first) is.is_record no_record)
@@ -117,6 +135,7 @@ module _ (x : Around) where
     pub runs : (units : ℕ) → run_exprs x.frame (exprs (as_params params list)) world units ≡ came values world units
     pub handed : AreHanded images (blocks_of world) of_c values
     pub types : tys (map (λ (one : Typed). one.ty) values) ≡ params
+    pub accepted : accepts (map (λ (one : Typed). one.ty) values) false values ≡ true
 
   record AllThere (first : COperand) (others all : List COperand) : Type 0 where
     rest : List COperand
@@ -135,7 +154,7 @@ module _ (x : Around) where
   -- where all have come, and none lacks a value, what is passed is handed
   pub args_run : (last : Images) (later : World) (args : CExprs) (next : ℕ) (params : Tys) (operands all : List COperand) → AreTyped x.home args → ParamsFit args params → ArgsGiven x last later args next operands → all_given operands ≡ Ok all →
       ArgsRun last later params (lifted_args x.names args next).list (values_of_args operands)
-  args_run last later no_exprs next no_tys [] all typed_args fit given e = record { values = []; runs = λ units. pure_is [] later units; handed = tt; types = refl }
+  args_run last later no_exprs next no_tys [] all typed_args fit given e = record { values = []; runs = λ units. pure_is [] later units; handed = tt; types = refl; accepted = refl }
   args_run last later no_exprs next (more_tys param params) operands all typed_args fit given e = absurd fit
   args_run last later (more_exprs first others) next no_tys operands all typed_args fit given e = absurd fit
   args_run last later no_exprs next no_tys (one ∷ rest) all typed_args fit given e = absurd given
@@ -154,4 +173,5 @@ module _ (x : Around) where
             ∙ pure_is (typed param front.given ∷ behind.values) later units;
         handed = (front.handed, behind.handed);
         types = ap (more_tys param) behind.types;
+        accepted = both_true (alike param param) _ front.passes behind.accepted;
       }

@@ -1,12 +1,12 @@
 -- The expressions without calls and compound literals: what is written for them does what they do.
-use Rattle.std.proofs.Common.{◌≡◌, ◌⊎◌, inl, inr, ℕ, ◌+◌, ◌≤◌, Bool, true, false, not, if◌then◌else◌, ◌&&◌, ◌||◌, ◌==◌, List, [], ◌∷◌, ◌++◌, length, Some, refl, sym, ap, subst, ◌∙◌}
+use Rattle.std.proofs.Common.{◌≡◌, ◌⊎◌, inl, inr, ℕ, ◌+◌, ◌≤◌, Bool, true, false, not, if◌then◌else◌, ◌&&◌, ◌||◌, ◌==◌, List, [], ◌∷◌, ◌++◌, length, Option, Some, None, refl, sym, ap, subst, ◌∙◌}
 use Rattle.cr_base.specs.declared.layout.Spot.{Spot}
 use Rattle.cr_base.specs.declared.refusal.Place.{Place}
 use Rattle.cr_world.specs.World.{World}
-use Rattle.cx_core.specs.Trees.{CTy, ty, CTyForm, CExpr, expr, CForm, whole, null, object, code, load, deref, member, address, convert, unary, binary, and, or, cond, assign, assign_by, step, call, call_by, comma, literal, type_of}
-use Rattle.cx_core.specs.Typing.{CHome, IsTyped, IsLvalue, is_bit_field, width_of}
+use Rattle.cx_core.specs.Trees.{CTy, ty, CTyForm, CExpr, expr, CForm, whole, null, object, code, load, deref, member, address, convert, unary, binary, and, or, cond, assign, assign_by, step, call, call_by, comma, literal, type_of, CFun, CExprs, no_exprs, more_exprs}
+use Rattle.cx_core.specs.Typing.{CHome, IsTyped, AreTyped, IsLvalue, function_with, is_bit_field, width_of}
 use Rattle.cx_core.specs.Conversions.{promoted}
-use Rattle.cx_core.specs.Trees.{CTypes, CMember, void, basic, enum_type, pointer, array, record_type, function, form_of_type, CTy, ty, CTyForm, CExpr, expr, CForm, whole, null, object, code, load, deref, member, address, convert, unary, binary, and, or, cond, assign, assign_by, step, call, call_by, comma, literal, type_of}
+use Rattle.cx_core.specs.Trees.{CProgram, CTypes, CMember, void, basic, enum_type, pointer, array, record_type, function, form_of_type, CTy, ty, CTyForm, CExpr, expr, CForm, whole, null, object, code, load, deref, member, address, convert, unary, binary, and, or, cond, assign, assign_by, step, call, call_by, comma, literal, type_of}
 use Rattle.cx_core.specs.ValidTypes.{member_of}
 use Rattle.lift_does.proofs.ValueMembers.{value_member_owes}
 use Rattle.cx_core.specs.declared.expr.Op2.{Op2}
@@ -24,14 +24,19 @@ use Rattle.lift_does.proofs.BitAssignments.{target_bits, assign_bits_owes}
 use Rattle.lift_does.proofs.BitCompounds.{assign_by_bits_owes, by_one_bits_owes}
 use Rattle.lift_does.proofs.BitNodes.{bits_kind_is, bits_node, bits_node_as}
 use Rattle.lift_does.proofs.BitPlaces.{member_bits_owes}
+use Rattle.lift_does.proofs.Arguments.{EachOwes}
+use Rattle.lift_does.proofs.CallNodes.{held_call, named_owes, defined_serves}
 use Rattle.lift_does.proofs.Choices.{choice_owes, part_is_taken}
+use Rattle.lift_does.proofs.Records.{void_record}
+use Rattle.lift_exprs.specs.Calls.{Called, Arguments, called_by_name, called_for_record, called_for_value, called_alone, called_with}
+use Rattle.std.specs.Prelude.{IsSome}
 use Rattle.lift_does.proofs.Commas.{comma_owes}
 use Rattle.lift_does.proofs.Conversions.{convert_owes}
 use Rattle.lift_does.proofs.Decided.{and_owes, or_owes}
 use Rattle.lift_does.proofs.Held.{kept_front, kept_back}
 use Rattle.lift_does.proofs.Leaves.{whole_owes, null_owes, code_owes, object_owes}
 use Rattle.lift_does.proofs.Loads.{load_owes}
-use Rattle.lift_does.proofs.Numbers.{IsNumbered, turn_numbered, three_numbered, rises, pair_for, operands_of, parts_of, change_for, numbered, form_numbered}
+use Rattle.lift_does.proofs.Numbers.{IsNumbered, turn_numbered, three_numbered, rises, pair_for, operands_of, parts_of, change_for, numbered, form_numbered, args_numbered}
 use Rattle.lift_does.proofs.Lvalues.{no_width, form_place, lvalue_kind_is}
 use Rattle.lift_does.proofs.Members.{lvalue_is, member_owes}
 use Rattle.lift_does.proofs.Lvalues.{holder_plain, no_width, form_place, lvalue_kind_is}
@@ -43,16 +48,16 @@ use Rattle.lift_does.proofs.RecordTypes.{assign_by_no_record, step_no_record}
 use Rattle.lift_does.proofs.Unary.{form_fixed, ExprOwes, FormOwes, unary_owes}
 use Rattle.lift_does.proofs.Used.{scalar_has, unary_has, convert_has, left_has, right_has, lvalue_has, assigned_has, address_kind}
 use Rattle.lift_does.specs.Agree.{AreKeptFrom}
-use Rattle.lift_does.specs.Covered.{IsCovered, IsCoveredForm, CoveredDoes}
+use Rattle.lift_does.specs.Covered.{IsCovered, IsCoveredForm, AreCovered, CoveredDoes}
 use Rattle.lift_does.specs.Does.{IsAsked, is_fixed}
-use Rattle.lift_exprs.specs.Lifted.{lifted, lifted_form, operand_of, Deciding, where_true, where_false, decided_written, Choice, chosen_written}
+use Rattle.lift_exprs.specs.Lifted.{lifted, lifted_args, lifted_form, operand_of, Deciding, where_true, where_false, decided_written, Choice, chosen_written}
 use Rattle.lift_exprs.specs.Names.{Names, type_in}
 use Rattle.lift_exprs.specs.Stores.{Target, a_scalar, a_structure, a_field, is_field, target_of, held_store, plain_store, old_value, stored, stored_value, Change, changed, changed_first, stepped, step_by_one, promoted_type, target_type}
-use Rattle.lift_exprs.specs.Written.{Written, Both, both, in_turn, place_of_given, address_of_given, NodeKind, a_value, a_record, lvalue_kind, value_kind, kind_in, held_type, held_where}
+use Rattle.lift_exprs.specs.Written.{Written, Both, both, in_turn, place_of_given, address_of_given, NodeKind, a_value, a_record, lvalue_kind, value_kind, kind_in, held_type, then_held, held_where}
 use Rattle.lift_forms.specs.Given.{Given}
 use Rattle.lift_forms.specs.Given as given_form
 use Rattle.lift_forms.specs.Operators.{Operand}
-use Rattle.lift_held.specs.Held.{is_void, is_record, is_lvalue, acts, is_lvalue_form, operand, operand_before, part_of, whole_of, holds_call, is_steady}
+use Rattle.lift_held.specs.Held.{is_void, is_record, is_lvalue, acts, is_lvalue_form, operand, operand_before, part_of, whole_of, holds_call, some_holds_call, is_steady}
 use Rattle.lift_held.specs.declared.asked.Asked.{Asked}
 use Rattle.lift_stands.specs.Stands.{Images}
 use Rattle.rs_mean_frames.proofs.Framed.{all_behave}
@@ -133,6 +138,34 @@ chosen_kept names_of kept false true type test first second three from one two m
 chosen_kept names_of kept true false type test first second three from one two more are = let all = three_kept names_of kept three from one two are in (all.0, all.1, all.2, λ used acting. cc (acting))
 chosen_kept names_of kept false false type test first second three from one two more are = let all = three_kept names_of kept three from one two are in (all.0, all.1, all.2, λ used acting. cc (used))
 
+-- of a call, whose value may be held
+calls_kept : (names_of : Names) (kept : FunctionNames) (asked : Asked) (type : CTy) (called : Called) (args : Arguments) (from : ℕ) → IsNumbered args.written from →
+    AreKeptFrom names_of kept from (held_call names_of asked type (called_with names_of asked.used type called args)).temporaries →
+    AreKeptFrom names_of kept from args.written.temporaries × ((is_record type || asked.used) ≡ true → is_void type ≡ false → kept_as names_of kept args.written.next (type_in names_of type))
+calls_kept names_of kept asked type called args from count are = by (is_record type) asked.used (is_void type) asked.is_base are
+  where
+    list : List Ty
+    list = args.written.temporaries
+
+    one : Ty
+    one = type_in names_of type
+
+    by : (of_it used nothing base : Bool) →
+        AreKeptFrom names_of kept from
+        (held_where ((of_it || ((used && true) || (base && false))) && not of_it) names_of (if of_it then a_record one (names_of.size_of type) else a_value one)
+        (if of_it then called_for_record names_of type called args else (if used && not nothing then called_for_value names_of type called args else called_alone called args))).temporaries →
+        AreKeptFrom names_of kept from args.written.temporaries × ((of_it || used) ≡ true → nothing ≡ false → kept_as names_of kept args.written.next (type_in names_of type))
+    by true used nothing base held =
+        (kept_front names_of kept from args.written.temporaries (type_in names_of type ∷ []) held, λ e some. last_kept names_of kept args.written.temporaries (type_in names_of type) args.written.next from count held)
+    by false true nothing base held = both nothing held
+      where
+        both : (none : Bool) → AreKeptFrom names_of kept from (then_held names_of (a_value (type_in names_of type)) (if not none then called_for_value names_of type called args else called_alone called args)).temporaries →
+            AreKeptFrom names_of kept from args.written.temporaries × ((false || true) ≡ true → none ≡ false → kept_as names_of kept args.written.next (type_in names_of type))
+        both false them = (kept_front names_of kept from args.written.temporaries (type_in names_of type ∷ []) them, λ e some. last_kept names_of kept args.written.temporaries (type_in names_of type) args.written.next from count them)
+        both true them = (kept_front names_of kept from args.written.temporaries (type_in names_of type ∷ []) them, λ e some. cc (some))
+    by false false nothing true held = (held, λ e some. cc (e))
+    by false false nothing false held = (held, λ e some. cc (e))
+
 -- ---- values and lvalues
 
 typed_no_lvalue : (home : CHome) (e : CExpr) → IsTyped home e → is_lvalue e ≡ false
@@ -206,6 +239,30 @@ base_lasts asked home type at (step up post on) base is e = absurd is.2
 base_lasts asked home type at (call callee args) base is e = absurd is.2
 base_lasts asked home type at (call_by callee args) base is e = absurd is.2
 base_lasts asked home type at (comma first second) base is e = absurd is.2
+
+-- an lvalue is no call
+covered_form : (home : CHome) (program : CProgram) (type : CTy) (at : Place) (form : CForm) → IsLvalue home (expr type at form) → IsCovered program (expr type at form) → IsCoveredForm program form
+covered_form home program type at (call callee args) typed is = absurd typed.2
+covered_form home program type at (whole value) typed is = is
+covered_form home program type at null typed is = is
+covered_form home program type at (object number) typed is = is
+covered_form home program type at (code number) typed is = is
+covered_form home program type at (load of) typed is = is
+covered_form home program type at (deref of) typed is = is
+covered_form home program type at (member of spot) typed is = is
+covered_form home program type at (address of) typed is = is
+covered_form home program type at (convert of) typed is = is
+covered_form home program type at (unary op of) typed is = is
+covered_form home program type at (binary op left right) typed is = is
+covered_form home program type at (and left right) typed is = is
+covered_form home program type at (or left right) typed is = is
+covered_form home program type at (cond test first second) typed is = is
+covered_form home program type at (assign target value) typed is = is
+covered_form home program type at (assign_by op computes target value) typed is = is
+covered_form home program type at (step up post on) typed is = is
+covered_form home program type at (comma first second) typed is = is
+covered_form home program type at (call_by callee args) typed is = is
+covered_form home program type at (literal number puts) typed is = is
 
 module _ (x : Around) where
   kind_type : (record_type : Bool) (one : Ty) (size : ℕ) → held_type (if record_type then a_record one size else a_value one) ≡ one
@@ -461,24 +518,80 @@ module _ (x : Around) where
           by_one_bits_owes x asked form is_const at up post own here_at of spot from images c w here typed bits (rises one from count) (kept_field asked.used (kept_as x.names x.kept one.next T) kept_one.1) (fixed_owes bits kept_one.0)
   step_any asked form is_const at up post (expr own here_at other) from images c w here typed are owes fixed_owes = step_plainly asked form is_const at up post (expr own here_at other) from images c w here typed refl are owes
 
+  -- ---- calls
+
+  -- the temporaries of the arguments, and that of the call, where there is one
+  call_kept : (asked : Asked) (type : CTy) (at : Place) (callee : ℕ) (args : CExprs) (from : ℕ) → AreKeptFrom x.names x.kept from (lifted x.names asked (expr type at (call callee args)) from).temporaries →
+      AreKeptFrom x.names x.kept from (lifted_args x.names args from).written.temporaries
+      × ((is_record type || asked.used) ≡ true → is_void type ≡ false → kept_as x.names x.kept (lifted_args x.names args from).written.next (type_in x.names type))
+  call_kept asked type at callee args from are = calls_kept x.names x.kept asked type (called_by_name x.names callee) (lifted_args x.names args from) from (args_numbered x.names args from) are
+
+  named_any : (asked : Asked) (type : CTy) (at : Place) (callee : ℕ) (args : CExprs) (from : ℕ) (images : Images) (c w : World) → At x images c w → IsTyped x.home (expr type at (call callee args)) → IsAsked asked (expr type at (call callee args)) →
+      IsSome (function_with callee x.s.program.functions) → EachOwes x args from → ((is_record type || asked.used) ≡ true → is_void type ≡ false → kept_as x.names x.kept (lifted_args x.names args from).written.next (type_in x.names type)) →
+      ExprOwes x asked (expr type at (call callee args)) from images c w
+  named_any asked type at callee args from images c w here typed asked_is is owes kept_it = by (function_with callee x.s.program.functions) refl is
+    where
+      has : (of_it : Bool) → is_record type ≡ of_it → (of_it || asked.used) ≡ true → is_void type ≡ false
+      has true of_it some = void_record type of_it
+      has false of_it some = asked_is.used some
+
+      by : (found : Option CFun) → function_with callee x.s.program.functions ≡ found → IsSome found → ExprOwes x asked (expr type at (call callee args)) from images c w
+      by None e none = cc (none)
+      by (Some one) e some =
+          named_owes x asked type at callee args from images c w here typed owes (defined_serves x asked type at callee args from images c w here typed owes one e) asked_is
+          (rises (lifted_args x.names args from).written from (args_numbered x.names args from)) (λ held. kept_it held (has (is_record type) refl held))
+
   mutual
-    base_does : (asked : Asked) (e : CExpr) (from : ℕ) → IsAsked asked e → AreKeptFrom x.names x.kept from (lifted x.names asked e from).temporaries → IsLvalue x.home e → IsCovered e → asked.is_base ≡ true → (images : Images) (c w : World) → At x images c w →
+    base_does : (asked : Asked) (e : CExpr) (from : ℕ) → IsAsked asked e → AreKeptFrom x.names x.kept from (lifted x.names asked e from).temporaries → IsLvalue x.home e → IsCovered x.s.program e → asked.is_base ≡ true → (images : Images) (c w : World) → At x images c w →
         is_bit_field e ≡ false → PartOwes x asked.used true e (lifted x.names asked e from) from images c w
     base_does asked (expr type at form) from asked_is are typed is base images c w here plainly =
-        base_owes asked type at form from asked_is are typed base images c w here plainly (λ own. form_does asked type at form from asked_is own (inr typed) is)
+        base_owes asked type at form from asked_is are typed base images c w here plainly (λ own. form_does asked type at form from asked_is own (inr typed) (covered_form x.home x.s.program type at form typed is))
 
-    target_does : (asked : Asked) (e : CExpr) (from : ℕ) → IsAsked asked e → AreKeptFrom x.names x.kept from (lifted x.names asked e from).temporaries → IsLvalue x.home e → IsCovered e → is_bit_field e ≡ true → FixedAnywhere asked e from
+    target_does : (asked : Asked) (e : CExpr) (from : ℕ) → IsAsked asked e → AreKeptFrom x.names x.kept from (lifted x.names asked e from).temporaries → IsLvalue x.home e → IsCovered x.s.program e → is_bit_field e ≡ true → FixedAnywhere asked e from
     target_does asked (expr type at (member of spot)) from asked_is are typed is bits = λ images c w here.
         target_owes asked type at of spot from asked_is are typed bits images c w here (λ own.
         base_does (whole_of spot) of from (used_base (whole_of spot) of refl (lvalue_has x of typed.2.0)) own typed.2.0 is bits images c w here (holder_plain x.home type of spot here.typed.scene.linked.types typed.2.0 typed.2.1))
     target_does asked (expr type at other) from asked_is are typed is bits = absurd (no_truth bits)
 
-    expr_does : (asked : Asked) (e : CExpr) (from : ℕ) → IsAsked asked e → AreKeptFrom x.names x.kept from (lifted x.names asked e from).temporaries → IsTyped x.home e ⊎ IsLvalue x.home e → IsCovered e → OwesAnywhere asked e from
-    expr_does asked (expr type at form) from asked_is are typed is =
-        node_owes asked type at form from asked_is are typed (λ own. form_does asked type at form from asked_is own typed is)
+    expr_does : (asked : Asked) (e : CExpr) (from : ℕ) → IsAsked asked e → AreKeptFrom x.names x.kept from (lifted x.names asked e from).temporaries → IsTyped x.home e ⊎ IsLvalue x.home e → IsCovered x.s.program e → OwesAnywhere asked e from
+    expr_does asked (expr type at (whole value)) from asked_is are typed is = node_owes asked type at (whole value) from asked_is are typed (λ own. form_does asked type at (whole value) from asked_is own typed is)
+    expr_does asked (expr type at null) from asked_is are typed is = node_owes asked type at null from asked_is are typed (λ own. form_does asked type at null from asked_is own typed is)
+    expr_does asked (expr type at (object number)) from asked_is are typed is = node_owes asked type at (object number) from asked_is are typed (λ own. form_does asked type at (object number) from asked_is own typed is)
+    expr_does asked (expr type at (code number)) from asked_is are typed is = node_owes asked type at (code number) from asked_is are typed (λ own. form_does asked type at (code number) from asked_is own typed is)
+    expr_does asked (expr type at (load of)) from asked_is are typed is = node_owes asked type at (load of) from asked_is are typed (λ own. form_does asked type at (load of) from asked_is own typed is)
+    expr_does asked (expr type at (deref of)) from asked_is are typed is = node_owes asked type at (deref of) from asked_is are typed (λ own. form_does asked type at (deref of) from asked_is own typed is)
+    expr_does asked (expr type at (member of spot)) from asked_is are typed is = node_owes asked type at (member of spot) from asked_is are typed (λ own. form_does asked type at (member of spot) from asked_is own typed is)
+    expr_does asked (expr type at (address of)) from asked_is are typed is = node_owes asked type at (address of) from asked_is are typed (λ own. form_does asked type at (address of) from asked_is own typed is)
+    expr_does asked (expr type at (convert of)) from asked_is are typed is = node_owes asked type at (convert of) from asked_is are typed (λ own. form_does asked type at (convert of) from asked_is own typed is)
+    expr_does asked (expr type at (unary op of)) from asked_is are typed is = node_owes asked type at (unary op of) from asked_is are typed (λ own. form_does asked type at (unary op of) from asked_is own typed is)
+    expr_does asked (expr type at (binary op left right)) from asked_is are typed is = node_owes asked type at (binary op left right) from asked_is are typed (λ own. form_does asked type at (binary op left right) from asked_is own typed is)
+    expr_does asked (expr type at (and left right)) from asked_is are typed is = node_owes asked type at (and left right) from asked_is are typed (λ own. form_does asked type at (and left right) from asked_is own typed is)
+    expr_does asked (expr type at (or left right)) from asked_is are typed is = node_owes asked type at (or left right) from asked_is are typed (λ own. form_does asked type at (or left right) from asked_is own typed is)
+    expr_does asked (expr type at (cond test first second)) from asked_is are typed is = node_owes asked type at (cond test first second) from asked_is are typed (λ own. form_does asked type at (cond test first second) from asked_is own typed is)
+    expr_does asked (expr type at (assign target value)) from asked_is are typed is = node_owes asked type at (assign target value) from asked_is are typed (λ own. form_does asked type at (assign target value) from asked_is own typed is)
+    expr_does asked (expr type at (assign_by op computes target value)) from asked_is are typed is = node_owes asked type at (assign_by op computes target value) from asked_is are typed (λ own. form_does asked type at (assign_by op computes target value) from asked_is own typed is)
+    expr_does asked (expr type at (step up post on)) from asked_is are typed is = node_owes asked type at (step up post on) from asked_is are typed (λ own. form_does asked type at (step up post on) from asked_is own typed is)
+    expr_does asked (expr type at (comma first second)) from asked_is are typed is = node_owes asked type at (comma first second) from asked_is are typed (λ own. form_does asked type at (comma first second) from asked_is own typed is)
+    expr_does asked (expr type at (call callee args)) from asked_is are (inl typed) is = λ images c w here.
+        let kept_all = call_kept asked type at callee args from are in
+        named_any asked type at callee args from images c w here typed asked_is is.0 (args_do args from kept_all.0 typed.1.0 is.1) kept_all.1
+    expr_does asked (expr type at (call callee args)) from asked_is are (inr typed) is = absurd typed.2
+    expr_does asked (expr type at (call_by callee args)) from asked_is are typed is = absurd is
+    expr_does asked (expr type at (literal number puts)) from asked_is are typed is = absurd is
+
+    -- arguments, from the left
+    args_do : (args : CExprs) (next : ℕ) → AreKeptFrom x.names x.kept next (lifted_args x.names args next).written.temporaries → AreTyped x.home args → AreCovered x.s.program args → EachOwes x args next
+    args_do no_exprs next are typed is = tt
+    args_do (more_exprs first others) next are typed is =
+        let asked = operand_before (some_holds_call others) in
+        let one = lifted x.names asked first next in
+        let two : Both = record { first = one; second = (lifted_args x.names others one.next).written } in (
+          λ images c w here. expr_does asked first next (used_part asked first refl is.0) (kept_front x.names x.kept next one.temporaries two.second.temporaries are) (inl typed.0) is.1 images c w here,
+          args_do others one.next (second_kept x.names x.kept two given_form.nothing next (numbered x.names asked first next) are) typed.1 is.2,
+        )
 
     form_does : (asked : Asked) (type : CTy) (at : Place) (form : CForm) (from : ℕ) → IsAsked asked (expr type at form) → AreKeptFrom x.names x.kept from (lifted_form x.names asked type form from).temporaries →
-        IsTyped x.home (expr type at form) ⊎ IsLvalue x.home (expr type at form) → IsCoveredForm form → FormAnywhere asked type at form from
+        IsTyped x.home (expr type at form) ⊎ IsLvalue x.home (expr type at form) → IsCoveredForm x.s.program form → FormAnywhere asked type at form from
     form_does asked type at (whole value) from asked_is are (inl typed) is = λ images c w here. whole_owes x asked type at value from images c w here typed
     form_does asked type at null from asked_is are (inl typed) is = λ images c w here. null_owes x asked type at from images c w here typed
     form_does asked type at (code number) from asked_is are (inl typed) is = λ images c w here. code_owes x asked type at number from images c w here typed

@@ -80,7 +80,7 @@ module _ (x : Around) where
       subst (λ (r : Bool). MissingAs false r x.frame world (type_in x.names type) (x.names.size_of type) given) not_record
       (subst (λ (v : Bool). MissingAs v (is_record type) x.frame world (type_in x.names type) (x.names.size_of type) given) not_void gives)
 
-  to_missing : (world : World) (type : CTy) (given : Given) → is_void type ≡ false → is_record type ≡ false → GivesSome x.frame world (type_in x.names type) given → GivesMissing x.names x.frame world type given
+  pub to_missing : (world : World) (type : CTy) (given : Given) → is_void type ≡ false → is_record type ≡ false → GivesSome x.frame world (type_in x.names type) given → GivesMissing x.names x.frame world type given
   to_missing world type given not_void not_record gives =
       subst (λ (v : Bool). MissingAs v (is_record type) x.frame world (type_in x.names type) (x.names.size_of type) given) (sym not_void)
       (subst (λ (r : Bool). MissingAs false r x.frame world (type_in x.names type) (x.names.size_of type) given) (sym not_record) gives)

@@ -15,6 +15,10 @@ pub mod BitPlaces
 pub mod BitStores
 pub mod BitUpdates
 pub mod Branches
+pub mod CallEnds
+pub mod CalledFunctions
+pub mod CallNodes
+pub mod CallRuns
 pub mod Choices
 pub mod Commas
 pub mod CompoundAssignments
@@ -29,10 +33,12 @@ pub mod Leaves
 pub mod Loads
 pub mod Lvalues
 pub mod Members
+pub mod NamedCalls
 pub mod Narrowed
 pub mod Nodes
 pub mod Numbers
 pub mod Operands
+pub mod OwnCalls
 pub mod Params
 pub mod Passed
 pub mod Places

@@ -14,7 +14,7 @@ use Rattle.rs_items.specs.Types.{is_record as is_passed, passed, rust_type, rust
 use Rattle.rs_mean.specs.Scalars.{scalar_of}
 
 -- compatible types are both records, or neither is one
-records_alike : (types : CTypes) (counts : ℕ → ℕ → Bool) (first second : CTyForm) (one other : Bool) → forms_agree types counts first second ≡ true → is_record (ty first one) ≡ is_passed (ty second other)
+pub records_alike : (types : CTypes) (counts : ℕ → ℕ → Bool) (first second : CTyForm) (one other : Bool) → forms_agree types counts first second ≡ true → is_record (ty first one) ≡ is_passed (ty second other)
 records_alike types counts void void one other e = refl
 records_alike types counts (basic a) (basic b) one other e = refl
 records_alike types counts (basic a) (enum_type b) one other e = refl

@@ -55,7 +55,7 @@ module _ (x : Around) where
   pub record_there : (type : CTy) (laid : Laid) → extent_in (setting_of x.home.program) type ≡ Some laid → extent_in (setting_in x.s) type ≡ Some laid
   record_there type laid e = subst (λ (program : CProgram). extent_in (setting_of program) type ≡ Some laid) x.means.program e
 
-  to_room : (world : World) (type : CTy) (given : Given) → is_record type ≡ true → GivesRoom x.frame world (type_in x.names type) (x.names.size_of type) given → GivesMissing x.names x.frame world type given
+  pub to_room : (world : World) (type : CTy) (given : Given) → is_record type ≡ true → GivesRoom x.frame world (type_in x.names type) (x.names.size_of type) given → GivesMissing x.names x.frame world type given
   to_room world type given is gives =
       subst (λ (v : Bool). MissingAs v (is_record type) x.frame world (type_in x.names type) (x.names.size_of type) given) (sym (void_record type is))
       (subst (λ (r : Bool). MissingAs false r x.frame world (type_in x.names type) (x.names.size_of type) given) (sym is) gives)

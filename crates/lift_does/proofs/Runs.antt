@@ -66,7 +66,7 @@ pub same_events : (images : Images) (c_world world : World) → WorldsStand imag
 same_events images c_world world stands = ap (map (λ made. made.call)) (sym stands.made)
 
 module _ (x : Around) where
-  flow_behaves : (rest : List Stmt) (flow : Flow) → Behaves Flow (then_on (runs x rest) flow)
+  pub flow_behaves : (rest : List Stmt) (flow : Flow) → Behaves Flow (then_on (runs x rest) flow)
   flow_behaves rest normal = pieces_behave.stmts x.frame x.bodies (stmts rest)
   flow_behaves rest (breaks label) = behaves_pure Flow (breaks label)
   flow_behaves rest (continues label) = behaves_pure Flow (continues label)

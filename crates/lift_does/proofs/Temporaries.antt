@@ -120,14 +120,19 @@ store_comes ty kind at value world after units kind_is put =
     ap (λ (k : Option Scalar). after_step world units (in_memory tt world.held (stored_as world.held.blocks true k (Object at) value))) kind_is
     ∙ ap (λ (found : Result Blocks Fault). after_step world units (in_memory tt world.held (or_cause cause_of found))) put
 
+pub put_comes : (frame : Frame) (name : List ℕ) (one : LocalBlock) (kind : Scalar) (value : Value) (world : World) (after : Blocks) (units : ℕ) → IsLocal frame name one → scalar_of one.ty ≡ Some kind →
+    after_put (blocks_of world) (record { block = one.block; offset = 0 }) kind value ≡ Ok after →
+    seq (run_place frame (Local name)) (λ place. seq (store place value) goes_on) world units ≡ came normal (with_held (with_blocks after world.held) world) units
+unfolding pure
+put_comes frame name one kind value world after units is kind_is put =
+    seq_comes (run_place frame (Local name)) _ world world units (spot one.ty (Object (record { block = one.block; offset = 0 }))) ((place_of_local frame name one world is).runs units)
+    ∙ seq_comes (store (spot one.ty (Object (record { block = one.block; offset = 0 }))) value) goes_on world (with_held (with_blocks after world.held) world) units tt (store_comes one.ty kind (record { block = one.block; offset = 0 }) value world after units kind_is put)
+
 pub assign_comes : (frame : Frame) (name : List ℕ) (one : LocalBlock) (kind : Scalar) (e : Expr) (from : Ty) (value : Value) (world : World) (after : Blocks) (units : ℕ) → IsLocal frame name one → scalar_of one.ty ≡ Some kind →
     GivesAt frame world e from value → after_put (blocks_of world) (record { block = one.block; offset = 0 }) kind value ≡ Ok after →
     run_stmt frame (Assign (Local name) e) world units ≡ came normal (with_held (with_blocks after world.held) world) units
-unfolding pure
 assign_comes frame name one kind e from value world after units is kind_is gives put =
-    seq_comes (run_expr frame e) _ world world units (typed from value) (gives.runs units)
-    ∙ seq_comes (run_place frame (Local name)) _ world world units (spot one.ty (Object (record { block = one.block; offset = 0 }))) ((place_of_local frame name one world is).runs units)
-    ∙ seq_comes (store (spot one.ty (Object (record { block = one.block; offset = 0 }))) value) goes_on world (with_held (with_blocks after world.held) world) units tt (store_comes one.ty kind (record { block = one.block; offset = 0 }) value world after units kind_is put)
+    seq_comes (run_expr frame e) _ world world units (typed from value) (gives.runs units) ∙ put_comes frame name one kind value world after units is kind_is put
 
 pub read_comes : (frame : Frame) (name : List ℕ) (one : LocalBlock) (kind : Scalar) (value : Value) (world : World) → IsLocal frame name one → scalar_of one.ty ≡ Some kind → value_at (blocks_of world) (record { block = one.block; offset = 0 }) kind ≡ Ok value →
     GivesAt frame world (Read (Local name)) one.ty value
@@ -151,6 +156,13 @@ pub record TemporaryHolds (x : Around) (number : ℕ) (ty : Ty) (kind : Scalar) 
   pub kind_is : scalar_of ty ≡ Some kind
   pub found : value_at (blocks_of world) (record { block = local.block; offset = 0 }) kind ≡ Ok value
 
+-- a value is stored in a temporary
+pub record StoresValue (x : Around) (number : ℕ) (ty : Ty) (kind : Scalar) (value : Value) (images : Images) (c_world world : World) : Type 0 where
+  pub after : World
+  pub comes : (units : ℕ) → seq (run_place x.frame (temporary_place x.names number)) (λ place. seq (store place value) goes_on) world units ≡ came normal after units
+  pub reached : Reached x number (suc number) images images c_world world c_world after
+  pub holds : TemporaryHolds x number ty kind value after
+
 pub record StoresTemporary (x : Around) (number : ℕ) (ty : Ty) (kind : Scalar) (e : Expr) (value : Value) (images : Images) (c_world world : World) : Type 0 where
   pub after : World
   pub comes : (units : ℕ) → runs x (Assign (temporary_place x.names number) e ∷ []) world units ≡ came normal after units
@@ -161,9 +173,9 @@ module _ (x : Around) where
   abbrev is_block : ℕ → ℕ → Bool
   is_block block number = block == number
 
-  pub stores_temporary : (number : ℕ) (ty : Ty) (kind : Scalar) (e : Expr) (from : Ty) (value : Value) (images : Images) (c_world world : World) → At x images c_world world →
-      x.kept.temporaries number ≡ Some (record { name = x.names.temporary number; ty = ty }) → scalar_of ty ≡ Some kind → IsValueOf kind value → GivesAt x.frame world e from value → StoresTemporary x number ty kind e value images c_world world
-  stores_temporary number ty kind e from value images c_world world at kept_is kind_is of_kind gives =
+  pub stores_value : (number : ℕ) (ty : Ty) (kind : Scalar) (value : Value) (images : Images) (c_world world : World) → At x images c_world world →
+      x.kept.temporaries number ≡ Some (record { name = x.names.temporary number; ty = ty }) → scalar_of ty ≡ Some kind → IsValueOf kind value → StoresValue x number ty kind value images c_world world
+  stores_value number ty kind value images c_world world at kept_is kind_is of_kind =
       let one : KeptTemporary = record { name = x.names.temporary number; ty = ty } in
       let agrees = at.frames.temporaries number one kept_is in
       let one_local = agrees.local in
@@ -179,8 +191,7 @@ module _ (x : Around) where
       let keeps = stores_aside_keep (length (blocks_of world)) (λ k. one_local.block == k) images c_world.held world.held at.worlds.held.memories.mapped there (scalar_size kind) put.0 writes (λ p vacant. same_number one_local.block) in
       record {
         after = after;
-        comes = λ units. run_one x.frame (Assign (Local one.name) e) world after units
-            (assign_comes x.frame one.name one_local kind e from value world put.0 units agrees.is_local (ap scalar_of agrees.ty_is ∙ kind_is) gives put.1);
+        comes = λ units. put_comes x.frame one.name one_local kind value world put.0 units agrees.is_local (ap scalar_of agrees.ty_is ∙ kind_is) put.1;
         reached = record {
           own = λ k. one_local.block == k;
           are_own = λ block is. record {
@@ -213,6 +224,18 @@ module _ (x : Around) where
 
       number_equal : (n m : ℕ) → (n == m) ≡ true → n ≡ m
       number_equal n m is = grind (arith, nat_tests, is)
+
+  pub stores_temporary : (number : ℕ) (ty : Ty) (kind : Scalar) (e : Expr) (from : Ty) (value : Value) (images : Images) (c_world world : World) → At x images c_world world →
+      x.kept.temporaries number ≡ Some (record { name = x.names.temporary number; ty = ty }) → scalar_of ty ≡ Some kind → IsValueOf kind value → GivesAt x.frame world e from value → StoresTemporary x number ty kind e value images c_world world
+  stores_temporary number ty kind e from value images c_world world at kept_is kind_is of_kind gives =
+      let stored = stores_value number ty kind value images c_world world at kept_is kind_is of_kind in
+      record {
+        after = stored.after;
+        comes = λ units. run_one x.frame (Assign (temporary_place x.names number) e) world stored.after units
+            (seq_comes (run_expr x.frame e) (λ one. seq (run_place x.frame (temporary_place x.names number)) (λ place. seq (store place one.value) goes_on)) world world units (typed from value) (gives.runs units) ∙ stored.comes units);
+        reached = stored.reached;
+        holds = stored.holds;
+      }
 
   -- it is read where temporaries are what they were
   pub reads_staying : (number below : ℕ) (ty : Ty) (kind : Scalar) (value : Value) (world later : World) → number < below → TemporaryHolds x number ty kind value world → TemporariesStay x.kept x.frame below world later →

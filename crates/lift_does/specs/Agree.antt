@@ -1,10 +1,10 @@
 -- When what the names of lifting say is so in a program and its crate (ISO C99, 6.2.1 and 6.2.5; the Rust Reference, "Paths" and "Type layout").
-use Rattle.std.specs.Prelude.{◌≡◌, ℕ, suc, false, List, [], ◌∷◌, map, Some, None}
+use Rattle.std.specs.Prelude.{◌≡◌, ℕ, suc, Bool, false, List, [], ◌∷◌, map, Some, None}
 use Rattle.cr_base.specs.declared.layout.Laid.{Laid}
 use Rattle.cr_base.specs.declared.layout.Spot.{Spot}
 use Rattle.cr_base.specs.declared.scalar.Scalar.{Scalar}
 use Rattle.cx_core.specs.BitFields.{has_bit_fields}
-use Rattle.cx_core.specs.Trees.{CTy, ty, pointer, CFun}
+use Rattle.cx_core.specs.Trees.{CTy, ty, pointer, record_type, CFun}
 use Rattle.cx_core.specs.Typing.{CHome, function_with as c_function_with}
 use Rattle.cx_core.specs.ValidTypes.{IsMemberOf}
 use Rattle.cx_mean.specs.Settings.{scalar_in_type, extent_in}
@@ -69,6 +69,9 @@ pub record NamesMean (s : Setting) (home : CHome) (names : Names) (kept : Functi
   pub sizes : (type : CTy) (laid : Laid) → extent_in (setting_in s) type ≡ Some laid → names.size_of type ≡ laid.size
   pub fields : (holder type : CTy) (spot : Spot) → IsMemberOf s.program.types holder spot type → spot.width ≡ 0 →
       FieldMeans s names holder spot.byte (type_in names type)
+  -- a field that is found by a byte and a type stands there with it
+  pub part_fields : (number : ℕ) (is_const : Bool) (byte : ℕ) (one : Ty) (name : List ℕ) → field_in names (ty (record_type number) is_const) byte one ≡ Some name →
+      FieldMeans s names (ty (record_type number) is_const) byte one
   -- a function that the program defines is kept, with the type that pointers to it have
   pub functions : (number : ℕ) (one : CFun) → c_function_with number s.program.functions ≡ Some one →
       (function : KeptFunction) × (names.functions number ≡ Some function) × FunctionMeans s number function
