@@ -1,4 +1,5 @@
 pub mod Callees
+pub mod Fields
 pub mod Items
 pub mod Keys
 pub mod Laid
