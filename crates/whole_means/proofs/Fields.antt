@@ -102,7 +102,7 @@ named_some (one ∷ members) place (inr there) = by_test (stands_at place.byte p
     by_test true e more = ap is_some (ap (λ t. if t then Some one.name else name_at place.byte place.ty members) e)
     by_test false e more = ap is_some (ap (λ t. if t then Some one.name else name_at place.byte place.ty members) e) ∙ more
 
-plain_among : (known : Knows) (members : List CMember) (spots : List Spot) (index : ℕ) (one : CMember) (spot : Spot) → slice_get members index ≡ Some one → slice_get spots index ≡ Some spot →
+pub plain_among : (known : Knows) (members : List CMember) (spots : List Spot) (index : ℕ) (one : CMember) (spot : Spot) → slice_get members index ≡ Some one → slice_get spots index ≡ Some spot →
     one.bits ≡ None → Among (plain_places (placed_members known members spots)) (record { ty = rust_type (type_names known) one.type; byte = spot.byte })
 plain_among known [] spots index one spot is at plain = absurd cc
 plain_among known (first ∷ members) [] zero one spot is at plain = absurd cc

@@ -5,9 +5,11 @@ pub mod Keys
 pub mod Laid
 pub mod Layouts
 pub mod Lists
+pub mod Means
 pub mod Modules
 pub mod Named
 pub mod Numbers
+pub mod Params
 pub mod Records
 pub mod Rows
 pub mod Things
