@@ -5,6 +5,7 @@ pub mod Keys
 pub mod Laid
 pub mod Layouts
 pub mod Lists
+pub mod Locals
 pub mod Means
 pub mod Modules
 pub mod Named
