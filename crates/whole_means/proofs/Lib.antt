@@ -14,3 +14,4 @@ pub mod Params
 pub mod Records
 pub mod Rows
 pub mod Things
+pub mod Whole
