@@ -13,5 +13,6 @@ pub mod Numbers
 pub mod Params
 pub mod Records
 pub mod Rows
+pub mod Statics
 pub mod Things
 pub mod Whole

@@ -1,3 +1,4 @@
+pub mod Beginning
 pub mod FunctionNames
 pub mod Settings
 pub mod Written
