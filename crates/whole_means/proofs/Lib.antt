@@ -1,3 +1,4 @@
+pub mod Agrees
 pub mod Callees
 pub mod Fields
 pub mod Items
@@ -15,4 +16,5 @@ pub mod Records
 pub mod Rows
 pub mod Statics
 pub mod Things
+pub mod Together
 pub mod Whole

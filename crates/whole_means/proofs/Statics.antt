@@ -192,7 +192,7 @@ module _ (whole : NamedProgram) (bodies : WrittenBodies) where
     pub high : at.block < block + length (statics_in objects)
 
   module _ (is : IsNamed whole) where
-    block_is : (objects : List CObject) (block number : ℕ) (at : Ptr) → ((o : CObject) → Among objects o → Among program.objects o) → slot_of (slots_from (statics_in objects) block) number ≡ Some at →
+    pub block_is : (objects : List CObject) (block number : ℕ) (at : Ptr) → ((o : CObject) → Among objects o → Among program.objects o) → slot_of (slots_from (statics_in objects) block) number ≡ Some at →
         IsBlock objects number at block
     block_is [] block number at all found = absurd cc
     block_is (o ∷ objects) block number at all found = by_puts o.puts refl found (λ b rest. block_is objects b number at (λ p there. all p (inr there)) rest)

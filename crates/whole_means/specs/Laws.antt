@@ -1,0 +1,41 @@
+-- Laws of what the names of a written crate mean (ISO C99, 6.2.1 and 6.2.5; the Rust Reference, "Paths" and "Type layout").
+use Rattle.std.specs.Prelude.{◌≡◌, ℕ, List, ◌++◌, length, Some}
+use Rattle.cx_core.specs.Trees.{CFun}
+use Rattle.cx_core.specs.Typing.{CHome}
+use Rattle.cx_mean.specs.Operands.{Frame as CFrame}
+use Rattle.lift_calls.specs.Frames.{FunctionNames, NamesApart}
+use Rattle.lift_calls.specs.Programs.{ProgramAgrees}
+use Rattle.lift_does.specs.Agree.{AreKeptFrom, NamesMean}
+use Rattle.lift_forms.specs.Places.{Kept}
+use Rattle.rs_text.specs.Tree.{Ty}
+use Rattle.whole_bodies.specs.Bodies.{ShapeOf}
+use Rattle.whole_bodies.specs.Names.{held_in_body, locals_of, names_in}
+use Rattle.whole_means.specs.Beginning.{StandUnitByUnit, first_images, first_statics}
+use Rattle.whole_means.specs.FunctionNames.{HasFewNames, kept_names}
+use Rattle.whole_means.specs.Settings.{modules_of, setting_of}
+use Rattle.whole_means.specs.Written.{IsNamed}
+use Rattle.whole_names.specs.Kept.{LocalNames, NamedProgram, types_of}
+
+-- the names of a module mean what they say, where those that a function keeps of objects are these
+abbrev pub NamesMeanInCrate : Type 0
+NamesMeanInCrate =
+    (whole : NamedProgram) (shape : ShapeOf) (statics : CFrame) (unit : ℕ) (own : LocalNames) (home : CHome) (kept : FunctionNames) → IsNamed whole → home.program ≡ whole.program →
+    kept.types ≡ types_of whole → ((number : ℕ) → (names_in whole unit own).objects number ≡ kept.objects number) → NamesMean (setting_of whole shape statics) home (names_in whole unit own) kept
+
+-- what the names of a function are
+pub record NamesOfBodies : Type 0 where
+  -- an object that is kept has this name in the function's text
+  pub objects : (whole : NamedProgram) (fun : CFun) (number : ℕ) (it : Kept) → (kept_names whole fun).objects number ≡ Some it → (names_in whole fun.unit (locals_of whole fun)).objects number ≡ Some it
+  -- no two names are one
+  pub apart : (whole : NamedProgram) (fun : CFun) → IsNamed whole → HasFewNames whole fun → NamesApart (kept_names whole fun)
+  -- each stretch of the temporaries of held operands is kept
+  pub temporaries : (whole : NamedProgram) (fun : CFun) (front part behind : List Ty) → held_in_body whole fun ≡ front ++ (part ++ behind) →
+      AreKeptFrom (names_in whole fun.unit (locals_of whole fun)) (kept_names whole fun) (length front) part
+
+-- a program agrees with its crate as it begins
+pub record ProgramsAgree : Type 0 where
+  pub agrees : (whole : NamedProgram) (shape : ShapeOf) → IsNamed whole → StandUnitByUnit whole.program →
+      ProgramAgrees (setting_of whole shape (first_statics whole.program)) (first_images whole (modules_of whole shape))
+  -- no two functions have one image
+  pub functions_apart : (whole : NamedProgram) (shape : ShapeOf) → IsNamed whole → (one other place : ℕ) → (first_images whole (modules_of whole shape)).functions one ≡ Some place →
+      (first_images whole (modules_of whole shape)).functions other ≡ Some place → one ≡ other

@@ -1,0 +1,16 @@
+ghost use Rattle.whole_means.specs.Laws.{NamesMeanInCrate, NamesOfBodies, ProgramsAgree};
+
+/// Law: the names of a module of the written crate mean what they say.
+pub fn names_mean()
+    ensures { NamesMeanInCrate }
+{}
+
+/// Law: no two names of a function are one, and what a function keeps has its name.
+pub fn names_of_bodies()
+    ensures { NamesOfBodies }
+{}
+
+/// Law: a program agrees with its crate on functions and static objects as it begins.
+pub fn programs_agree()
+    ensures { ProgramsAgree }
+{}
