@@ -1,15 +1,14 @@
 -- As a program begins it agrees with its crate on functions and static objects.
-use Rattle.std.proofs.Common.{arith, ◌≡◌, ◌<◌, ◌≤◌, ℕ, zero, suc, ◌+◌, ◌==◌, Bool, true, false, if◌then◌else◌, List, [], ◌∷◌, ◌++◌, map, length, Option, Some, None, slice_get, is_some, IsSome, option_map, refl, sym, ap, subst, ◌∙◌, ◌⊎◌, inl, inr}
-use Rattle.cx_core.specs.Trees.{CFun, CObject, CPuts, CProgram}
+use Rattle.std.proofs.Common.{arith, ◌≡◌, ◌<◌, ℕ, zero, suc, ◌+◌, ◌==◌, List, length, Option, Some, None, slice_get, is_some, option_map, refl, sym, ap, subst, ◌∙◌}
+use Rattle.cx_core.specs.Trees.{CFun, CPuts, CProgram}
 use Rattle.cx_core.specs.Typing.{function_with, object_with}
 use Rattle.cx_mean.specs.Operands.{slot_of}
 use Rattle.cx_mean.specs.State.{statics_in}
 use Rattle.lift_calls.specs.Programs.{FunctionAgrees, ProgramAgrees, Setting, StaticAgrees}
 use Rattle.mem_bytes.specs.declared.value.Ptr.{Ptr}
 use Rattle.rs_items.specs.Types.{rust_type}
-use Rattle.rs_mean.specs.Lookups.{OwnFunction, OwnStatic, function_number, function_with as crate_function_with, functions_of, static_from, static_home, statics_of}
+use Rattle.rs_mean.specs.Lookups.{OwnFunction, OwnStatic, function_number, functions_of, static_from}
 use Rattle.rs_text.specs.Tree.{ModuleTree}
-use Rattle.rs_tree.specs.declared.ty.RPath.{RPath}
 use Rattle.whole_bodies.specs.Bodies.{ShapeOf, written_bodies}
 use Rattle.whole_items.specs.Items.{WrittenBodies, function_tree, module_tree}
 use Rattle.whole_means.proofs.Callees.{function_number_same, one_key, same_function}
@@ -18,7 +17,7 @@ use Rattle.whole_means.proofs.Lists.{Among, find_there}
 use Rattle.whole_means.proofs.Modules.{modules_apart, modules_by}
 use Rattle.whole_means.proofs.Named.{HasName}
 use Rattle.whole_means.proofs.Numbers.{function_found, function_numbered, function_unit, object_unit, own_of}
-use Rattle.whole_means.proofs.Statics.{block_is, own_static, statics_are}
+use Rattle.whole_means.proofs.Statics.{block_is, statics_are}
 use Rattle.whole_means.proofs.Things.{function_named, object_there}
 use Rattle.whole_means.proofs.Whole.{modules_are}
 use Rattle.whole_means.specs.Beginning.{StandUnitByUnit, first_images, first_statics, numbers_from}
@@ -74,8 +73,8 @@ module _ (whole : NamedProgram) (is : IsNamed whole) (bodies : WrittenBodies) wh
   same_path f g there also home name =
       let unit : g.unit ≡ f.unit = modules_apart whole is g.unit f.unit (function_unit whole is bodies g also) (function_unit whole is bodies f there) home in
       let key = one_key whole is bodies f.unit (a_function g.function) (a_function f.function)
-          (subst (λ n. HasName whole n (a_function g.function)) unit (function_named whole is g also)) (function_named whole is f there)
-          (ap (λ n. name_in whole n (a_function g.function)) (sym unit) ∙ name) in
+      (subst (λ n. HasName whole n (a_function g.function)) unit (function_named whole is g also)) (function_named whole is f there)
+      (ap (λ n. name_in whole n (a_function g.function)) (sym unit) ∙ name) in
       same_function whole is bodies f.unit f g there also (function_number_same g.function f.function key)
 
   images_by : (one other place : ℕ) (first second : Option CFun) → function_with one program.functions ≡ first → function_with other program.functions ≡ second →
@@ -92,7 +91,7 @@ module _ (whole : NamedProgram) (is : IsNamed whole) (bodies : WrittenBodies) wh
       let f_is : f_number.place ≡ place = cc (f_place) in
       let g_is : g_number.place ≡ place = cc (g_place) in
       let own_some : Some (own_of whole is bodies f) ≡ Some (own_of whole is bodies g) =
-          sym f_number.at_place ∙ ap (slice_get (functions_of modules)) (f_is ∙ sym g_is) ∙ g_number.at_place in
+      sym f_number.at_place ∙ ap (slice_get (functions_of modules)) (f_is ∙ sym g_is) ∙ g_number.at_place in
       let own : own_of whole is bodies f ≡ own_of whole is bodies g = cc (own_some) in
       let same = same_path g f g_there.0 f_there.0 (ap (λ (o : OwnFunction). o.home) own) (ap (λ (o : OwnFunction). o.fun.name) own) in
       sym (number_same f.function one f_there.1) ∙ ap (λ (h : CFun). h.function) same ∙ number_same g.function other g_there.1

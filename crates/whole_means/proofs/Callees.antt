@@ -1,23 +1,22 @@
 -- Functions are found by their names: those that the program defines, and external ones where a unit declares them.
-use Rattle.std.proofs.Common.{arith, ◌≡◌, ◌<◌, ◌≤◌, ℕ, zero, suc, ◌+◌, ◌==◌, Bool, true, false, not, if◌then◌else◌, List, [], ◌∷◌, ◌++◌, map, length, codes, Option, Some, None, slice_get, find, refl, sym, ap, subst, ◌∙◌, ◌⊎◌, inl, inr, eqb}
-use Rattle.std.specs.List.{IsDistinct, flat_map}
+use Rattle.std.proofs.Common.{◌≡◌, ℕ, ◌==◌, true, false, List, [], ◌∷◌, map, Some, refl, sym, ap, subst, ◌∙◌, inl, inr, eqb}
+use Rattle.std.specs.List.{flat_map}
 use Rattle.std.specs.Str.{bytes_eq}
 use Rattle.cx_core.specs.Trees.{CTyForm, void, basic, enum_type, pointer, array, record_type, function, CFun, COuter, CProgram, form_of_type}
 use Rattle.cx_core.specs.Typing.{function_with, outer_with}
-use Rattle.rs_mean.specs.Lookups.{Callee, outer, own, callee_among, callee_at, callee_name, callees_of, items_in}
-use Rattle.rs_text.specs.Tree.{FunctionItem, FunctionTree, ExternItem, ItemTree, ModuleTree, OuterTree, RecordItem, StaticItem}
-use Rattle.whole_items.specs.Items.{WrittenBodies, calloc_outer, function_tree, initialiser_tree, is_declared, module_tree, outer_of_form, outers_of, without_params}
+use Rattle.rs_mean.specs.Lookups.{Callee, outer, own, callee_among, callee_name, callees_of}
+use Rattle.rs_text.specs.Tree.{FunctionItem, FunctionTree, ExternItem, ItemTree, OuterTree}
+use Rattle.whole_items.specs.Items.{WrittenBodies, function_tree, initialiser_tree, module_tree, outer_of_form, outers_of, without_params}
 use Rattle.whole_means.proofs.Items.{IsOuter, Stands, extern_item_there, function_item_there, item_stands, outer_stands}
 use Rattle.whole_means.proofs.Items.IsOuter.{declared, calloc, bare}
 use Rattle.whole_means.proofs.Items.Stands.{is_record, is_static, is_extern, is_function, is_initialiser}
-use Rattle.whole_means.proofs.Keys.{distinct_front, key_self, key_same, keys_apart, no_initialiser, number_same, number_self}
+use Rattle.whole_means.proofs.Keys.{distinct_front, key_self, keys_apart, no_initialiser, number_same, number_self}
 use Rattle.whole_means.proofs.Lists.{Among, among_flat, among_flat_in, among_map, among_map_in, find_only, find_there, texts_equal, texts_same}
-use Rattle.whole_means.proofs.Modules.{items_found, modules_by}
 use Rattle.whole_means.proofs.Named.{HasName, key_named}
 use Rattle.whole_means.proofs.Things.{function_named, function_there}
 use Rattle.whole_means.specs.Written.{IsNamed}
-use Rattle.whole_names.specs.Keys.{NameKey, a_function, an_object, a_record, a_calloc, a_bare_function, module_keys, same_key}
-use Rattle.whole_names.specs.Kept.{NamedProgram, module_of, name_in}
+use Rattle.whole_names.specs.Keys.{NameKey, a_function, a_calloc, a_bare_function, module_keys, same_key}
+use Rattle.whole_names.specs.Kept.{NamedProgram, name_in}
 
 outer_name : (whole : NamedProgram) (symbol name : List ℕ) (form : CTyForm) (tree : OuterTree) → Among (outer_of_form whole symbol name form) tree → tree.name ≡ name
 outer_name whole symbol name (function result params variadic) tree (inl same) = sym (ap (λ (t : OuterTree). t.name) same)
@@ -55,8 +54,8 @@ module _ (whole : NamedProgram) (is : IsNamed whole) (bodies : WrittenBodies) wh
   defined_or_declared f number one there found same =
       let declared_there = find_there (λ (o : COuter). o.function == number) program.externals one found in
       let apart : eqb f.function one.function ≡ false =
-          distinct_front eqb (map (λ (g : CFun). g.function) program.functions) (map (λ (o : COuter). o.function) program.externals) f.function one.function
-          is.linked.numbers.functions_differ (among_map_in (λ (g : CFun). g.function) program.functions f there) (among_map_in (λ (o : COuter). o.function) program.externals one declared_there.0) in
+      distinct_front eqb (map (λ (g : CFun). g.function) program.functions) (map (λ (o : COuter). o.function) program.externals) f.function one.function
+      is.linked.numbers.functions_differ (among_map_in (λ (g : CFun). g.function) program.functions f there) (among_map_in (λ (o : COuter). o.function) program.externals one declared_there.0) in
       let equal : f.function ≡ one.function = sym (number_same one.function number declared_there.1 ∙ same) in
       let h : false ≡ true = sym apart ∙ ap (λ n. eqb n one.function) equal ∙ number_self one.function in
       absurd cc
@@ -91,7 +90,7 @@ module _ (whole : NamedProgram) (is : IsNamed whole) (bodies : WrittenBodies) wh
         let equal : one ≡ other = cc (which) in
         one_outer whole other.name (name_in whole unit (a_function m)) (form_of_type other.type) t u
         (subst (λ (o : COuter). Among (outer_of_form whole o.name (name_in whole unit (a_function m)) (form_of_type o.type)) t) equal
-            (subst (λ k. Among (outer_of_form whole one.name (name_in whole unit (a_function k)) (form_of_type one.type)) t) number among)) among_too
+        (subst (λ k. Among (outer_of_form whole one.name (name_in whole unit (a_function k)) (form_of_type one.type)) t) number among)) among_too
     same_outer t u (declared n one there found so among) (calloc there_too same_too) same = absurd cc
     same_outer t u (declared n one there found so among) (bare m other full there_too found_too among_too same_too) same = absurd cc
     same_outer t u (calloc there equal) (declared m other there_too found_too so_too among_too) same = absurd cc
@@ -105,9 +104,9 @@ module _ (whole : NamedProgram) (is : IsNamed whole) (bodies : WrittenBodies) wh
         let same_one : one ≡ other = cc (which) in
         sym equal
         ∙ ap without_params
-            (one_outer whole other.name (name_in whole unit (a_bare_function m)) (form_of_type other.type) full full_too
-                (subst (λ (o : COuter). Among (outer_of_form whole o.name (name_in whole unit (a_bare_function m)) (form_of_type o.type)) full) same_one
-                    (subst (λ k. Among (outer_of_form whole one.name (name_in whole unit (a_bare_function k)) (form_of_type one.type)) full) number among)) among_too)
+        (one_outer whole other.name (name_in whole unit (a_bare_function m)) (form_of_type other.type) full full_too
+        (subst (λ (o : COuter). Among (outer_of_form whole o.name (name_in whole unit (a_bare_function m)) (form_of_type o.type)) full) same_one
+        (subst (λ k. Among (outer_of_form whole one.name (name_in whole unit (a_bare_function k)) (form_of_type one.type)) full) number among)) among_too)
         ∙ equal_too
 
     -- what can be called in a module
@@ -187,13 +186,14 @@ module _ (whole : NamedProgram) (is : IsNamed whole) (bodies : WrittenBodies) wh
       where
         of : IsOuter whole bodies unit tree
         of = outer_stands whole bodies unit tree there
+
         alone : (callee : Callee) → CalleeIs callee → callee_name callee ≡ tree.name → callee ≡ outer tree
         alone callee (of_function g among at same) named =
             let name : name_in whole unit (key_of tree of) ≡ name_in whole unit (a_function g.function) =
-                sym (key_name tree of) ∙ sym named ∙ ap callee_name same ∙ ap (λ n. name_in whole n (a_function g.function)) at in
+            sym (key_name tree of) ∙ sym named ∙ ap callee_name same ∙ ap (λ n. name_in whole n (a_function g.function)) at in
             absurd (key_apart tree of g among
-                (one_key (key_of tree of) (a_function g.function) (key_named whole unit (key_of tree of) (key_there tree of))
-                    (subst (λ n. HasName whole n (a_function g.function)) at (function_named whole is g among)) name))
+            (one_key (key_of tree of) (a_function g.function) (key_named whole unit (key_of tree of) (key_there tree of))
+            (subst (λ n. HasName whole n (a_function g.function)) at (function_named whole is g among)) name))
         alone callee (of_initialiser same) named =
             let key = key_named whole unit (key_of tree of) (key_there tree of) in
             absurd (no_initialiser whole is unit (key_of tree of) (key.name_is ∙ ap Some (sym (key_name tree of) ∙ sym named ∙ ap callee_name same)))
@@ -201,4 +201,4 @@ module _ (whole : NamedProgram) (is : IsNamed whole) (bodies : WrittenBodies) wh
             let other_of = outer_stands whole bodies unit other among in
             let name : name_in whole unit (key_of other other_of) ≡ name_in whole unit (key_of tree of) = sym (key_name other other_of) ∙ ap callee_name (sym same) ∙ named ∙ key_name tree of in
             same ∙ ap outer (same_outer other tree other_of of
-                (one_key (key_of other other_of) (key_of tree of) (key_named whole unit (key_of other other_of) (key_there other other_of)) (key_named whole unit (key_of tree of) (key_there tree of)) name))
+            (one_key (key_of other other_of) (key_of tree of) (key_named whole unit (key_of other other_of) (key_there other other_of)) (key_named whole unit (key_of tree of) (key_there tree of)) name))

@@ -1,34 +1,31 @@
 -- The members of structures and unions are fields of their records, where they stand in C and with their Rust types (ISO C99, 6.5.2.3; the Rust Reference, "The C representation").
-use Rattle.std.proofs.Common.{arith, ◌≡◌, ◌<◌, ◌≤◌, ℕ, zero, suc, ◌+◌, ◌*◌, ◌^◌, ◌==◌, Bool, true, false, ◌&&◌, if◌then◌else◌, List, [], ◌∷◌, ◌++◌, map, length, Option, Some, None, slice_get, is_some, IsSome, IfSome, All, option_map, refl, sym, ap, subst, ◌∙◌, ◌⊎◌, inl, inr}
+use Rattle.std.proofs.Common.{arith, ◌≡◌, ℕ, zero, suc, ◌==◌, Bool, true, false, if◌then◌else◌, List, [], ◌∷◌, map, Option, Some, None, slice_get, is_some, IsSome, refl, sym, ap, subst, ◌∙◌, inl, inr}
 use Rattle.std.proofs.Math.Path.{fun_ext}
 use Rattle.std.proofs.lemmas.Bool.Decides.{nat_tests}
-use Rattle.std.proofs.lemmas.List.Elements.{recursion_from_All}
 use Rattle.std.specs.List.{AllByRecursion}
-use Rattle.std.specs.Option.{option_and_then, option_flatten}
-use Rattle.cr_base.specs.Layout.{after, no_front, spot as spot_at, spots_behind, spots_of}
+use Rattle.cr_base.specs.Layout.{after, no_front, spot as spot_at, spots_behind}
 use Rattle.cr_base.specs.declared.layout.Front.{Front}
 use Rattle.cr_base.specs.declared.layout.Laid.{Laid}
 use Rattle.cr_base.specs.declared.layout.Piece.{Piece}
 use Rattle.cr_base.specs.declared.layout.Piece.TheVariants.{Plain, Bits}
 use Rattle.cr_base.specs.declared.layout.Spot.{Spot}
-use Rattle.cx_core.specs.Layouts.{CLayouts, CRow, layouts_of, piece, piece_of, pieces_of, put_front, row_at, row_of, row_of_pieces, whole_extent}
-use Rattle.cx_core.specs.Trees.{CMember, CRecord, CTy, ty, CTyForm, void, basic, enum_type, pointer, array, record_type, function, CTypes, form_of_type, is_const_type}
-use Rattle.cx_core.specs.ValidTypes.{AreTypes, IsMemberOf, member_of, spot_of, with_const}
-use Rattle.cx_typed_work.proofs.Rows.{map_found, some_same}
+use Rattle.cx_core.specs.Layouts.{CLayouts, piece, piece_of, pieces_of, put_front, whole_extent}
+use Rattle.cx_core.specs.Trees.{CMember, CTy, ty, void, basic, enum_type, pointer, array, record_type, function}
+use Rattle.cx_core.specs.ValidTypes.{with_const}
+use Rattle.cx_typed_work.proofs.Rows.{map_found}
 use Rattle.lift_forms.proofs.SameTypes.{both, both_are_true, same_itself, type_is}
 use Rattle.rs_items.specs.Known.{Knows, MemberField}
-use Rattle.rs_items.specs.Records.{PlacedMember, fields_walk, placed_member, placed_members}
+use Rattle.rs_items.specs.Records.{placed_members}
 use Rattle.rs_items.specs.Types.{TypeNames, array_or_void, enum_integer, record_path as path_known, rust_type, type_names}
-use Rattle.rs_items.specs.declared.known.Named.TheVariants.{Record, Enum}
+use Rattle.rs_items.specs.declared.known.Named.TheVariants.{Enum}
 use Rattle.rs_items_fields.specs.Fields.{name_at, stands_at}
-use Rattle.rs_items_rules.proofs.Places.{all_places}
 use Rattle.rs_items_rules.specs.LawsRecords.{StandsIn, place_of, plain_places}
 use Rattle.rs_mean.specs.Layout.{FieldPlace, field_behind}
 use Rattle.rs_mean.specs.Scalars.{same_type}
 use Rattle.rs_text.specs.Tree.{FieldTree, Ty}
 use Rattle.rs_text.specs.declared.integer.IntegerTy.{IntegerTy}
 use Rattle.rs_tree.specs.declared.ty.RPath.{RPath}
-use Rattle.whole_means.proofs.Lists.{Among, among_map_in}
+use Rattle.whole_means.proofs.Lists.{Among}
 use Rattle.whole_names.specs.Kept.{LocalNames, NamedProgram, enum_thing, enum_type as kept_enum, known_thing, record_path, record_thing, types_of}
 
 -- ---- types by what is known
@@ -112,7 +109,7 @@ plain_among known (first ∷ members) (its ∷ spots) zero one spot is at plain 
     let equal : its ≡ spot = cc (at) in
     first_place first its first.bits refl (ap (λ (m : CMember). m.bits) same ∙ plain)
     (ap (λ (m : CMember). record { ty = rust_type (type_names known) m.type; byte = its.byte }) same
-        ∙ ap (λ (s : Spot). record { ty = rust_type (type_names known) one.type; byte = s.byte }) equal)
+    ∙ ap (λ (s : Spot). record { ty = rust_type (type_names known) one.type; byte = s.byte }) equal)
   where
     first_place : (m : CMember) (s : Spot) (bits : Option ℕ) → m.bits ≡ bits → bits ≡ None → {place : FieldPlace} → record { ty = rust_type (type_names known) m.type; byte = s.byte } ≡ place →
         Among (plain_places (placed_members known (m ∷ members) (s ∷ spots))) place
@@ -125,7 +122,7 @@ plain_among known (first ∷ members) (its ∷ spots) (suc index) one spot is at
   where
     later : (bits : Option ℕ) → Among (plain_places (placed_members known members spots)) (record { ty = rust_type (type_names known) one.type; byte = spot.byte }) →
         Among (elim bits as (λ _. List FieldPlace) [ None ↦ record { ty = rust_type (type_names known) first.type; byte = its.byte } ∷ plain_places (placed_members known members spots) | Some width ↦ plain_places (placed_members known members spots) ])
-            (record { ty = rust_type (type_names known) one.type; byte = spot.byte })
+        (record { ty = rust_type (type_names known) one.type; byte = spot.byte })
     later None there = inr there
     later (Some width) there = there
 

@@ -1,6 +1,5 @@
 -- What stands in the module of a unit.
-use Rattle.std.proofs.Common.{arith, ◌≡◌, ◌<◌, ◌≤◌, ℕ, zero, suc, ◌+◌, ◌==◌, Bool, true, false, not, if◌then◌else◌, List, [], ◌∷◌, ◌++◌, map, length, codes, Option, Some, None, slice_get, find, refl, sym, ap, subst, ◌∙◌, ◌⊎◌, inl, inr}
-use Rattle.std.specs.List.{flat_map}
+use Rattle.std.proofs.Common.{◌≡◌, ℕ, ◌==◌, Bool, true, false, if◌then◌else◌, List, [], ◌∷◌, ◌++◌, map, Option, Some, None, slice_get, refl, sym, ap, subst, ◌∙◌, ◌⊎◌, inl, inr}
 use Rattle.std.specs.Option.{option_flatten}
 use Rattle.cx_core.specs.Layouts.{CRow, layouts_of, row_at}
 use Rattle.cx_core.specs.Trees.{CFun, CObject, COuter, CPuts, CRecord, CProgram, form_of_type}
@@ -92,12 +91,15 @@ module _ (whole : NamedProgram) (bodies : WrittenBodies) (unit : ℕ) where
       fourth (inl there) =
           let one = among_flat (function_of_unit whole bodies unit) program.functions item there in function_stands one.from (one.from.unit == unit) item refl one.there one.made
       fourth (inr there) = end_stands item there
+
       third : Among (extern_items (outers_of whole unit)) item ⊎ Among (function_items whole bodies unit ++ ends) item → Stands item
       third (inl there) = extern_stands (outers_of whole unit) item refl there
       third (inr there) = fourth (among_cases (function_items whole bodies unit) ends item there)
+
       second : Among (static_items whole unit) item ⊎ Among (extern_items (outers_of whole unit) ++ (function_items whole bodies unit ++ ends)) item → Stands item
       second (inl there) = let one = among_flat (static_of whole unit) program.objects item there in static_of_unit one.from (one.from.unit == unit) item refl one.there one.made
       second (inr there) = third (among_cases (extern_items (outers_of whole unit)) (function_items whole bodies unit ++ ends) item there)
+
       first : Among (record_items whole unit) item ⊎ Among (static_items whole unit ++ (extern_items (outers_of whole unit) ++ (function_items whole bodies unit ++ ends))) item → Stands item
       first (inl there) =
           let one = among_flat (λ number. record_items_of whole unit number (option_flatten (slice_get program.types.records number))) (order_of program unit).completed item there in
@@ -111,28 +113,28 @@ module _ (whole : NamedProgram) (bodies : WrittenBodies) (unit : ℕ) where
       let item : ItemTree = FunctionItem (function_tree whole f (bodies.of_function f)) in
       let test : (f.unit == unit) ≡ true = ap (λ n. n == unit) here ∙ number_self unit in
       let made : Among (function_of_unit whole bodies unit f) item =
-          subst (λ (items : List ItemTree). Among items item) (sym (ap (λ t. if t then FunctionItem (function_tree whole f (bodies.of_function f)) ∷ [] else []) test)) (inl refl) in
+      subst (λ (items : List ItemTree). Among items item) (sym (ap (λ t. if t then FunctionItem (function_tree whole f (bodies.of_function f)) ∷ [] else []) test)) (inl refl) in
       among_right (record_items whole unit) (static_items whole unit ++ (extern_items (outers_of whole unit) ++ (function_items whole bodies unit ++ ends))) item
       (among_right (static_items whole unit) (extern_items (outers_of whole unit) ++ (function_items whole bodies unit ++ ends)) item
-          (among_right (extern_items (outers_of whole unit)) (function_items whole bodies unit ++ ends) item
-              (among_left (function_items whole bodies unit) ends item (among_flat_in (function_of_unit whole bodies unit) program.functions f item there made))))
+      (among_right (extern_items (outers_of whole unit)) (function_items whole bodies unit ++ ends) item
+      (among_left (function_items whole bodies unit) ends item (among_flat_in (function_of_unit whole bodies unit) program.functions f item there made))))
 
   pub static_item_there : (o : CObject) (puts : CPuts) → Among program.objects o → o.unit ≡ unit → o.puts ≡ Some puts → Among (module_tree whole bodies unit).items (StaticItem (static_tree whole o puts))
   static_item_there o puts there here is =
       let item : ItemTree = StaticItem (static_tree whole o puts) in
       let test : (o.unit == unit) ≡ true = ap (λ n. n == unit) here ∙ number_self unit in
       let made : Among (static_of whole unit o) item =
-          subst (λ (items : List ItemTree). Among items item) (sym (ap (λ t. if t then static_with whole o o.puts else []) test ∙ ap (static_with whole o) is)) (inl refl) in
+      subst (λ (items : List ItemTree). Among items item) (sym (ap (λ t. if t then static_with whole o o.puts else []) test ∙ ap (static_with whole o) is)) (inl refl) in
       among_right (record_items whole unit) (static_items whole unit ++ (extern_items (outers_of whole unit) ++ (function_items whole bodies unit ++ ends))) item
       (among_left (static_items whole unit) (extern_items (outers_of whole unit) ++ (function_items whole bodies unit ++ ends)) item
-          (among_flat_in (static_of whole unit) program.objects o item there made))
+      (among_flat_in (static_of whole unit) program.objects o item there made))
 
   pub record_item_there : (number : ℕ) (one : CRecord) (row : CRow) → Among (order_of program unit).completed number → option_flatten (slice_get program.types.records number) ≡ Some one →
       row_at (layouts_of program.types) number ≡ Some row → Among (module_tree whole bodies unit).items (RecordItem (record_written whole unit one row))
   record_item_there number one row done is laid =
       let item : ItemTree = RecordItem (record_written whole unit one row) in
       let made : Among (record_items_of whole unit number (option_flatten (slice_get program.types.records number))) item =
-          subst (λ (items : List ItemTree). Among items item) (sym (ap (record_items_of whole unit number) is ∙ ap (record_with_row whole number unit one) laid)) (inl refl) in
+      subst (λ (items : List ItemTree). Among items item) (sym (ap (record_items_of whole unit number) is ∙ ap (record_with_row whole number unit one) laid)) (inl refl) in
       among_left (record_items whole unit) (static_items whole unit ++ (extern_items (outers_of whole unit) ++ (function_items whole bodies unit ++ ends))) item
       (among_flat_in (λ n. record_items_of whole unit n (option_flatten (slice_get program.types.records n))) (order_of program unit).completed number item done made)
 
@@ -145,7 +147,7 @@ module _ (whole : NamedProgram) (bodies : WrittenBodies) (unit : ℕ) where
       let item : ItemTree = ExternItem (outers_of whole unit) in
       among_right (record_items whole unit) (static_items whole unit ++ (extern_items (outers_of whole unit) ++ (function_items whole bodies unit ++ ends))) item
       (among_right (static_items whole unit) (extern_items (outers_of whole unit) ++ (function_items whole bodies unit ++ ends)) item
-          (among_left (extern_items (outers_of whole unit)) (function_items whole bodies unit ++ ends) item (extern_there (outers_of whole unit) tree there)))
+      (among_left (extern_items (outers_of whole unit)) (function_items whole bodies unit ++ ends) item (extern_there (outers_of whole unit) tree there)))
 
   -- ---- external functions
 

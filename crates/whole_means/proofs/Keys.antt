@@ -1,5 +1,5 @@
 -- No two keys of a module have one name, and no two functions, objects or external functions have one number.
-use Rattle.std.proofs.Common.{arith, ◌≡◌, ◌<◌, ℕ, zero, suc, ◌==◌, Bool, true, false, not, ◌&&◌, ◌||◌, if◌then◌else◌, List, [], ◌∷◌, ◌++◌, map, filter, codes, Option, Some, None, find, refl, sym, ap, subst, ◌∙◌, ◌⊎◌, inl, inr, eqb}
+use Rattle.std.proofs.Common.{arith, ◌≡◌, ℕ, ◌==◌, Bool, true, false, not, ◌&&◌, ◌||◌, if◌then◌else◌, List, [], ◌∷◌, ◌++◌, map, filter, codes, Option, Some, None, find, refl, sym, ap, subst, ◌∙◌, ◌⊎◌, inl, inr, eqb}
 use Rattle.std.proofs.lemmas.Bool.{and_parts, not-true}
 use Rattle.std.proofs.lemmas.Bool.Decides.{nat_tests}
 use Rattle.std.proofs.lemmas.Map.Keys.{IsDistinct-head, IsDistinct-tail}
@@ -7,15 +7,14 @@ use Rattle.std.specs.List.{AllByRecursion, IsDistinct, list_any}
 use Rattle.std.specs.Str.{bytes_eq}
 use Rattle.cx_core.specs.Linked.{IsLinked, is_external, names_with}
 use Rattle.cx_core.specs.Trees.{CDeclaredOrder, CFun, CObject, COuter, CProgram, CPuts, CStmt, CTy, CTypes}
-use Rattle.cx_core.specs.Typing.{function_with, object_with, outer_with}
 use Rattle.cx_core.specs.declared.program.Linkage.{Linkage}
 use Rattle.cx_core.specs.declared.program.Linkage.TheVariants.{External, Internal, Nothing}
 use Rattle.rs_text.specs.Valid.{all_differ}
-use Rattle.whole_means.proofs.Lists.{Among, among_cases, among_filter, among_left, among_map, among_map_in, among_right, find_only, find_there, texts_equal, texts_same}
+use Rattle.whole_means.proofs.Lists.{Among, among_filter, among_left, among_map, among_map_in, among_right, texts_equal, texts_same}
 use Rattle.whole_means.specs.Written.{IsNamed}
 use Rattle.whole_names.proofs.Named.{of_modules}
 use Rattle.whole_names.specs.Keys.{NameKey, a_function, an_object, a_record, a_calloc, a_bare_function, same_key, entries_of, is_entry, is_external as names_external, module_keys}
-use Rattle.whole_names.specs.Kept.{NamedProgram, name_in}
+use Rattle.whole_names.specs.Kept.{NamedProgram}
 use Rattle.whole_names.specs.ModuleNames.{GivenName, entry_names, given_from, module_names, name_among, names_only, own_names, taken_names}
 
 pub number_same : (one other : ℕ) → (one == other) ≡ true → one ≡ other
@@ -86,7 +85,7 @@ numbered {A} number_of (y ∷ xs) more x distinct (inl same) =
     ap (λ t. if t then Some y else find (λ one. number_of one == number_of x) xs) (ap (λ (z : A). number_of z == number_of x) same ∙ number_self (number_of x)) ∙ ap Some same
 numbered {A} number_of (y ∷ xs) more x distinct (inr there) =
     let apart : eqb (number_of y) (number_of x) ≡ false =
-        distinct_first eqb (number_of y) (map number_of xs ++ more) (number_of x) distinct (among_left (map number_of xs) more (number_of x) (among_map_in number_of xs x there)) in
+    distinct_first eqb (number_of y) (map number_of xs ++ more) (number_of x) distinct (among_left (map number_of xs) more (number_of x) (among_map_in number_of xs x there)) in
     ap (λ t. if t then Some y else find (λ one. number_of one == number_of x) xs) apart
     ∙ numbered number_of xs more x (IsDistinct-tail eqb (number_of y) (map number_of xs ++ more) distinct) there
 
@@ -110,8 +109,10 @@ given_apart (it ∷ given) one other differ x first second =
   where
     here : (key : NameKey) → same_key key it.key ≡ true → name_among key (it ∷ given) ≡ Some x → it.name ≡ x
     here key e found = let h : Some it.name ≡ Some x = sym (ap (λ t. if t then Some it.name else name_among key given) e) ∙ found in cc (h)
+
     later : (key : NameKey) → same_key key it.key ≡ false → name_among key (it ∷ given) ≡ Some x → name_among key given ≡ Some x
     later key e found = sym (ap (λ t. if t then Some it.name else name_among key given) e) ∙ found
+
     by_tests : (s t : Bool) → same_key one it.key ≡ s → same_key other it.key ≡ t → (name_among one given ≡ Some x → name_among other given ≡ Some x → one ≡ other) → one ≡ other
     by_tests true true e f more = key_same one it.key e ∙ sym (key_same other it.key f)
     by_tests true false e f more = absurd (differ_first it.name (names_only given) x differ (among_names given other x (later other f second)) (sym (here one e first)))
@@ -185,15 +186,19 @@ once (h ∷ functions) more f g distinct there other first second same = by_test
   where
     names : List (List ℕ)
     names = external_names functions
+
     apart : (one : CFun) → is_external h.linkage ≡ true → IsDistinct bytes_eq ((h.name ∷ names) ++ more) → Among functions one → is_external one.linkage ≡ true → bytes_eq h.name one.name ≡ false
     apart one e d a is = distinct_first bytes_eq h.name (names ++ more) one.name d (among_left names more one.name (among_functions functions one a is))
+
     behind : is_external h.linkage ≡ true → IsDistinct bytes_eq ((h.name ∷ names) ++ more)
     behind e = subst (λ (all : List (List ℕ)). IsDistinct bytes_eq (all ++ more)) (ap (λ t. if t then h.name ∷ names else names) e) distinct
+
     never : (one two : CFun) → h ≡ one → one.name ≡ two.name → Among functions two → is_external h.linkage ≡ true → is_external two.linkage ≡ true → ⊥
     never one two is equal a e external =
         let no : bytes_eq h.name two.name ≡ false = apart two e (behind e) a external in
         let yes : bytes_eq h.name two.name ≡ true = ap (λ (z : List ℕ). bytes_eq z two.name) (ap (λ (k : CFun). k.name) is ∙ equal) ∙ texts_same two.name in
         let both : false ≡ true = sym no ∙ yes in absurd cc
+
     by_test : (t : Bool) → is_external h.linkage ≡ t → Among (h ∷ functions) f → Among (h ∷ functions) g →
         (IsDistinct bytes_eq (names ++ more) → Among functions f → Among functions g → f ≡ g) → f ≡ g
     by_test t e (inl a) (inl b) rest = sym a ∙ b
@@ -212,7 +217,7 @@ one_entry program linked f g there other first second =
     let orders = program.orders in
     once program.functions (names_with is_external (things types orders [] [] program.externals)) f g
     (subst (λ (names : List (List ℕ)). IsDistinct bytes_eq names) (functions_named types orders program.functions program.externals)
-        (objects_gone types orders program.objects program.functions program.externals linked.names_differ))
+    (objects_gone types orders program.objects program.functions program.externals linked.names_differ))
     there other (external_same f.linkage f_parts.0) (external_same g.linkage g_parts.0) (texts_equal f.name (codes "main") f_parts.1 ∙ sym (texts_equal g.name (codes "main") g_parts.1))
 
 -- ---- the names of a module
@@ -261,7 +266,7 @@ module _ (whole : NamedProgram) (is : IsNamed whole) (unit : ℕ) where
       let f_in = among_filter (λ (f : CFun). f.unit == unit && is_entry f) program.functions f.0 f.1 in
       let g_in = among_filter (λ (f : CFun). f.unit == unit && is_entry f) program.functions g.0 g.1 in
       sym f.2 ∙ ap (λ (h : CFun). a_function h.function)
-          (one_entry program is.linked f.0 g.0 f_in.0 g_in.0 (and_parts (f.0.unit == unit) (is_entry f.0) f_in.1).1 (and_parts (g.0.unit == unit) (is_entry g.0) g_in.1).1) ∙ g.2
+      (one_entry program is.linked f.0 g.0 f_in.0 g_in.0 (and_parts (f.0.unit == unit) (is_entry f.0) f_in.1).1 (and_parts (g.0.unit == unit) (is_entry g.0) g_in.1).1) ∙ g.2
 
   -- two keys with one name are one
   pub keys_apart : (one two : NameKey) (x : List ℕ) → name_among one (module_names program unit) ≡ Some x → name_among two (module_names program unit) ≡ Some x → one ≡ two

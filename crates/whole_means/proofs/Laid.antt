@@ -1,40 +1,33 @@
 -- Structures and unions are laid out in the crate as in C.
-use Rattle.std.proofs.Common.{arith, ◌≡◌, ◌<◌, ◌≤◌, ℕ, zero, suc, ◌+◌, ◌/◌, ◌==◌, Bool, true, false, ◌||◌, if◌then◌else◌, List, [], ◌∷◌, ◌++◌, length, reverse, Option, Some, None, slice_get, is_some, IsSome, IfSome, All, option_map, refl, sym, ap, subst, ◌∙◌, ◌⊎◌, inl, inr}
+use Rattle.std.proofs.Common.{arith, ◌≡◌, ◌<◌, ℕ, zero, suc, ◌==◌, Bool, true, false, ◌||◌, if◌then◌else◌, List, [], ◌∷◌, ◌++◌, reverse, Option, Some, None, slice_get, IfSome, All, refl, sym, ap, subst, ◌∙◌, ◌⊎◌, inl, inr}
 use Rattle.std.proofs.lemmas.Grind.{flat_map-append}
 use Rattle.std.proofs.lemmas.List.{reverse-append}
-use Rattle.std.proofs.lemmas.List.Elements.{All-contains, All-weaker}
+use Rattle.std.proofs.lemmas.List.Elements.{All-weaker}
 use Rattle.std.specs.List.{Contains, flat_map, list_any}
-use Rattle.std.specs.Option.{option_and_then, option_flatten}
+use Rattle.std.specs.Option.{option_flatten}
 use Rattle.std.specs.Str.{bytes_eq}
-use Rattle.cr_base.specs.declared.layout.Laid.{Laid}
-use Rattle.cx_core.specs.Layouts.{CLayouts, CRow, extent, layouts_of, row_at, row_of, whole_extent}
-use Rattle.cx_core.specs.Trees.{CMember, CRecord, CTy, ty, record_type, CTypes, CProgram}
-use Rattle.cx_core.specs.ValidTypes.{AreTypes}
+use Rattle.cx_core.specs.Layouts.{CLayouts, CRow, extent, layouts_of, row_at}
+use Rattle.cx_core.specs.Trees.{CMember, CRecord, ty, record_type, CProgram}
 use Rattle.cx_typed_runs.proofs.AlignedTypes.{types_aligned}
 use Rattle.cx_typed_sizes.proofs.Bytes.{complete_has_byte}
 use Rattle.cx_typed_work.proofs.Rows.{extent_whole, row_sized}
 use Rattle.mem_bytes.specs.Calls.{IsAlignment}
-use Rattle.rs_items.specs.Known.{KnownThing, Knows}
-use Rattle.rs_items.specs.Records.{record_tree}
-use Rattle.rs_items.specs.Types.{enum_integer, path_in, record_or_void}
-use Rattle.rs_items.specs.declared.known.Named.TheVariants.{Enum, Record as RecordNamed}
+use Rattle.rs_items.specs.Types.{enum_integer, record_or_void}
+use Rattle.rs_items.specs.declared.known.Named.TheVariants.{Record as RecordNamed}
 use Rattle.rs_items_rules.proofs.Rows.{row_laid}
 use Rattle.rs_items_rules.specs.Agree.{AreKept, IsKept, Records}
-use Rattle.rs_mean.specs.Layout.{laid_among, laid_at, laid_with, record_laid}
-use Rattle.rs_mean.specs.Lookups.{items_in}
+use Rattle.rs_mean.specs.Layout.{laid_among, laid_with, record_laid}
 use Rattle.rs_mean.specs.Scalars.{width_of}
-use Rattle.rs_text.specs.Tree.{FunctionItem, ExternItem, ItemTree, ModuleTree, OuterTree, RecordItem, RecordTree, StaticItem}
-use Rattle.rs_tree.specs.declared.ty.RPath.{RPath}
-use Rattle.whole_items.specs.Items.{WrittenBodies, extern_items, function_items, initialiser_tree, module_tree, outers_of, record_items, record_items_of, record_with_row, static_items}
-use Rattle.whole_means.proofs.Items.{Stands, item_stands, record_written}
+use Rattle.rs_text.specs.Tree.{ItemTree, RecordItem, RecordTree}
+use Rattle.whole_items.specs.Items.{WrittenBodies, record_items_of, record_with_row}
+use Rattle.whole_means.proofs.Items.{record_written}
 use Rattle.whole_means.proofs.Keys.{any_there, number_same, number_self}
-use Rattle.whole_means.proofs.Lists.{Among, among_cases, among_contains, among_flat, among_left, among_right, contains_among, texts_equal, texts_same}
-use Rattle.whole_means.proofs.Modules.{items_found, modules_by}
-use Rattle.whole_means.proofs.Records.{IsDone, done_in, is_completed, number_is, path_is, path_of, same_number, same_record, tree_named, unit_low}
-use Rattle.whole_means.proofs.Rows.{completed_by, row_by, row_in, row_there, row_was, rows_that}
-use Rattle.whole_means.specs.Written.{AreCompletedIn, HoldsEarlier, IsCompletedIn, IsNamed, record_in}
-use Rattle.whole_names.specs.Keys.{a_record, order_of}
-use Rattle.whole_names.specs.Kept.{LocalNames, NamedProgram, enum_thing, enum_type, known_thing, module_of, name_in, no_locals, record_path, record_thing, record_unit, size_of, size_or_none}
+use Rattle.whole_means.proofs.Lists.{Among, among_cases, contains_among, texts_equal, texts_same}
+use Rattle.whole_means.proofs.Records.{IsDone, path_is, path_of, same_number, tree_named}
+use Rattle.whole_means.proofs.Rows.{row_by, row_in, row_was, rows_that}
+use Rattle.whole_means.specs.Written.{HoldsEarlier, IsCompletedIn, IsNamed, record_in}
+use Rattle.whole_names.specs.Keys.{a_record}
+use Rattle.whole_names.specs.Kept.{LocalNames, NamedProgram, enum_thing, known_thing, module_of, name_in, no_locals, record_thing, record_unit, size_of, size_or_none}
 
 -- ---- what is kept of records
 
@@ -166,7 +159,7 @@ module _ (whole : NamedProgram) (is : IsNamed whole) (bodies : WrittenBodies) (u
     row_laid_so =
         row_laid (known_thing whole unit no_locals) records layouts kept done.one done.row
         (row_by (is_earlier earlier) (layouts_of program.types) done.one done.row holds
-            (row_in program.types number done.one done.row (ap option_flatten done.one_is) done.row_is))
+        (row_in program.types number done.one done.row (ap option_flatten done.one_is) done.row_is))
 
     abbrev tree : RecordTree
     tree = record_written whole unit done.one done.row
@@ -186,14 +179,16 @@ module _ (whole : NamedProgram) (is : IsNamed whole) (bodies : WrittenBodies) (u
             let rows : Some done.row ≡ Some its.row = sym done.row_is ∙ ap (row_at (layouts_of program.types)) same ∙ its.row_is in
             let row : done.row ≡ its.row = cc (rows) in
             row_laid_so ∙ ap (λ (r : CRow). Some r.laid) row
+
         same_by_name : bytes_eq tree.name (name_of other) ≡ true → number ≡ other
         same_by_name e =
             same_number whole is bodies unit number other done its (sym (tree_named whole is unit number done) ∙ texts_equal tree.name (name_of other) e)
+
         by_test : (t : Bool) → bytes_eq tree.name (name_of other) ≡ t → Among earlier other ⊎ Among (number ∷ []) other → laid_among home (RecordItem tree ∷ behind) (name_of other) ≡ Some its.row.laid
         by_test true e where_it_is =
             ap (λ t. if t then record_laid (laid_with records) tree else laid_among home behind (name_of other)) e ∙ here (same_by_name e)
         by_test false e (inl before) = ap (λ t. if t then record_laid (laid_with records) tree else laid_among home behind (name_of other)) e ∙ laid other before its
         by_test false e (inr (inl same)) =
             absurd (let named : bytes_eq tree.name (name_of other) ≡ true = ap (λ n. bytes_eq n (name_of other)) (tree_named whole is unit number done ∙ ap name_of same) ∙ texts_same (name_of other) in
-                let h : false ≡ true = sym e ∙ named in cc)
+            let h : false ≡ true = sym e ∙ named in cc)
         by_test false e (inr (inr none)) = absurd none

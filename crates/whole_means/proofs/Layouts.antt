@@ -1,8 +1,7 @@
 -- Each structure or union, found by its path, is laid out in the crate as in C.
-use Rattle.std.proofs.Common.{arith, ◌≡◌, ◌<◌, ℕ, zero, suc, ◌==◌, Bool, true, false, if◌then◌else◌, List, [], ◌∷◌, ◌++◌, length, reverse, Option, Some, None, slice_get, IsSome, refl, sym, ap, subst, ◌∙◌, ◌⊎◌, inl, inr, append_assoc, append-nil}
+use Rattle.std.proofs.Common.{◌≡◌, ℕ, ◌==◌, Bool, true, false, if◌then◌else◌, List, [], ◌∷◌, ◌++◌, length, reverse, Option, Some, None, refl, sym, ap, subst, ◌∙◌, ◌⊎◌, inl, inr, append_assoc, append-nil}
 use Rattle.std.proofs.lemmas.List.{reverse-append}
-use Rattle.cr_base.specs.declared.layout.Laid.{Laid}
-use Rattle.cx_core.specs.Layouts.{CLayouts, CRow, layouts_of, row_at}
+use Rattle.cx_core.specs.Layouts.{CRow, layouts_of, row_at}
 use Rattle.cx_core.specs.Trees.{CFun, CObject, CPuts, CProgram}
 use Rattle.rs_items_rules.specs.Agree.{AreKept}
 use Rattle.rs_mean.specs.Layout.{laid_among, laid_at}
@@ -11,7 +10,7 @@ use Rattle.whole_items.specs.Items.{WrittenBodies, extern_items, function_items,
 use Rattle.whole_means.proofs.Laid.{AreLaid, IsLaidSo, kept_so, more_laid}
 use Rattle.whole_means.proofs.Lists.{Among, among_cases, among_flat}
 use Rattle.whole_means.proofs.Modules.{items_found, modules_by}
-use Rattle.whole_means.proofs.Records.{IsDone, done_in, is_completed, unit_low}
+use Rattle.whole_means.proofs.Records.{IsDone, is_completed, unit_low}
 use Rattle.whole_means.proofs.Rows.{completed_by, row_there}
 use Rattle.whole_means.specs.Written.{AreCompletedIn, IsCompletedIn, IsNamed}
 use Rattle.whole_names.specs.Keys.{a_record, order_of}
@@ -75,9 +74,11 @@ module _ (whole : NamedProgram) (bodies : WrittenBodies) (unit : ℕ) where
       fourth : Among (function_items whole bodies unit) item ⊎ Among ends item → NotRecord item
       fourth (inl there) = let one = among_flat (function_of_unit whole bodies unit) whole.program.functions item there in function_no_record one.from (one.from.unit == unit) item one.made
       fourth (inr there) = end_no_record item there
+
       third : Among (extern_items (outers_of whole unit)) item ⊎ Among (function_items whole bodies unit ++ ends) item → NotRecord item
       third (inl there) = extern_no_record (outers_of whole unit) item there
       third (inr there) = fourth (among_cases (function_items whole bodies unit) ends item there)
+
       second : Among (static_items whole unit) item ⊎ Among (extern_items (outers_of whole unit) ++ (function_items whole bodies unit ++ ends)) item → NotRecord item
       second (inl there) = let one = among_flat (static_of whole unit) whole.program.objects item there in static_of_no_record one.from (one.from.unit == unit) item one.made
       second (inr there) = third (among_cases (extern_items (outers_of whole unit)) (function_items whole bodies unit ++ ends) item there)
@@ -98,7 +99,7 @@ module _ (written : NamedProgram) (is : IsNamed written) (given : WrittenBodies)
       let done = done_from unit number earlier are.0 in
       subst (λ (all_numbers : List ℕ). AreLaid written is given unit all_numbers) (append_assoc earlier (number ∷ []) numbers)
       (all_laid unit (earlier ++ number ∷ []) numbers (more_laid written is given unit earlier laid all number are.0 done)
-          (λ other there. by_place other done (among_cases earlier (number ∷ []) other there)) are.1)
+      (λ other there. by_place other done (among_cases earlier (number ∷ []) other there)) are.1)
     where
       by_place : (other : ℕ) → IsDone written unit number → Among earlier other ⊎ Among (number ∷ []) other → IsDone written unit other
       by_place other done (inl before) = all other before
@@ -117,7 +118,7 @@ module _ (written : NamedProgram) (is : IsNamed written) (given : WrittenBodies)
       ap (λ (items : List ItemTree). laid_among home (reverse items) x) (items_found written is given unit (unit_low written is unit number done))
       ∙ ap (λ (items : List ItemTree). laid_among home items x) (reverse-append (record_items written unit) (others written given unit))
       ∙ skipped home x (reverse (others written given unit)) (reverse (record_items written unit))
-          (λ item there. no_records written given unit item (among_reverse (others written given unit) item there))
+      (λ item there. no_records written given unit item (among_reverse (others written given unit) item there))
       ∙ all_laid unit [] numbers (λ n there. absurd there) (λ n there. absurd there) (is.ordered.completed unit) number (is_completed written is unit number done) done
 
   -- so all are kept

@@ -1,5 +1,5 @@
 -- What is among the elements of a list, and what a search finds where no other is like it.
-use Rattle.std.proofs.Common.{arith, ◌≡◌, ◌<◌, ◌≤◌, ℕ, zero, suc, ◌+◌, Bool, true, false, if◌then◌else◌, List, [], ◌∷◌, ◌++◌, map, filter, length, Option, Some, None, slice_get, find, refl, sym, ap, subst, ◌∙◌, ◌⊎◌, inl, inr}
+use Rattle.std.proofs.Common.{arith, ◌≡◌, ℕ, zero, suc, Bool, true, false, if◌then◌else◌, List, [], ◌∷◌, ◌++◌, map, filter, Some, slice_get, find, refl, sym, ap, subst, ◌∙◌, ◌⊎◌, inl, inr}
 use Rattle.std.proofs.lemmas.Slice.Eq.{bytes_eq-Decides}
 use Rattle.std.specs.List.{Contains, flat_map}
 use Rattle.std.specs.Str.{bytes_eq}
@@ -38,6 +38,7 @@ among_flat {A} {B} f (x ∷ xs) y there = by_cases (among_flat f xs y) (among_ca
   where
     later : IsFrom f xs y → IsFrom f (x ∷ xs) y
     later one = record { from = one.from; there = inr one.there; made = one.made }
+
     by_cases : (Among (flat_map f xs) y → IsFrom f xs y) → Among (f x) y ⊎ Among (flat_map f xs) y → IsFrom f (x ∷ xs) y
     by_cases more (inl made) = record { from = x; there = inl refl; made = made }
     by_cases more (inr rest) = later (more rest)
@@ -74,6 +75,7 @@ among_filter {A} p (y ∷ xs) x there = by_test (among_filter p xs x) (p y) refl
     at_first : (Among (filter p xs) x → Among xs x × (p x ≡ true)) → p y ≡ true → Among (y ∷ filter p xs) x → Among (y ∷ xs) x × (p x ≡ true)
     at_first more e (inl same) = (inl same, ap p (sym same) ∙ e)
     at_first more e (inr rest) = let one = more rest in (inr one.0, one.1)
+
     by_test : (Among (filter p xs) x → Among xs x × (p x ≡ true)) → (t : Bool) → p y ≡ t → Among (y ∷ xs) x × (p x ≡ true)
     by_test more true e = at_first more e (subst (λ (ys : List A). Among ys x) (ap (λ t. if t then y ∷ filter p xs else filter p xs) e) there)
     by_test more false e =
@@ -93,6 +95,7 @@ find_only {A} p (y ∷ xs) x there is only = by_test (λ other. find_only p xs x
     rest : p y ≡ false → Among (y ∷ xs) x → Among xs x
     rest e (inl same) = absurd (let h : false ≡ true = sym e ∙ ap p same ∙ is in cc)
     rest e (inr other) = other
+
     by_test : (Among xs x → find p xs ≡ Some x) → (t : Bool) → p y ≡ t → find p (y ∷ xs) ≡ Some x
     by_test more true e = ap (λ t. if t then Some y else find p xs) e ∙ ap Some (only y (inl refl) e)
     by_test more false e = ap (λ t. if t then Some y else find p xs) e ∙ more (rest e there)

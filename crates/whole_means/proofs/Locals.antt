@@ -1,30 +1,26 @@
 -- No two locals of a function have one name.
-use Rattle.std.proofs.Common.{arith, ◌≡◌, ◌<◌, ◌≤◌, ℕ, zero, suc, ◌+◌, ◌==◌, Bool, true, false, not, ◌&&◌, if◌then◌else◌, List, [], ◌∷◌, ◌++◌, map, length, codes, Option, Some, None, slice_get, is_some, IsSome, option_map, refl, sym, ap, subst, ◌∙◌, ◌⊎◌, inl, inr, append_assoc}
+use Rattle.std.proofs.Common.{arith, ◌≡◌, ◌<◌, ℕ, ◌==◌, Bool, true, false, if◌then◌else◌, List, [], ◌∷◌, ◌++◌, map, length, Option, Some, None, slice_get, is_some, IsSome, option_map, refl, sym, ap, ◌∙◌, ◌⊎◌, inl, inr}
 use Rattle.std.proofs.lemmas.Option.{slice_get_within}
 use Rattle.std.specs.List.{list_any}
 use Rattle.cx_core.specs.Trees.{CFun, CObject, CProgram}
 use Rattle.cx_core.specs.Typing.{object_with}
-use Rattle.lift_calls.specs.Frames.{FunctionNames, KeptTemporary, NamesApart}
-use Rattle.lift_does.specs.Agree.{AreKeptFrom}
+use Rattle.lift_calls.specs.Frames.{KeptTemporary, NamesApart}
 use Rattle.lift_exprs.specs.Names.{Names}
 use Rattle.lift_forms.specs.Places.{Kept}
-use Rattle.rs_items.specs.Known.{KnownThing}
-use Rattle.rs_items_sets.specs.Names.{rust_name}
-use Rattle.rs_items_sets.specs.declared.scope.NameScope.TheVariants.{Function}
-use Rattle.rs_text.specs.Tree.{Ty, Place, Local, Static}
+use Rattle.rs_text.specs.Tree.{Ty, Local, Static}
 use Rattle.rs_text.specs.Valid.{all_differ}
 use Rattle.whole_bodies.specs.Names.{held_in_body, index_in, kept_object, locals_of, names_in, own_names, temporaries_of, zeroed_objects}
 use Rattle.whole_items.specs.Items.{WrittenBodies}
 use Rattle.whole_means.proofs.Keys.{differ_first, differ_rest, number_same, number_self}
-use Rattle.whole_means.proofs.Lists.{Among, among_right, find_there}
+use Rattle.whole_means.proofs.Lists.{Among, find_there}
 use Rattle.whole_means.proofs.Numbers.{same_object}
 use Rattle.whole_means.specs.FunctionNames.{HasFewNames, kept_by, kept_found, kept_names, kept_temporary, kept_zero, zero_number}
 use Rattle.whole_means.specs.Written.{IsNamed}
 use Rattle.whole_names.proofs.Named.{of_functions}
-use Rattle.whole_names.specs.FunctionNames.{LocalKey, a_result, a_passed, a_local, a_temporary, LocalName, WantedLocal, locals_from, wanted_in, wanted_locals, wanted_temporaries}
-use Rattle.whole_names.specs.Kept.{NamedProgram, local_among, module_of, name_in, object_item, object_thing, local_or_item, same_local, types_of}
+use Rattle.whole_names.specs.FunctionNames.{LocalKey, a_result, a_passed, a_local, a_temporary, LocalName}
+use Rattle.whole_names.specs.Kept.{NamedProgram, local_among, module_of, name_in, object_item, same_local}
 use Rattle.whole_names.specs.Keys.{an_object}
-use Rattle.whole_names.specs.ModuleNames.{name_or, taken_names}
+use Rattle.whole_names.specs.ModuleNames.{taken_names}
 
 pub local_same : (one other : LocalKey) → same_local one other ≡ true → one ≡ other
 local_same a_result a_result e = refl
@@ -58,8 +54,10 @@ locals_apart (it ∷ names) one other x differ first second =
   where
     here : (key : LocalKey) → same_local key it.key ≡ true → local_among key (it ∷ names) ≡ Some x → it.name ≡ x
     here key e found = let h : Some it.name ≡ Some x = sym (ap (λ t. if t then Some it.name else local_among key names) e) ∙ found in cc (h)
+
     later : (key : LocalKey) → same_local key it.key ≡ false → local_among key (it ∷ names) ≡ Some x → local_among key names ≡ Some x
     later key e found = sym (ap (λ t. if t then Some it.name else local_among key names) e) ∙ found
+
     by_tests : (s t : Bool) → same_local one it.key ≡ s → same_local other it.key ≡ t → (local_among one names ≡ Some x → local_among other names ≡ Some x → one ≡ other) → one ≡ other
     by_tests true true e f more = local_same one it.key e ∙ sym (local_same other it.key f)
     by_tests true false e f more = absurd (differ_first it.name (names_only names) x differ (among_locals names other x (later other f second)) (sym (here one e first)))
@@ -101,11 +99,13 @@ module _ (whole : NamedProgram) (is : IsNamed whole) (bodies : WrittenBodies) (f
       by_static : (o : CObject) → Among program.objects o → o.object ≡ number → (t : Bool) → is_some o.puts ≡ t → (if t then Some (kept_object (object_item whole o)) else None) ≡ Some kept → KeptIs number kept
       by_static o there same true e at = let h : Some (kept_object (object_item whole o)) ≡ Some kept = at in is_static o there same e (sym (cc (h)))
       by_static o there same false e at = absurd cc
+
       by_name : (o : CObject) → Among program.objects o → o.object ≡ number → (name : Option (List ℕ)) → local_among (a_local o.object) own ≡ name → kept_by whole o name ≡ Some kept → KeptIs number kept
       by_name o there same (Some x) e at =
           let place : Some (Local x) ≡ Some kept.place = ap (option_map (λ (k : Kept). k.place)) at in
           is_local o x same e (sym (cc (place)))
       by_name o there same None e at = by_static o there same (is_some o.puts) refl at
+
       by_object : (object : Option CObject) → object_with number program.objects ≡ object → kept_found whole fun object ≡ Some kept → KeptIs number kept
       by_object None e at = absurd cc
       by_object (Some o) e at =
@@ -133,12 +133,13 @@ module _ (whole : NamedProgram) (is : IsNamed whole) (bodies : WrittenBodies) (f
       by_test : (x : List ℕ) (ty : Ty) (t : Bool) → (if t then Some (record { name = x; ty = ty }) else None) ≡ Some one → Some x ≡ Some one.name
       by_test x ty true at = ap (option_map (λ (t : KeptTemporary). t.name)) at
       by_test x ty false at = absurd cc
+
       by_name : (name : Option (List ℕ)) → local_among (a_temporary (zero_number whole fun number)) own ≡ name → kept_zero whole fun number name ≡ Some one →
           local_among (a_temporary (zero_number whole fun number)) own ≡ Some one.name
       by_name None e at = absurd cc
       by_name (Some x) e at =
           e ∙ by_test x (Rattle.lift_exprs.specs.Names.type_in (Rattle.whole_bodies.specs.Names.module_names_in whole fun.unit) (Rattle.whole_bodies.specs.Names.object_type whole number))
-              (list_any (λ other. other == number) (zeroed_objects whole fun)) at
+          (list_any (λ other. other == number) (zeroed_objects whole fun)) at
 
   local_place : (x y : List ℕ) → Local x ≡ Local y → x ≡ y
   local_place x y same = cc (same)
@@ -158,7 +159,7 @@ module _ (whole : NamedProgram) (is : IsNamed whole) (bodies : WrittenBodies) (f
       absurd (let h : Static (module_of whole o.unit) (name_in whole o.unit (an_object o.object)) ≡ Local y = ap (λ (k : Kept). k.place) (sym at) ∙ place ∙ place_at in cc)
   objects_apart one other first second (is_static o there same static at) (is_static p there_too equal static_too at_too) place =
       let places : Static (module_of whole o.unit) (name_in whole o.unit (an_object o.object)) ≡ Static (module_of whole p.unit) (name_in whole p.unit (an_object p.object)) =
-          ap (λ (k : Kept). k.place) (sym at) ∙ place ∙ ap (λ (k : Kept). k.place) at_too in
+      ap (λ (k : Kept). k.place) (sym at) ∙ place ∙ ap (λ (k : Kept). k.place) at_too in
       let home : module_of whole o.unit ≡ module_of whole p.unit = cc (places) in
       let name : name_in whole o.unit (an_object o.object) ≡ name_in whole p.unit (an_object p.object) = cc (places) in
       sym same ∙ ap (λ (q : CObject). q.object) (same_object whole is bodies p o there_too there static_too static home name) ∙ equal
@@ -181,11 +182,11 @@ module _ (whole : NamedProgram) (is : IsNamed whole) (bodies : WrittenBodies) (f
     zero = λ one other kept zero_one a b place.
         let it = named_local one kept zero_one.name (kept_is one kept a) place in
         absurd (let h : a_local it.0.object ≡ a_temporary (zero_number whole fun other) =
-            one_local (a_local it.0.object) (a_temporary (zero_number whole fun other)) zero_one.name it.2 (zero_is other zero_one b) in cc);
+        one_local (a_local it.0.object) (a_temporary (zero_number whole fun other)) zero_one.name it.2 (zero_is other zero_one b) in cc);
     zero_temporary = λ one other kept zero_one a b same.
         let its = temporary_is one kept a in
         let number = temporary_number one (zero_number whole fun other)
-            (one_local (a_temporary one) (a_temporary (zero_number whole fun other)) zero_one.name (its.named ∙ ap Some same) (zero_is other zero_one b)) in
+        (one_local (a_temporary one) (a_temporary (zero_number whole fun other)) zero_one.name (its.named ∙ ap Some same) (zero_is other zero_one b)) in
         let within = its.within in
         absurd (omega (arith, number, within));
   }

@@ -1,38 +1,38 @@
 -- What the names of a module say is so in the crate: types, members and functions.
-use Rattle.std.proofs.Common.{arith, ◌≡◌, ◌<◌, ℕ, zero, suc, ◌+◌, ◌*◌, ◌^◌, ◌==◌, Bool, true, false, if◌then◌else◌, List, [], ◌∷◌, ◌++◌, map, length, Option, Some, None, slice_get, is_some, IsSome, IfSome, All, option_map, refl, sym, ap, subst, ◌∙◌, ◌⊎◌, inl, inr}
+use Rattle.std.proofs.Common.{arith, ◌≡◌, ◌<◌, ℕ, ◌==◌, Bool, true, false, List, [], map, length, Option, Some, None, slice_get, is_some, IsSome, IfSome, option_map, refl, sym, ap, subst, ◌∙◌}
 use Rattle.std.proofs.lemmas.List.Elements.{All-contains, recursion_from_All}
 use Rattle.std.specs.Option.{option_and_then, option_flatten}
-use Rattle.cr_base.specs.Layout.{no_front, spots_of}
+use Rattle.cr_base.specs.Layout.{no_front}
 use Rattle.cr_base.specs.declared.layout.Laid.{Laid}
 use Rattle.cr_base.specs.declared.layout.Spot.{Spot}
 use Rattle.cr_base.specs.declared.scalar.Scalar.{Scalar}
 use Rattle.cx_core.specs.Conversions.{basic_of_enum, scalar_of as c_scalar_of, scalar_of_basic, scalar_of_pointer}
 use Rattle.cx_core.specs.declared.ty.Basic.{Basic}
 use Rattle.cx_core.specs.declared.ty.Basic.TheVariants.{Truth, Char, SignedChar, UnsignedChar, Short, UnsignedShort, Int, Unsigned, Long, UnsignedLong, LongLong, UnsignedLongLong}
-use Rattle.cx_core.specs.Layouts.{CLayouts, CRow, extent, layouts_of, row_at}
+use Rattle.cx_core.specs.Layouts.{CRow, extent, layouts_of, row_at}
 use Rattle.cx_core.specs.Linked.{IsTypedFunction}
-use Rattle.cx_core.specs.Trees.{CFun, CMember, CObject, COuter, CRecord, CTy, ty, CTyForm, void, basic, enum_type, pointer, array, record_type, function, CTypes, CProgram, form_of_type}
+use Rattle.cx_core.specs.Trees.{CFun, CMember, CRecord, CTy, ty, void, basic, enum_type, pointer, array, record_type, function, CProgram, form_of_type}
 use Rattle.cx_core.specs.Typing.{function_with, outer_with}
-use Rattle.cx_core.specs.ValidTypes.{AreTypes, IsBitFieldOf, IsMemberOf, IsMemberIn, member_of, spot_of}
+use Rattle.cx_core.specs.ValidTypes.{IsBitFieldOf, IsMemberOf, IsMemberIn}
 use Rattle.cx_mean.specs.Operands.{Frame as CFrame}
 use Rattle.cx_typed_work.proofs.Fields.{member_in}
-use Rattle.cx_typed_work.proofs.Rows.{map_found, row_here}
+use Rattle.cx_typed_work.proofs.Rows.{row_here}
 use Rattle.lift_calls.specs.Programs.{Setting}
 use Rattle.lift_does.specs.Agree.{FieldMeans, FunctionMeans}
 use Rattle.lift_exprs.specs.Names.{KeptFunction, Names, field_in, type_in}
-use Rattle.rs_items.specs.Known.{Knows, MemberField}
-use Rattle.rs_items.specs.Records.{fields_walk, placed_members, record_tree}
+use Rattle.rs_items.specs.Known.{MemberField}
+use Rattle.rs_items.specs.Records.{fields_walk, placed_members}
 use Rattle.rs_items.specs.Types.{basic_type, record_or_void, rust_pointer, rust_type, type_names}
 use Rattle.rs_items_fields.specs.Fields.{name_at}
 use Rattle.rs_items_rules.proofs.Places.{all_places}
 use Rattle.rs_items_rules.proofs.Rows.{fields_stand}
 use Rattle.rs_items_rules.proofs.Types.{complete_fits}
-use Rattle.rs_items_rules.specs.LawsRecords.{StandsIn, place_of, plain_places}
-use Rattle.rs_mean.specs.Layout.{FieldPlace, field_at, field_of, laid_at, laid_of, laid_with}
+use Rattle.rs_items_rules.specs.LawsRecords.{StandsIn, place_of}
+use Rattle.rs_mean.specs.Layout.{FieldPlace, field_of, laid_at, laid_of, laid_with}
 use Rattle.rs_mean.specs.Scalars.{scalar_of}
-use Rattle.rs_text.specs.Tree.{ModuleTree, RecordTree, Ty, Integer}
+use Rattle.rs_text.specs.Tree.{ModuleTree, Ty, Integer}
 use Rattle.rs_tree.specs.declared.ty.RPath.{RPath}
-use Rattle.whole_bodies.specs.Names.{fields_in, fields_of_record, fields_with_row, kept_function, names_in}
+use Rattle.whole_bodies.specs.Names.{fields_of_record, fields_with_row, kept_function, names_in}
 use Rattle.whole_items.specs.Items.{WrittenBodies, function_tree, module_tree}
 use Rattle.whole_means.proofs.Fields.{const_same, named_some, named_stands, plain_among, types_same, wide_bits}
 use Rattle.whole_means.proofs.Items.{record_written}
@@ -46,8 +46,8 @@ use Rattle.whole_means.proofs.Records.{IsDone, path_is, path_of, record_found}
 use Rattle.whole_means.proofs.Rows.{completed_by, row_in}
 use Rattle.whole_means.specs.Settings.{function_path, setting_with}
 use Rattle.whole_means.specs.Written.{IsNamed}
-use Rattle.whole_names.specs.Keys.{a_function, a_record}
-use Rattle.whole_names.specs.Kept.{LocalNames, NamedProgram, enum_type as kept_enum, function_item, function_thing, known_thing, module_of, name_in, no_locals, record_path, record_unit, size_of, size_or_none, types_of, unit_or}
+use Rattle.whole_names.specs.Keys.{a_function}
+use Rattle.whole_names.specs.Kept.{LocalNames, NamedProgram, enum_type as kept_enum, function_item, function_thing, known_thing, module_of, name_in, no_locals, size_or_none, types_of, unit_or}
 
 -- ---- scalars
 
@@ -167,10 +167,10 @@ module _ (whole : NamedProgram) (is : IsNamed whole) (bodies : WrittenBodies) (u
         stands =
             ap (field_of modules name) (record_found whole is bodies has.at number done)
             ∙ named_stands (laid_of modules) one.is_union tree.fields byte type name (fields_walk known one row.spots).members
-                (recursion_from_All (StandsIn (laid_of modules) one.is_union tree.fields) (fields_walk known one row.spots).members
-                    (fields_stand known (laid_at modules) (layouts_of program.types) (all_kept whole is bodies has.at no_locals) one row
-                        (row_in program.types number one row (ap option_flatten done.one_is) done.row_is) (is.few_members number one done.one_is)))
-                (sym (ap (option_and_then (name_at byte type)) has.fields_are) ∙ found);
+            (recursion_from_All (StandsIn (laid_of modules) one.is_union tree.fields) (fields_walk known one row.spots).members
+            (fields_stand known (laid_at modules) (layouts_of program.types) (all_kept whole is bodies has.at no_locals) one row
+            (row_in program.types number one row (ap option_flatten done.one_is) done.row_is) (is.few_members number one done.one_is)))
+            (sym (ap (option_and_then (name_at byte type)) has.fields_are) ∙ found);
       }
 
   -- a member where it stands
@@ -199,8 +199,8 @@ module _ (whole : NamedProgram) (is : IsNamed whole) (bodies : WrittenBodies) (u
       let same_some : Some here.one ≡ Some at.holder = sym here.one_is ∙ at.holder_is in
       let same : here.one ≡ at.holder = cc (same_some) in
       let wide : spot.width ≡ width =
-          wide_bits (layouts_of program.types) here.one.members here.pieces (no_front here.one.is_union) index one spot width here.pieces_are
-          (ap (λ (r : CRecord). slice_get r.members index) same ∙ at.member_is) (ap (λ spots. slice_get spots index) (sym here.spots_are) ∙ at.spot_is) e in
+      wide_bits (layouts_of program.types) here.one.members here.pieces (no_front here.one.is_union) index one spot width here.pieces_are
+      (ap (λ (r : CRecord). slice_get r.members index) same ∙ at.member_is) (ap (λ spots. slice_get spots index) (sym here.spots_are) ∙ at.spot_is) e in
       let field : IsBitFieldOf program.types one width = subst (λ (b : Option ℕ). IfSome b (IsBitFieldOf program.types one)) e typed.bits in
       let some : 0 < width = field.named named in
       absurd (omega (arith, some, wide, flat))
@@ -221,15 +221,15 @@ module _ (whole : NamedProgram) (is : IsNamed whole) (bodies : WrittenBodies) (u
       let known = known_thing whole has.at no_locals in
       let place : FieldPlace = record { ty = rust_type (type_names known) one.type; byte = spot.byte } in
       let among : Among (map place_of (fields_walk known done.one done.row.spots).members) place =
-          subst (λ (places : List FieldPlace). Among places place) (sym (all_places done.one.is_union (placed_members known done.one.members done.row.spots)))
-          (plain_among known done.one.members done.row.spots index one spot (ap (λ (r : CRecord). slice_get r.members index) (sym holder) ∙ at.member_is)
-              (ap (λ (r : CRow). slice_get r.spots index) (sym row) ∙ at.spot_is) plain) in
+      subst (λ (places : List FieldPlace). Among places place) (sym (all_places done.one.is_union (placed_members known done.one.members done.row.spots)))
+      (plain_among known done.one.members done.row.spots index one spot (ap (λ (r : CRecord). slice_get r.members index) (sym holder) ∙ at.member_is)
+      (ap (λ (r : CRow). slice_get r.spots index) (sym row) ∙ at.spot_is) plain) in
       let name = name_of (name_at spot.byte (rust_type (type_names known) one.type) (fields_walk known done.one done.row.spots).members)
-          (named_some (fields_walk known done.one done.row.spots).members place among) in
+      (named_some (fields_walk known done.one done.row.spots).members place among) in
       let type_same : rust_type (types_of whole) type ≡ rust_type (type_names known) one.type = same ∙ ap (λ n. rust_type n one.type) (sym (types_same whole has.at no_locals)) in
       field_means number is_const spot.byte (type_in names type) name.0
       (ap (option_and_then (name_at spot.byte (rust_type (types_of whole) type))) has.fields_are
-          ∙ ap (λ (t : Ty). name_at spot.byte t (fields_walk known done.one done.row.spots).members) type_same ∙ name.1)
+      ∙ ap (λ (t : Ty). name_at spot.byte t (fields_walk known done.one done.row.spots).members) type_same ∙ name.1)
 
   -- each member that is no bit-field has a field
   pub members_mean : (holder type : CTy) (spot : Spot) → IsMemberOf program.types holder spot type → spot.width ≡ 0 → FieldMeans s names holder spot.byte (type_in names type)
@@ -253,17 +253,19 @@ module _ (whole : NamedProgram) (is : IsNamed whole) (bodies : WrittenBodies) (u
   functions_mean number one found =
       let there = find_there (λ (f : CFun). f.function == number) program.functions one found in
       let its_number : one.function ≡ number = number_same one.function number there.1 in
-      let path : RPath = record { home = module_of whole one.unit; name = name_in whole one.unit (a_function one.function) } in
-      (kept_function (function_item whole one), ap (λ f. option_map kept_function (function_thing whole unit f (outer_with number program.externals))) found,
-          record {
-            path = path;
-            path_is = ap (function_path whole) found;
-            home_is = refl;
-            name_is = refl;
-            no_symbol = refl;
-            tree = function_tree whole one (bodies.of_function one);
-            tree_is = function_found whole is bodies one there.0;
-            ty_is = code_is whole one (bodies.of_function one)
-                (All-contains (IsTypedFunction program None) program.functions one is.linked.functions (among_contains program.functions one there.0));
-          },
-          refl)
+      let path : RPath = record { home = module_of whole one.unit; name = name_in whole one.unit (a_function one.function) } in (
+        kept_function (function_item whole one),
+        ap (λ f. option_map kept_function (function_thing whole unit f (outer_with number program.externals))) found,
+        record {
+          path = path;
+          path_is = ap (function_path whole) found;
+          home_is = refl;
+          name_is = refl;
+          no_symbol = refl;
+          tree = function_tree whole one (bodies.of_function one);
+          tree_is = function_found whole is bodies one there.0;
+          ty_is = code_is whole one (bodies.of_function one)
+              (All-contains (IsTypedFunction program None) program.functions one is.linked.functions (among_contains program.functions one there.0));
+        },
+        refl,
+      )

@@ -1,14 +1,14 @@
 -- The module of a unit is found by its name, and the names of the modules of two units differ.
-use Rattle.std.proofs.Common.{arith, ◌≡◌, ◌<◌, ◌≤◌, ℕ, zero, suc, ◌+◌, Bool, true, false, not, if◌then◌else◌, List, [], ◌∷◌, ◌++◌, map, length, Option, Some, None, slice_get, find, get_or, refl, sym, ap, subst, ◌∙◌, ◌⊎◌, inl, inr}
+use Rattle.std.proofs.Common.{arith, ◌≡◌, ◌<◌, ◌≤◌, ℕ, zero, suc, ◌+◌, true, List, [], ◌∷◌, length, Some, slice_get, get_or, refl, sym, ap, ◌∙◌, ◌⊎◌, inl, inr}
 use Rattle.std.proofs.lemmas.Bool.{cases_eq}
 use Rattle.std.proofs.lemmas.Option.{slice_get-get_or}
 use Rattle.std.specs.Str.{bytes_eq}
 use Rattle.rs_mean.specs.Lookups.{items_in, items_of, module_named}
-use Rattle.rs_text.specs.Tree.{ItemTree, ModuleTree}
+use Rattle.rs_text.specs.Tree.{ModuleTree}
 use Rattle.rs_text.specs.Valid.{all_differ}
 use Rattle.whole_items.specs.Items.{WrittenBodies, module_tree}
 use Rattle.whole_means.proofs.Keys.{differ_first, differ_rest}
-use Rattle.whole_means.proofs.Lists.{Among, among_at, among_flat, among_flat_in, find_only, texts_equal, texts_same}
+use Rattle.whole_means.proofs.Lists.{Among, among_at, find_only, texts_equal, texts_same}
 use Rattle.whole_means.specs.Written.{IsNamed}
 use Rattle.whole_names.specs.Kept.{NamedProgram, module_of}
 use Rattle.whole_names.specs.ModuleNames.{name_or}
@@ -73,10 +73,10 @@ module _ (whole : NamedProgram) (is : IsNamed whole) where
         (there_by (module_tree whole bodies) 0 count unit (omega arith) (omega (arith, low)))
         (texts_same (module_of whole unit))
         (λ one there named.
-            let of = unit_of (module_tree whole bodies) 0 count one there in
-            let high = of.high in
-            let name : module_of whole of.unit ≡ module_of whole unit = ap (λ (m : ModuleTree). m.name) of.is ∙ texts_equal one.name (module_of whole unit) named in
-            sym of.is ∙ ap (module_tree whole bodies) (modules_apart of.unit unit (omega (arith, high)) low name))
+        let of = unit_of (module_tree whole bodies) 0 count one there in
+        let high = of.high in
+        let name : module_of whole of.unit ≡ module_of whole unit = ap (λ (m : ModuleTree). m.name) of.is ∙ texts_equal one.name (module_of whole unit) named in
+        sym of.is ∙ ap (module_tree whole bodies) (modules_apart of.unit unit (omega (arith, high)) low name))
 
     pub items_found : (unit : ℕ) → unit < count → items_in modules (module_of whole unit) ≡ (module_tree whole bodies unit).items
     items_found unit low = ap items_of (module_found unit low)

@@ -1,17 +1,9 @@
 -- What has a name in the module of its unit: each function, each static object and each structure or union that the unit completes.
-use Rattle.std.proofs.Common.{arith, ◌≡◌, ◌<◌, ℕ, zero, suc, ◌==◌, Bool, true, false, not, ◌&&◌, if◌then◌else◌, List, [], ◌∷◌, ◌++◌, map, filter, codes, Option, Some, None, find, is_none, is_some, IsSome, refl, sym, ap, subst, ◌∙◌, ◌⊎◌, inl, inr}
-use Rattle.std.proofs.lemmas.Bool.{and_from}
-use Rattle.std.specs.List.{Contains}
-use Rattle.cx_core.specs.Linked.{has_linkage}
-use Rattle.cx_core.specs.Trees.{CFun, CObject, CKey, CProgram, CPuts}
-use Rattle.cx_core.specs.Trees as core
-use Rattle.cx_core.specs.Typing.{function_with, object_with, outer_with}
-use Rattle.cx_core.specs.declared.program.Linkage.{Linkage}
-use Rattle.cx_core.specs.declared.program.Linkage.TheVariants.{External, Internal, Nothing}
-use Rattle.whole_means.proofs.Keys.{key_self, key_same, number_self, numbered}
-use Rattle.whole_means.proofs.Lists.{Among, among_filter_in, among_left, among_map_in, among_right, contains_among}
-use Rattle.whole_means.specs.Written.{IsNamed}
-use Rattle.whole_names.specs.Keys.{NameKey, a_function, an_object, a_record, a_calloc, a_bare_function, same_key, bare_functions, entries_of, is_block_static, is_entry, is_named_in, is_static_literal, is_text_of, key_of, module_keys, needs_calloc, objects_that, order_of, records_of, things_of}
+use Rattle.std.proofs.Common.{◌≡◌, ℕ, Bool, true, false, if◌then◌else◌, List, [], ◌∷◌, ◌++◌, codes, Option, Some, None, is_some, IsSome, refl, sym, ap, ◌∙◌, ◌⊎◌, inl, inr}
+use Rattle.cx_core.specs.Trees.{CProgram}
+use Rattle.whole_means.proofs.Keys.{key_self}
+use Rattle.whole_means.proofs.Lists.{Among, among_left, among_right}
+use Rattle.whole_names.specs.Keys.{NameKey, a_calloc, same_key, bare_functions, entries_of, is_block_static, is_static_literal, is_text_of, module_keys, needs_calloc, objects_that, records_of, things_of}
 use Rattle.whole_names.specs.Kept.{NamedProgram, name_in}
 use Rattle.whole_names.specs.ModuleNames.{GivenName, entry_names, given_from, module_names, name_among, name_or, own_names}
 use Rattle.rs_items_sets.specs.Names.{rust_name}
@@ -90,4 +82,4 @@ module _ (whole : NamedProgram) (unit : ℕ) (key : NameKey) where
   pub literal_key : Among (objects_that (is_static_literal unit) program) key → Among (module_keys program unit) key
   literal_key there =
       late (among_right (objects_that (is_block_static unit) program) (objects_that (is_text_of unit) program ++ behind_texts) key (among_right (objects_that (is_text_of unit) program) behind_texts key
-          (among_left (objects_that (is_static_literal unit) program) ((if needs_calloc program unit then a_calloc ∷ [] else []) ++ bare_functions program unit) key there)))
+      (among_left (objects_that (is_static_literal unit) program) ((if needs_calloc program unit then a_calloc ∷ [] else []) ++ bare_functions program unit) key there)))

@@ -1,24 +1,24 @@
 -- Functions and static objects have numbers, by which they are found again.
-use Rattle.std.proofs.Common.{arith, ◌≡◌, ◌<◌, ◌≤◌, ℕ, zero, suc, ◌+◌, Bool, true, false, ◌&&◌, if◌then◌else◌, List, [], ◌∷◌, ◌++◌, map, length, codes, Option, Some, None, slice_get, option_map, refl, sym, ap, subst, ◌∙◌, ◌⊎◌, inl, inr}
+use Rattle.std.proofs.Common.{arith, ◌≡◌, ◌<◌, ℕ, suc, ◌+◌, Bool, true, false, ◌&&◌, if◌then◌else◌, List, [], ◌∷◌, length, Some, slice_get, refl, sym, ap, subst, ◌∙◌, inl, inr}
 use Rattle.std.proofs.lemmas.Bool.{and_from, and_parts}
 use Rattle.std.proofs.lemmas.List.Elements.{All-contains}
 use Rattle.std.specs.List.{flat_map}
 use Rattle.std.specs.Str.{bytes_eq}
 use Rattle.cx_core.specs.Trees.{CFun, CObject, CPuts, CProgram}
 use Rattle.cx_core.specs.Typing.{object_with}
-use Rattle.rs_mean.specs.Lookups.{Home, OwnFunction, OwnStatic, callee_at, callee_among, function_number, function_with, functions_of, is_own, items_in, number_from, own, own_functions_in, static_from, static_home, statics_in, statics_of}
-use Rattle.rs_text.specs.Tree.{FunctionItem, FunctionTree, ItemTree, ModuleTree, StaticItem, StaticTree}
+use Rattle.rs_mean.specs.Lookups.{OwnFunction, OwnStatic, callee_at, callee_among, functions_of, is_own, number_from, own, own_functions_in, static_from, statics_in, statics_of}
+use Rattle.rs_text.specs.Tree.{FunctionItem, ItemTree, ModuleTree, StaticItem}
 use Rattle.whole_items.specs.Items.{WrittenBodies, function_tree, initialiser_tree, module_tree}
 use Rattle.whole_means.proofs.Callees.{function_number_same, one_key, function_among, same_function}
 use Rattle.whole_means.proofs.Items.{Stands, function_item_there, item_stands, static_item_there, static_tree}
 use Rattle.whole_means.proofs.Items.Stands.{is_record, is_static, is_extern, is_function, is_initialiser}
 use Rattle.whole_means.proofs.Keys.{key_self, no_initialiser, number_same}
 use Rattle.whole_means.proofs.Lists.{Among, among_contains, among_flat, among_flat_in, texts_equal, texts_same}
-use Rattle.whole_means.proofs.Modules.{IsOfUnit, items_found, modules_apart, modules_by, there_by, unit_of}
+use Rattle.whole_means.proofs.Modules.{items_found, modules_apart, modules_by, there_by, unit_of}
 use Rattle.whole_means.proofs.Named.{HasName}
-use Rattle.whole_means.proofs.Things.{function_named, function_there, object_named, object_there}
+use Rattle.whole_means.proofs.Things.{function_named, object_named, object_there}
 use Rattle.whole_means.specs.Written.{IsNamed}
-use Rattle.whole_names.specs.Keys.{NameKey, a_function, an_object, same_key}
+use Rattle.whole_names.specs.Keys.{a_function, an_object, same_key}
 use Rattle.whole_names.specs.Kept.{NamedProgram, module_of, name_in}
 use Rattle.std.specs.Prelude.{IsSome, is_some}
 
@@ -137,7 +137,7 @@ module _ (whole : NamedProgram) (is : IsNamed whole) (bodies : WrittenBodies) wh
       let of = unit_of (module_tree whole bodies) 0 count in_module.from in_module.there in
       let high = of.high in
       let made : Among (flat_map (own_functions_in (module_of whole of.unit)) (module_tree whole bodies of.unit).items) one =
-          subst (λ (m : ModuleTree). Among (flat_map (own_functions_in m.name) m.items) one) (sym of.is) in_module.made in
+      subst (λ (m : ModuleTree). Among (flat_map (own_functions_in m.name) m.items) one) (sym of.is) in_module.made in
       let in_item = among_flat (own_functions_in (module_of whole of.unit)) (module_tree whole bodies of.unit).items one made in
       own_in of.unit in_item.from one (omega (arith, high)) (item_stands whole bodies of.unit in_item.from in_item.there) in_item.made
 
@@ -147,7 +147,7 @@ module _ (whole : NamedProgram) (is : IsNamed whole) (bodies : WrittenBodies) wh
       among_flat_in (λ (m : ModuleTree). flat_map (own_functions_in m.name) m.items) modules (module_tree whole bodies f.unit) (own_of f)
       (there_by (module_tree whole bodies) 0 count f.unit (omega arith) (omega (arith, low)))
       (among_flat_in (own_functions_in (module_of whole f.unit)) (module_tree whole bodies f.unit).items (FunctionItem (function_tree whole f (bodies.of_function f))) (own_of f)
-          (function_item_there whole bodies f.unit f there refl) (inl refl))
+      (function_item_there whole bodies f.unit f there refl) (inl refl))
 
   abbrev name_of : CFun → List ℕ
   name_of f = name_in whole f.unit (a_function f.function)
@@ -156,22 +156,22 @@ module _ (whole : NamedProgram) (is : IsNamed whole) (bodies : WrittenBodies) wh
   pub same_own : (f : CFun) → Among program.functions f → (other : OwnFunction) → OwnIs other → other.home ≡ module_of whole f.unit → other.fun.name ≡ name_of f → other ≡ own_of f
   same_own f there other (of_function g among same) home name =
       let unit : g.unit ≡ f.unit =
-          modules_apart whole is g.unit f.unit (function_unit g among) (function_unit f there) (ap (λ (o : OwnFunction). o.home) (sym same) ∙ home) in
+      modules_apart whole is g.unit f.unit (function_unit g among) (function_unit f there) (ap (λ (o : OwnFunction). o.home) (sym same) ∙ home) in
       let key = one_key whole is bodies f.unit (a_function g.function) (a_function f.function)
-          (subst (λ n. HasName whole n (a_function g.function)) unit (function_named whole is g among)) (function_named whole is f there)
-          (ap (λ n. name_in whole n (a_function g.function)) (sym unit) ∙ ap (λ (o : OwnFunction). o.fun.name) (sym same) ∙ name) in
+      (subst (λ n. HasName whole n (a_function g.function)) unit (function_named whole is g among)) (function_named whole is f there)
+      (ap (λ n. name_in whole n (a_function g.function)) (sym unit) ∙ ap (λ (o : OwnFunction). o.fun.name) (sym same) ∙ name) in
       same ∙ ap own_of (same_function whole is bodies f.unit f g there among (function_number_same g.function f.function key))
   same_own f there other (of_initialiser unit low same) home name =
       absurd (no_initialiser whole is f.unit (a_function f.function)
-          ((function_named whole is f there).name_is ∙ ap Some (sym (ap (λ (o : OwnFunction). o.fun.name) (sym same) ∙ name))))
+      ((function_named whole is f there).name_is ∙ ap Some (sym (ap (λ (o : OwnFunction). o.fun.name) (sym same) ∙ name))))
 
   pub function_numbered : (f : CFun) → Among program.functions f → HasNumber (functions_of modules) (module_of whole f.unit) (name_of f) (own_of f) 0
   function_numbered f there =
       first_own (functions_of modules) (module_of whole f.unit) (name_of f) (own_of f) 0 (own_there f there)
       (and_from (bytes_eq (module_of whole f.unit) (module_of whole f.unit)) (bytes_eq (name_of f) (name_of f)) (texts_same (module_of whole f.unit)) (texts_same (name_of f)))
       (λ other among named.
-          let parts = and_parts (bytes_eq other.home (module_of whole f.unit)) (bytes_eq other.fun.name (name_of f)) named in
-          same_own f there other (own_is other among) (texts_equal other.home (module_of whole f.unit) parts.0) (texts_equal other.fun.name (name_of f) parts.1))
+      let parts = and_parts (bytes_eq other.home (module_of whole f.unit)) (bytes_eq other.fun.name (name_of f)) named in
+      same_own f there other (own_is other among) (texts_equal other.home (module_of whole f.unit) parts.0) (texts_equal other.fun.name (name_of f) parts.1))
 
   -- the item of a function is found by its path
   pub function_found : (f : CFun) → Among program.functions f → callee_at modules (module_of whole f.unit) (name_of f) ≡ Some (own (function_tree whole f (bodies.of_function f)))
@@ -212,7 +212,7 @@ module _ (whole : NamedProgram) (is : IsNamed whole) (bodies : WrittenBodies) wh
       let in_module = among_flat (λ (m : ModuleTree). flat_map (statics_in m.name) m.items) modules one there in
       let of = unit_of (module_tree whole bodies) 0 count in_module.from in_module.there in
       let made : Among (flat_map (statics_in (module_of whole of.unit)) (module_tree whole bodies of.unit).items) one =
-          subst (λ (m : ModuleTree). Among (flat_map (statics_in m.name) m.items) one) (sym of.is) in_module.made in
+      subst (λ (m : ModuleTree). Among (flat_map (statics_in m.name) m.items) one) (sym of.is) in_module.made in
       let in_item = among_flat (statics_in (module_of whole of.unit)) (module_tree whole bodies of.unit).items one made in
       static_in of.unit in_item.from one (item_stands whole bodies of.unit in_item.from in_item.there) in_item.made
 
@@ -222,7 +222,7 @@ module _ (whole : NamedProgram) (is : IsNamed whole) (bodies : WrittenBodies) wh
       among_flat_in (λ (m : ModuleTree). flat_map (statics_in m.name) m.items) modules (module_tree whole bodies o.unit) (static_of o puts)
       (there_by (module_tree whole bodies) 0 count o.unit (omega arith) (omega (arith, low)))
       (among_flat_in (statics_in (module_of whole o.unit)) (module_tree whole bodies o.unit).items (StaticItem (static_tree whole o puts)) (static_of o puts)
-          (static_item_there whole bodies o.unit o puts there refl found) (inl refl))
+      (static_item_there whole bodies o.unit o puts there refl found) (inl refl))
 
   object_number_same : (n m : ℕ) → an_object n ≡ an_object m → n ≡ m
   object_number_same n m same = number_same n m (ap (λ k. same_key (an_object n) k) (sym same) ∙ key_self (an_object n))
@@ -233,10 +233,10 @@ module _ (whole : NamedProgram) (is : IsNamed whole) (bodies : WrittenBodies) wh
   same_object o p there also static static_too home name =
       let unit : p.unit ≡ o.unit = modules_apart whole is p.unit o.unit (object_unit p also) (object_unit o there) home in
       let key = one_key whole is bodies o.unit (an_object p.object) (an_object o.object)
-          (subst (λ n. HasName whole n (an_object p.object)) unit (object_named whole is p also static_too)) (object_named whole is o there static)
-          (ap (λ n. name_in whole n (an_object p.object)) (sym unit) ∙ name) in
+      (subst (λ n. HasName whole n (an_object p.object)) unit (object_named whole is p also static_too)) (object_named whole is o there static)
+      (ap (λ n. name_in whole n (an_object p.object)) (sym unit) ∙ name) in
       let found : Some p ≡ Some o =
-          sym (object_there whole is p also) ∙ ap (λ n. object_with n program.objects) (object_number_same p.object o.object key) ∙ object_there whole is o there in
+      sym (object_there whole is p also) ∙ ap (λ n. object_with n program.objects) (object_number_same p.object o.object key) ∙ object_there whole is o there in
       cc (found)
 
   pub static_found : (o : CObject) (puts : CPuts) → Among program.objects o → o.puts ≡ Some puts →
@@ -244,13 +244,13 @@ module _ (whole : NamedProgram) (is : IsNamed whole) (bodies : WrittenBodies) wh
   static_found o puts there found =
       first_static (statics_of modules) (module_of whole o.unit) (name_in whole o.unit (an_object o.object)) (static_of o puts) 0 (static_there o puts there found)
       (and_from (bytes_eq (module_of whole o.unit) (module_of whole o.unit)) (bytes_eq (name_in whole o.unit (an_object o.object)) (name_in whole o.unit (an_object o.object)))
-          (texts_same (module_of whole o.unit)) (texts_same (name_in whole o.unit (an_object o.object))))
+      (texts_same (module_of whole o.unit)) (texts_same (name_in whole o.unit (an_object o.object))))
       (λ other among named.
-          let of = static_is other among in
-          let parts = and_parts (bytes_eq other.home (module_of whole o.unit)) (bytes_eq other.object.name (name_in whole o.unit (an_object o.object))) named in
-          let same = same_object o of.object there of.among (ap is_some found) (ap is_some of.puts_are)
-              (ap (λ (s : OwnStatic). s.home) (sym of.is_it) ∙ texts_equal other.home (module_of whole o.unit) parts.0)
-              (ap (λ (s : OwnStatic). s.object.name) (sym of.is_it) ∙ texts_equal other.object.name (name_in whole o.unit (an_object o.object)) parts.1) in
-          let puts_same : Some of.puts ≡ Some puts = sym of.puts_are ∙ ap (λ (q : CObject). q.puts) same ∙ found in
-          let equal : of.puts ≡ puts = cc (puts_same) in
-          of.is_it ∙ ap (λ (q : CObject). static_of q of.puts) same ∙ ap (static_of o) equal)
+      let of = static_is other among in
+      let parts = and_parts (bytes_eq other.home (module_of whole o.unit)) (bytes_eq other.object.name (name_in whole o.unit (an_object o.object))) named in
+      let same = same_object o of.object there of.among (ap is_some found) (ap is_some of.puts_are)
+      (ap (λ (s : OwnStatic). s.home) (sym of.is_it) ∙ texts_equal other.home (module_of whole o.unit) parts.0)
+      (ap (λ (s : OwnStatic). s.object.name) (sym of.is_it) ∙ texts_equal other.object.name (name_in whole o.unit (an_object o.object)) parts.1) in
+      let puts_same : Some of.puts ≡ Some puts = sym of.puts_are ∙ ap (λ (q : CObject). q.puts) same ∙ found in
+      let equal : of.puts ≡ puts = cc (puts_same) in
+      of.is_it ∙ ap (λ (q : CObject). static_of q of.puts) same ∙ ap (static_of o) equal)

@@ -1,22 +1,22 @@
 -- A function of the crate has the parameters and the result that the type of a pointer to it says (ISO C99, 6.7.5.3, 6.9.1p7; the Rust Reference, "Function pointer types").
-use Rattle.std.proofs.Common.{arith, ◌≡◌, ℕ, zero, suc, ◌==◌, Bool, true, false, not, ◌&&◌, if◌then◌else◌, List, [], ◌∷◌, ◌++◌, map, filter, codes, Option, Some, None, is_some, is_none, IsSome, IfSome, refl, sym, ap, subst, ◌∙◌, ◌⊎◌, inl, inr, append_assoc, append-nil}
+use Rattle.std.proofs.Common.{◌≡◌, ℕ, zero, suc, ◌==◌, Bool, true, false, not, ◌&&◌, if◌then◌else◌, List, [], ◌∷◌, ◌++◌, map, filter, codes, Option, Some, None, is_some, is_none, IsSome, IfSome, refl, sym, ap, ◌∙◌, inl, inr, append_assoc, append-nil}
 use Rattle.std.proofs.lemmas.Bool.{and_parts, not-true}
 use Rattle.std.proofs.lemmas.Grind.{flat_map-append}
-use Rattle.std.specs.List.{flat_map, list_any}
+use Rattle.std.specs.List.{flat_map}
 use Rattle.cx_core.specs.Linked.{IsTypedFunction, home_of}
-use Rattle.cx_core.specs.Statements.{AreParams, AreParamsOf, IsDefinition, IsDefinitionOf, IsParamObject, objects_in}
-use Rattle.cx_core.specs.Trees.{CFun, CObject, CTy, ty, CTyForm, void, basic, enum_type, pointer, array, record_type, function, CParams, unlisted, listed, CTys, no_types, more_types, CProgram, form_of_type, unqualified}
+use Rattle.cx_core.specs.Statements.{AreParams, AreParamsOf, IsDefinitionOf, IsParamObject, objects_in}
+use Rattle.cx_core.specs.Trees.{CFun, CObject, CTy, ty, void, basic, enum_type, pointer, array, record_type, function, CParams, unlisted, listed, CTys, no_types, more_types, CProgram, form_of_type, unqualified}
 use Rattle.cx_core.specs.Typing.{CHome, object_with}
 use Rattle.rs_items.specs.Types.{TypeNames, passed, rust_form, rust_params, rust_pointer, rust_type, rust_types, with_result}
 use Rattle.rs_items.specs.Types as types
 use Rattle.rs_items_sets.specs.Names.{rust_name}
 use Rattle.rs_items_sets.specs.declared.scope.NameScope.TheVariants.{Function}
-use Rattle.rs_text.specs.Tree.{Ty, Integer, Boolean, Void, Pointer, Array, Code, Record, Tys, no_tys, more_tys, OptionTy, no_ty, some_ty, LocalTree, FunctionTree, tys, option_ty}
+use Rattle.rs_text.specs.Tree.{Ty, Integer, Boolean, Void, Pointer, Array, Code, Record, Tys, more_tys, OptionTy, no_ty, some_ty, LocalTree, tys, option_ty}
 use Rattle.rs_text.specs.Valid.{is_void}
-use Rattle.whole_items.specs.Items.{WrittenBody, count_of, function_tree, is_param, is_plain_param, named, names_of_body, object_local, param_by, param_of, result_of_form, result_param, type_of_object, value_type, written_result}
+use Rattle.whole_items.specs.Items.{WrittenBody, count_of, function_tree, is_param, is_plain_param, object_local, param_by, param_of, result_of_form, result_param, type_of_object, value_type, written_result}
 use Rattle.whole_means.proofs.Keys.{any_there, number_self}
 use Rattle.whole_means.proofs.Lists.{Among}
-use Rattle.whole_names.specs.FunctionNames.{LocalKey, a_result, a_passed, a_local, a_temporary, LocalName, WantedLocal, gives_record, is_local_of, is_among, is_record, locals_from, locals_that, object_is_record, object_name, wanted_in, wanted_locals, wanted_object, wanted_param, wanted_params, wanted_temporaries}
+use Rattle.whole_names.specs.FunctionNames.{LocalKey, a_result, a_passed, a_local, a_temporary, WantedLocal, gives_record, is_local_of, is_among, is_record, locals_from, locals_that, object_is_record, object_name, wanted_in, wanted_locals, wanted_object, wanted_param, wanted_params, wanted_temporaries}
 use Rattle.whole_names.specs.Kept.{NamedProgram, code_type, types_of}
 use Rattle.whole_names.specs.ModuleNames.{taken_names}
 
@@ -102,7 +102,7 @@ module _ (whole : NamedProgram) (fun : CFun) where
           let local = (and_parts (is_local_of fun o) (test o) e).0 in
           let outside : is_among fun.params o.object ≡ false = not-true (is_among fun.params o.object) (and_parts (is_none o.puts && is_among (objects_in fun.body) o.object) (not (is_among fun.params o.object)) local).1 in
           ap (λ t. map (λ (one : LocalTree). one.ty) (if t && not (object_is_record (object_with o.object program.objects)) then object_local whole [] o.object else [])
-              ++ wanted_types (map wanted_object (filter (λ one. is_local_of fun one && test one) objects))) outside
+          ++ wanted_types (map wanted_object (filter (λ one. is_local_of fun one && test one) objects))) outside
           ∙ rest
       by_test false e rest = rest
 
@@ -120,6 +120,7 @@ module _ (whole : NamedProgram) (fun : CFun) where
           map (λ (one : LocalTree). one.ty) (if is_plain_param whole fun number then object_local whole [] number else []) ≡ (if not t then type_of_object whole (object_with number program.objects) ∷ [] else [])
       plain_is true e = ap (λ t. map (λ (one : LocalTree). one.ty) (if t then object_local whole [] number else [])) (ap (λ p. p && not (object_is_record (object_with number program.objects))) among ∙ ap not e)
       plain_is false e = ap (λ t. map (λ (one : LocalTree). one.ty) (if t then object_local whole [] number else [])) (ap (λ p. p && not (object_is_record (object_with number program.objects))) among ∙ ap not e)
+
       by_record : (t : Bool) → object_is_record (object_with number program.objects) ≡ t → wanted_types (wanted_param program number ++ others) ≡ passed_type number ∷ wanted_types others
       by_record true e =
           ap (λ t. wanted_types ((if t then record { key = a_passed number; wanted = param_name number } ∷ record { key = a_local number; wanted = param_name number } ∷ [] else record { key = a_local number; wanted = param_name number } ∷ []) ++ others)) e
@@ -153,21 +154,21 @@ module _ (whole : NamedProgram) (fun : CFun) where
       ∙ ap (λ (rest : List Ty). wanted_types (wanted_locals program fun) ++ rest) (no_temporaries 0 (count_of body.temporaries))
       ∙ append-nil (wanted_types (wanted_locals program fun))
       ∙ flat_map-append (λ (one : WantedLocal). types_by [] one.key) (if gives_record (form_of_type fun.type) then record { key = a_result; wanted = codes "ret" } ∷ [] else [])
-          (wanted_params program fun.params ++ own_objects)
+      (wanted_params program fun.params ++ own_objects)
       ∙ ap (λ (first : List Ty). first ++ wanted_types (wanted_params program fun.params ++ own_objects)) (result_is (gives_record (form_of_type fun.type)))
       ∙ ap (λ (rest : List Ty). result_types (gives_record (form_of_type fun.type)) (result_of_form (form_of_type fun.type)) ++ rest)
-          (params_types fun.params own_objects (λ number there. any_there (λ other. other == number) fun.params number there (number_self number))
-              ∙ ap (λ (rest : List Ty). map passed_type fun.params ++ rest)
-                  (flat_map-append (λ (one : WantedLocal). types_by [] one.key) (locals_that (λ one. is_some one.name) program fun) (locals_that (λ one. is_none one.name) program fun)
-                      ∙ ap (λ (first : List Ty). first ++ wanted_types (locals_that (λ one. is_none one.name) program fun)) (no_objects (λ one. is_some one.name) program.objects)
-                      ∙ no_objects (λ one. is_none one.name) program.objects)
-              ∙ append-nil (map passed_type fun.params))
+      (params_types fun.params own_objects (λ number there. any_there (λ other. other == number) fun.params number there (number_self number))
+      ∙ ap (λ (rest : List Ty). map passed_type fun.params ++ rest)
+      (flat_map-append (λ (one : WantedLocal). types_by [] one.key) (locals_that (λ one. is_some one.name) program fun) (locals_that (λ one. is_none one.name) program fun)
+      ∙ ap (λ (first : List Ty). first ++ wanted_types (locals_that (λ one. is_none one.name) program fun)) (no_objects (λ one. is_some one.name) program.objects)
+      ∙ no_objects (λ one. is_none one.name) program.objects)
+      ∙ append-nil (map passed_type fun.params))
     where
       result_is : (gives : Bool) → wanted_types (if gives then record { key = a_result; wanted = codes "ret" } ∷ [] else []) ≡ result_types gives (result_of_form (form_of_type fun.type))
       result_is true = append-nil (map (λ (one : LocalTree). one.ty) (result_param whole [] (result_of_form (form_of_type fun.type))))
       result_is false = refl
 
--- ---- the type of a pointer to the function
+  -- ---- the type of a pointer to the function
 
   one_passed : (home : CHome) (number : ℕ) (type : CTy) (found : Option CObject) → object_with number program.objects ≡ found → IsSome found → IfSome found (IsParamObject home type) →
       passed_type number ≡ passed (types.is_record type) (rust_type names type)
@@ -198,7 +199,7 @@ module _ (whole : NamedProgram) (fun : CFun) where
 
   code_of_type : (type : CTy) → IsDefinitionOf (home_of program None fun.unit) fun (form_of_type type) →
       code_type whole type ≡ Code (tys (result_types (gives_record (form_of_type type)) (result_of_form (form_of_type type)) ++ map passed_type fun.params))
-          (option_ty (written_result whole (gives_record (form_of_type type)) (result_of_form (form_of_type type))))
+      (option_ty (written_result whole (gives_record (form_of_type type)) (result_of_form (form_of_type type))))
   code_of_type (ty (function result params variadic) is_const) definition =
       ap (λ t. types.code_type t (rust_type names result) (rust_params names params)) (same_record result)
       ∙ code_by (is_record (form_of_type result)) result params (list_match fun.unit fun.params params definition.params_are)

@@ -1,43 +1,27 @@
 -- The record of each structure or union is found by its path, with the layout that it has in C.
-use Rattle.std.proofs.Common.{arith, ◌≡◌, ◌<◌, ◌≤◌, ℕ, zero, suc, ◌+◌, ◌/◌, ◌==◌, Bool, true, false, if◌then◌else◌, List, [], ◌∷◌, ◌++◌, length, reverse, Option, Some, None, slice_get, is_some, IsSome, IfSome, All, option_map, refl, sym, ap, subst, ◌∙◌, ◌⊎◌, inl, inr}
-use Rattle.std.proofs.lemmas.Grind.{flat_map-append}
-use Rattle.std.proofs.lemmas.List.{reverse-append}
-use Rattle.std.proofs.lemmas.List.Elements.{All-contains, All-weaker}
-use Rattle.std.specs.List.{flat_map, list_any}
-use Rattle.std.specs.Option.{option_and_then, option_flatten}
+use Rattle.std.proofs.Common.{◌≡◌, ◌<◌, ℕ, Bool, true, false, if◌then◌else◌, List, [], ◌∷◌, ◌++◌, length, Option, Some, None, slice_get, is_some, refl, sym, ap, subst, ◌∙◌, inl, inr}
+use Rattle.std.proofs.lemmas.List.Elements.{All-contains}
+use Rattle.std.specs.Option.{option_flatten}
 use Rattle.std.specs.Str.{bytes_eq}
-use Rattle.cr_base.specs.declared.layout.Laid.{Laid}
-use Rattle.cx_core.specs.Layouts.{CLayouts, CRow, extent, layouts_of, row_at, row_of, whole_extent}
-use Rattle.cx_core.specs.Trees.{CMember, CRecord, CTy, ty, record_type, CTypes, CProgram}
-use Rattle.cx_core.specs.ValidTypes.{AreTypes}
-use Rattle.cx_typed_runs.proofs.AlignedTypes.{types_aligned}
-use Rattle.cx_typed_sizes.proofs.Bytes.{complete_has_byte}
-use Rattle.cx_typed_work.proofs.Rows.{row_sized}
-use Rattle.mem_bytes.specs.Calls.{IsAlignment}
-use Rattle.rs_items.specs.Known.{KnownThing, Knows}
-use Rattle.rs_items.specs.Records.{record_name, record_tree}
-use Rattle.rs_items.specs.Types.{enum_integer}
-use Rattle.rs_items.specs.declared.known.Named.TheVariants.{Enum, Record as RecordNamed}
-use Rattle.rs_items_rules.proofs.Rows.{row_laid}
-use Rattle.rs_items_rules.specs.Agree.{AreKept, IsKept, Records}
-use Rattle.rs_mean.specs.Layout.{laid_among, laid_at, laid_with, record_laid}
-use Rattle.rs_mean.specs.Lookups.{first_record, items_in, record_among, record_at, record_with}
-use Rattle.rs_mean.specs.Scalars.{width_of}
-use Rattle.rs_text.specs.Tree.{FunctionItem, ExternItem, ItemTree, ModuleTree, OuterTree, RecordItem, RecordTree, StaticItem}
+use Rattle.cx_core.specs.Layouts.{CRow, layouts_of, row_at}
+use Rattle.cx_core.specs.Trees.{CRecord, CProgram}
+use Rattle.rs_items.specs.Records.{record_name}
+use Rattle.rs_mean.specs.Lookups.{first_record, record_among, record_at}
+use Rattle.rs_text.specs.Tree.{FunctionItem, ExternItem, ItemTree, ModuleTree, RecordItem, RecordTree, StaticItem}
 use Rattle.rs_tree.specs.declared.ty.RPath.{RPath}
-use Rattle.whole_items.specs.Items.{WrittenBodies, extern_items, function_items, initialiser_tree, module_tree, outers_of, record_items, record_items_of, record_with_row, static_items}
+use Rattle.whole_items.specs.Items.{WrittenBodies, module_tree}
 use Rattle.whole_means.proofs.Callees.{one_key}
 use Rattle.whole_means.proofs.Items.{Stands, item_stands, record_item_there, record_written}
 use Rattle.whole_means.proofs.Items.Stands.{is_record, is_static, is_extern, is_function, is_initialiser}
-use Rattle.whole_means.proofs.Keys.{any_there, key_self, number_same, number_self}
+use Rattle.whole_means.proofs.Keys.{key_self, number_same}
 use Rattle.whole_means.proofs.Lists.{Among, among_cases, among_contains, among_left, among_right, contains_among, texts_equal, texts_same}
 use Rattle.whole_means.proofs.Modules.{items_found, modules_by}
 use Rattle.whole_means.proofs.Named.{HasName}
-use Rattle.whole_means.proofs.Rows.{row_by, row_in, row_there, row_was, rows_that}
+use Rattle.whole_means.proofs.Rows.{row_there}
 use Rattle.whole_means.proofs.Things.{record_named}
-use Rattle.whole_means.specs.Written.{AreCompletedIn, HoldsEarlier, IsCompletedIn, IsNamed, record_in}
-use Rattle.whole_names.specs.Keys.{NameKey, a_record, order_of, same_key}
-use Rattle.whole_names.specs.Kept.{LocalNames, NamedProgram, enum_thing, enum_type, known_thing, module_of, name_in, no_locals, path_if, record_path, record_thing, record_unit, unit_or}
+use Rattle.whole_means.specs.Written.{AreCompletedIn, IsNamed}
+use Rattle.whole_names.specs.Keys.{a_record, order_of, same_key}
+use Rattle.whole_names.specs.Kept.{NamedProgram, module_of, name_in, path_if, record_path, record_thing, record_unit, unit_or}
 
 -- ---- the first of its name
 
@@ -156,8 +140,8 @@ module _ (whole : NamedProgram) (is : IsNamed whole) where
         let x = name_in whole unit (a_record number) in
         ap (record_among x) (items_found whole is bodies unit (unit_low unit number done))
         ∙ record_first items x tree
-            (record_item_there whole bodies unit number done.one done.row (is_completed unit number done) (ap option_flatten done.one_is) done.row_is)
-            (ap (λ n. bytes_eq n x) (tree_named unit number done) ∙ texts_same x) (λ other among named. alone other named (item_stands whole bodies unit (RecordItem other) among))
+        (record_item_there whole bodies unit number done.one done.row (is_completed unit number done) (ap option_flatten done.one_is) done.row_is)
+        (ap (λ n. bytes_eq n x) (tree_named unit number done) ∙ texts_same x) (λ other among named. alone other named (item_stands whole bodies unit (RecordItem other) among))
       where
         alone : (other : RecordTree) → bytes_eq other.name (name_in whole unit (a_record number)) ≡ true → Stands whole bodies unit (RecordItem other) →
             other ≡ record_written whole unit done.one done.row
@@ -167,9 +151,9 @@ module _ (whole : NamedProgram) (is : IsNamed whole) where
             let one_same : one ≡ its.one = some_equal one its.one (sym found ∙ ap option_flatten its.one_is) in
             let row_same : row ≡ its.row = some_equal row its.row (sym laid ∙ its.row_is) in
             let whole_same : record_written whole unit one row ≡ record_written whole unit its.one its.row =
-                ap (λ (r : CRecord). record_written whole unit r row) one_same ∙ ap (record_written whole unit its.one) row_same in
+            ap (λ (r : CRecord). record_written whole unit r row) one_same ∙ ap (record_written whole unit its.one) row_same in
             let name : name_in whole unit (a_record n) ≡ name_in whole unit (a_record number) =
-                sym (tree_named unit n its) ∙ ap (λ (r : RecordTree). r.name) (sym whole_same ∙ sym equal) ∙ texts_equal other.name (name_in whole unit (a_record number)) named in
+            sym (tree_named unit n its) ∙ ap (λ (r : RecordTree). r.name) (sym whole_same ∙ sym equal) ∙ texts_equal other.name (name_in whole unit (a_record number)) named in
             equal ∙ whole_same ∙ same_record unit n number its done (same_number unit n number its done name)
         alone other named (is_static one puts among here found same) = absurd cc
         alone other named (is_extern same) = absurd cc

@@ -1,20 +1,16 @@
 -- The structures and unions that a unit completes stand in its module, each behind those that it holds, so each has in the crate the layout that it has in C (ISO C99, 6.7.2.1; the Rust
 -- Reference, "The C representation").
-use Rattle.std.proofs.Common.{arith, ◌≡◌, ◌<◌, ◌≤◌, ℕ, zero, suc, ◌+◌, ◌==◌, Bool, true, false, if◌then◌else◌, List, [], ◌∷◌, ◌++◌, length, reverse, Option, Some, None, slice_get, get_or, is_some, IsSome, IfSome, All, option_map, refl, sym, ap, subst, ◌∙◌, ◌⊎◌, inl, inr}
-use Rattle.std.proofs.lemmas.List.{reverse-append}
+use Rattle.std.proofs.Common.{arith, ◌≡◌, ◌<◌, ℕ, zero, suc, ◌+◌, Bool, true, false, if◌then◌else◌, List, [], ◌∷◌, length, Option, Some, None, slice_get, get_or, is_some, IsSome, IfSome, All, option_map, refl, sym, ap, ◌∙◌}
 use Rattle.std.proofs.lemmas.List.Elements.{All-head, All-tail}
 use Rattle.std.proofs.lemmas.Option.{slice_get_within, slice_get-get_or}
 use Rattle.std.specs.Option.{option_and_then, option_flatten}
-use Rattle.cr_base.specs.declared.layout.Laid.{Laid}
-use Rattle.cr_base.specs.declared.layout.Piece.{Piece}
-use Rattle.cx_core.specs.Layouts.{CLayouts, CRow, array_extent, completed_count, extent, layouts_of, passes, piece, piece_of, pieces_of, put_front, row_at, row_of, row_of_pieces, whole_extent, whole_extent_of}
-use Rattle.cx_core.specs.Trees.{CMember, CRecord, CTy, ty, CTyForm, void, basic, enum_type, pointer, array, record_type, function, CTypes}
+use Rattle.cx_core.specs.Layouts.{CLayouts, CRow, array_extent, completed_count, layouts_of, passes, piece, piece_of, pieces_of, put_front, row_at, row_of, row_of_pieces, whole_extent}
+use Rattle.cx_core.specs.Trees.{CMember, CRecord, CTy, ty, void, basic, enum_type, pointer, array, record_type, function, CTypes}
 use Rattle.cx_core.specs.ValidTypes.{AreTypes}
 use Rattle.cx_layout.proofs.Builds.{layouts_are}
 use Rattle.cx_layout.proofs.Passes.{row_more, row_at-pass, passes_none, passes_more}
 use Rattle.cx_layout.specs.Calls.{record_at}
-use Rattle.whole_means.proofs.Lists.{contains_among}
-use Rattle.whole_means.specs.Written.{HoldsEarlier, record_in}
+use Rattle.whole_means.specs.Written.{record_in}
 
 -- ---- rows of the records of a program
 
@@ -58,7 +54,7 @@ completed_by types number row are is = by_record (record_at types number) refl
     by_record : (found : Option CRecord) → record_at types number ≡ found → IsCompleted types number
     by_record None e =
         absurd (let some = row_completed types (completed_count types.records) number row (sym (ap (λ (layouts : CLayouts). row_at layouts number) (layouts_are types)) ∙ is) in
-            let h : false ≡ true = sym (ap is_some e) ∙ some in cc)
+        let h : false ≡ true = sym (ap is_some e) ∙ some in cc)
     by_record (Some one) e =
         let there : slice_get types.records number ≡ Some (Some one) = flat_some (slice_get types.records number) one e in
         let within : number < length types.records = slice_get_within types.records number (Some one) there in

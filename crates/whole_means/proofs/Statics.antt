@@ -1,7 +1,6 @@
 -- The static objects of the crate are those of C, in the same order.
-use Rattle.std.proofs.Common.{arith, ◌≡◌, ◌<◌, ◌≤◌, ℕ, zero, suc, ◌+◌, ◌==◌, Bool, true, false, if◌then◌else◌, List, [], ◌∷◌, ◌++◌, map, length, Option, Some, None, slice_get, is_some, IsSome, refl, sym, ap, subst, ◌∙◌, ◌⊎◌, inl, inr, append-nil, append_assoc, ◌&&◌}
+use Rattle.std.proofs.Common.{arith, ◌≡◌, ◌<◌, ◌≤◌, ℕ, zero, suc, ◌+◌, ◌==◌, Bool, true, false, if◌then◌else◌, List, [], ◌∷◌, ◌++◌, map, length, Option, Some, None, slice_get, is_some, refl, sym, ap, subst, ◌∙◌, ◌⊎◌, inl, inr, append-nil, append_assoc, ◌&&◌}
 use Rattle.std.proofs.lemmas.Bool.{and_from, and_parts, cases_eq}
-use Rattle.std.proofs.lemmas.Bool.Decides.{nat_tests}
 use Rattle.std.proofs.lemmas.Grind.{flat_map-append}
 use Rattle.std.specs.List.{flat_map}
 use Rattle.std.specs.Option.{option_flatten}
@@ -12,7 +11,7 @@ use Rattle.cx_mean.specs.Operands.{slot_of}
 use Rattle.cx_mean.specs.State.{statics_first, statics_in}
 use Rattle.mem_bytes.specs.declared.value.Ptr.{Ptr}
 use Rattle.rs_items.specs.Types.{rust_type}
-use Rattle.rs_mean.specs.Lookups.{Home, OwnStatic, static_from, statics_in as statics_of_item, statics_of}
+use Rattle.rs_mean.specs.Lookups.{OwnStatic, static_from, statics_in as statics_of_item, statics_of}
 use Rattle.rs_text.specs.Tree.{FunctionItem, ItemTree, ModuleTree, OuterTree}
 use Rattle.whole_items.specs.Items.{WrittenBodies, extern_items, function_items, function_of_unit, function_tree, initialiser_tree, module_tree, outers_of, record_items, record_items_of, record_with_row, static_items, static_of as static_item_of, static_with}
 use Rattle.whole_means.proofs.Items.{static_tree}
@@ -95,19 +94,19 @@ module _ (whole : NamedProgram) (bodies : WrittenBodies) where
     statics_in_module =
         flat_map-append statics_here (record_items whole unit) (static_items whole unit ++ (extern_items (outers_of whole unit) ++ (function_items whole bodies unit ++ ends)))
         ∙ ap (λ (first : List OwnStatic). first ++ flat_map statics_here (static_items whole unit ++ (extern_items (outers_of whole unit) ++ (function_items whole bodies unit ++ ends))))
-            (flat_flat statics_here (λ number. record_items_of whole unit number (option_flatten (slice_get program.types.records number))) (order_of program unit).completed
-                ∙ flat_none (λ number. flat_map statics_here (record_items_of whole unit number (option_flatten (slice_get program.types.records number)))) (order_of program unit).completed
-                    (λ number. no_static_record number (option_flatten (slice_get program.types.records number))))
+        (flat_flat statics_here (λ number. record_items_of whole unit number (option_flatten (slice_get program.types.records number))) (order_of program unit).completed
+        ∙ flat_none (λ number. flat_map statics_here (record_items_of whole unit number (option_flatten (slice_get program.types.records number)))) (order_of program unit).completed
+        (λ number. no_static_record number (option_flatten (slice_get program.types.records number))))
         ∙ flat_map-append statics_here (static_items whole unit) (extern_items (outers_of whole unit) ++ (function_items whole bodies unit ++ ends))
         ∙ ap (λ (first : List OwnStatic). first ++ flat_map statics_here (extern_items (outers_of whole unit) ++ (function_items whole bodies unit ++ ends)))
-            (flat_flat statics_here (static_item_of whole unit) program.objects ∙ flat_same (λ o. flat_map statics_here (static_item_of whole unit o)) (own_in unit) program.objects one_static)
+        (flat_flat statics_here (static_item_of whole unit) program.objects ∙ flat_same (λ o. flat_map statics_here (static_item_of whole unit o)) (own_in unit) program.objects one_static)
         ∙ ap (λ (rest : List OwnStatic). flat_map (own_in unit) program.objects ++ rest)
-            (flat_map-append statics_here (extern_items (outers_of whole unit)) (function_items whole bodies unit ++ ends)
-                ∙ ap (λ (first : List OwnStatic). first ++ flat_map statics_here (function_items whole bodies unit ++ ends)) (no_static_extern (outers_of whole unit))
-                ∙ flat_map-append statics_here (function_items whole bodies unit) ends
-                ∙ ap (λ (first : List OwnStatic). first ++ [])
-                    (flat_flat statics_here (function_of_unit whole bodies unit) program.functions
-                        ∙ flat_none (λ f. flat_map statics_here (function_of_unit whole bodies unit f)) program.functions no_static_function))
+        (flat_map-append statics_here (extern_items (outers_of whole unit)) (function_items whole bodies unit ++ ends)
+        ∙ ap (λ (first : List OwnStatic). first ++ flat_map statics_here (function_items whole bodies unit ++ ends)) (no_static_extern (outers_of whole unit))
+        ∙ flat_map-append statics_here (function_items whole bodies unit) ends
+        ∙ ap (λ (first : List OwnStatic). first ++ [])
+        (flat_flat statics_here (function_of_unit whole bodies unit) program.functions
+        ∙ flat_none (λ f. flat_map statics_here (function_of_unit whole bodies unit f)) program.functions no_static_function))
         ∙ append-nil (flat_map (own_in unit) program.objects)
 
   -- ---- of all modules
@@ -210,6 +209,7 @@ module _ (whole : NamedProgram) (bodies : WrittenBodies) where
           low = one.low;
           high = subst (λ n. at.block < block + length n) (sym (ap (λ (p : Option CPuts). statics_first o p (statics_in objects)) (e ∙ none))) one.high;
         }
+
         first : (puts : CPuts) → o.puts ≡ Some puts → o.object ≡ number → at ≡ record { block = block; offset = at.offset } → IsBlock (o ∷ objects) number at block
         first puts e same place =
             let at_block : at.block ≡ block = ap (λ (p : Ptr). p.block) place in
@@ -223,13 +223,14 @@ module _ (whole : NamedProgram) (bodies : WrittenBodies) where
               home_is =
                   ap (λ (p : Option CPuts). static_from block (module_of whole o.unit) (name_in whole o.unit (an_object o.object)) (own_with o p ++ flat_map own_static objects)) e
                   ∙ ap (λ t. if t then Some (record { block = block; ty = rust_type (types_of whole) o.type })
-                      else static_from (block + 1) (module_of whole o.unit) (name_in whole o.unit (an_object o.object)) (flat_map own_static objects))
-                      (and_from (bytes_eq (module_of whole o.unit) (module_of whole o.unit)) (bytes_eq (name_in whole o.unit (an_object o.object)) (name_in whole o.unit (an_object o.object)))
-                          (texts_same (module_of whole o.unit)) (texts_same (name_in whole o.unit (an_object o.object))))
+                  else static_from (block + 1) (module_of whole o.unit) (name_in whole o.unit (an_object o.object)) (flat_map own_static objects))
+                  (and_from (bytes_eq (module_of whole o.unit) (module_of whole o.unit)) (bytes_eq (name_in whole o.unit (an_object o.object)) (name_in whole o.unit (an_object o.object)))
+                  (texts_same (module_of whole o.unit)) (texts_same (name_in whole o.unit (an_object o.object))))
                   ∙ ap (λ n. Some (record { block = n; ty = rust_type (types_of whole) o.type })) (sym at_block);
               low = omega (arith, at_block);
               high = omega (arith, at_block, count);
             }
+
         behind : (puts : CPuts) → o.puts ≡ Some puts → (o.object ≡ number → ⊥) → IsBlock objects number at (suc block) → IsBlock (o ∷ objects) number at block
         behind puts e other one =
             let count : length (statics_in (o ∷ objects)) ≡ suc (length (statics_in objects)) = ap (λ (p : Option CPuts). length (statics_first o p (statics_in objects))) e in
@@ -244,8 +245,8 @@ module _ (whole : NamedProgram) (bodies : WrittenBodies) where
               home_is =
                   ap (λ (p : Option CPuts). static_from block (module_of whole one.one.unit) (name_in whole one.one.unit (an_object one.one.object)) (own_with o p ++ flat_map own_static objects)) e
                   ∙ ap (λ t. if t then Some (record { block = block; ty = rust_type (types_of whole) o.type })
-                      else static_from (block + 1) (module_of whole one.one.unit) (name_in whole one.one.unit (an_object one.one.object)) (flat_map own_static objects))
-                      (no_path (bytes_eq (module_of whole o.unit) (module_of whole one.one.unit) && bytes_eq (name_in whole o.unit (an_object o.object)) (name_in whole one.one.unit (an_object one.one.object))) refl)
+                  else static_from (block + 1) (module_of whole one.one.unit) (name_in whole one.one.unit (an_object one.one.object)) (flat_map own_static objects))
+                  (no_path (bytes_eq (module_of whole o.unit) (module_of whole one.one.unit) && bytes_eq (name_in whole o.unit (an_object o.object)) (name_in whole one.one.unit (an_object one.one.object))) refl)
                   ∙ ap (λ b. static_from b (module_of whole one.one.unit) (name_in whole one.one.unit (an_object one.one.object)) (flat_map own_static objects)) (let b : block + 1 ≡ suc block = omega arith in b)
                   ∙ one.home_is;
               low = omega (arith, low);
@@ -256,10 +257,11 @@ module _ (whole : NamedProgram) (bodies : WrittenBodies) where
             no_path true f =
                 let parts = and_parts (bytes_eq (module_of whole o.unit) (module_of whole one.one.unit)) (bytes_eq (name_in whole o.unit (an_object o.object)) (name_in whole one.one.unit (an_object one.one.object))) f in
                 let same : o ≡ one.one = same_object whole is bodies one.one o (all one.one (inr one.among)) (all o (inl refl)) (ap is_some one.puts_are) (ap is_some e)
-                    (texts_equal (module_of whole o.unit) (module_of whole one.one.unit) parts.0)
-                    (texts_equal (name_in whole o.unit (an_object o.object)) (name_in whole one.one.unit (an_object one.one.object)) parts.1) in
+                (texts_equal (module_of whole o.unit) (module_of whole one.one.unit) parts.0)
+                (texts_equal (name_in whole o.unit (an_object o.object)) (name_in whole one.one.unit (an_object one.one.object)) parts.1) in
                 absurd (other (ap (λ (q : CObject). q.object) same ∙ one.number_is))
             no_path false f = refl
+
         by_test : (puts : CPuts) → o.puts ≡ Some puts → (t : Bool) → (o.object == number) ≡ t →
             (if t then Some (record { block = block; offset = 0 }) else slot_of (slots_from (statics_in objects) (suc block)) number) ≡ Some at →
             ((b : ℕ) → slot_of (slots_from (statics_in objects) b) number ≡ Some at → IsBlock objects number at b) → IsBlock (o ∷ objects) number at block
@@ -267,6 +269,7 @@ module _ (whole : NamedProgram) (bodies : WrittenBodies) where
             let same_at : record { block = block; offset = 0 } ≡ at = cc (is_at) in
             first puts e (number_same o.object number f) (sym same_at ∙ ap (λ (n : ℕ). record { block = block; offset = n }) (ap (λ (p : Ptr). p.offset) same_at))
         by_test puts e false f is_at more = behind puts e (λ same. let h : true ≡ false = sym (ap (λ n. n == number) same ∙ number_self number) ∙ f in cc) (more (suc block) is_at)
+
         by_puts : (puts : Option CPuts) → o.puts ≡ puts → slot_of (slots_from (statics_first o o.puts (statics_in objects)) block) number ≡ Some at →
             ((b : ℕ) → slot_of (slots_from (statics_in objects) b) number ≡ Some at → IsBlock objects number at b) → IsBlock (o ∷ objects) number at block
         by_puts None e found more =

@@ -1,10 +1,9 @@
 -- The laws of bodies and programs, each of its parts.
-use Rattle.whole_bodies.specs.Bodies.{written_bodies}
 use Rattle.whole_means.proofs.Agrees.{crate_agrees, crate_images_apart}
 use Rattle.whole_means.proofs.Locals.{names_apart}
 use Rattle.whole_means.proofs.Whole.{objects_are, stretch_kept}
 use Rattle.whole_means.specs.Laws.{NamesOfBodies, ProgramsAgree}
-use Rattle.whole_items.specs.Items.{WrittenBodies, WrittenBody}
+use Rattle.whole_items.specs.Items.{WrittenBodies}
 use Rattle.rs_text.specs.Tree.{no_stmts}
 use Rattle.std.proofs.Common.{[], false}
 

@@ -1,14 +1,11 @@
 -- The laws of the names of a written crate.
-use Rattle.std.proofs.Common.{arith, ◌≡◌, ◌<◌, ◌≤◌, ℕ, zero, suc, ◌+◌, ◌==◌, Bool, true, false, if◌then◌else◌, List, [], ◌∷◌, ◌++◌, map, length, Option, Some, None, slice_get, is_some, IsSome, option_map, refl, sym, ap, subst, ◌∙◌, ◌⊎◌, inl, inr, append_assoc, length-append}
+use Rattle.std.proofs.Common.{arith, ◌≡◌, ◌<◌, ℕ, zero, suc, ◌+◌, Bool, true, false, if◌then◌else◌, List, [], ◌∷◌, ◌++◌, map, length, Option, Some, None, slice_get, is_some, IsSome, option_map, refl, sym, ap, subst, ◌∙◌, inl, inr, append_assoc, length-append}
 use Rattle.std.proofs.lemmas.Option.{slice_get_within}
-use Rattle.std.specs.List.{list_any}
-use Rattle.cx_core.specs.Trees.{CFun, CObject, CProgram}
+use Rattle.cx_core.specs.Trees.{CFun, CObject}
 use Rattle.cx_core.specs.Typing.{CHome, object_with}
 use Rattle.cx_mean.specs.Operands.{Frame as CFrame}
-use Rattle.lift_calls.specs.Frames.{FunctionNames, KeptTemporary}
-use Rattle.lift_calls.specs.Programs.{Setting}
+use Rattle.lift_calls.specs.Frames.{FunctionNames}
 use Rattle.lift_does.specs.Agree.{AreKeptFrom, NamesMean}
-use Rattle.lift_exprs.specs.Names.{Names}
 use Rattle.lift_forms.specs.Places.{Kept}
 use Rattle.rs_items_sets.specs.Names.{rust_name}
 use Rattle.rs_items_sets.specs.declared.scope.NameScope.TheVariants.{Function}
@@ -16,16 +13,15 @@ use Rattle.rs_text.specs.Tree.{ModuleTree, Ty}
 use Rattle.whole_bodies.specs.Bodies.{ShapeOf, written_bodies}
 use Rattle.whole_bodies.specs.Crates.{modules_from}
 use Rattle.whole_bodies.specs.Names.{held_in_body, kept_object, locals_of, names_in, own_names, temporaries_of}
-use Rattle.whole_items.specs.Items.{WrittenBodies, module_tree}
-use Rattle.whole_means.proofs.Keys.{number_same, number_self}
+use Rattle.whole_items.specs.Items.{module_tree}
 use Rattle.whole_means.proofs.Lists.{Among, among_right}
-use Rattle.whole_means.proofs.Locals.{local_same, local_self}
+use Rattle.whole_means.proofs.Locals.{local_self}
 use Rattle.whole_means.proofs.Means.{field_means, functions_mean, laid_same, members_mean, scalar_same, size_same}
 use Rattle.whole_means.proofs.Modules.{modules_by}
 use Rattle.whole_means.specs.FunctionNames.{kept_by, kept_found, kept_names, kept_temporary}
 use Rattle.whole_means.specs.Settings.{modules_of, setting_of, setting_with}
 use Rattle.whole_means.specs.Written.{IsNamed}
-use Rattle.whole_names.specs.FunctionNames.{LocalKey, a_result, a_passed, a_local, a_temporary, LocalName, WantedLocal, locals_from, wanted_in, wanted_locals, wanted_temporaries}
+use Rattle.whole_names.specs.FunctionNames.{LocalKey, a_local, a_temporary, WantedLocal, locals_from, wanted_in, wanted_locals, wanted_temporaries}
 use Rattle.whole_names.specs.Kept.{LocalNames, NamedProgram, local_among, local_or_item, object_item, object_thing, same_local, types_of}
 use Rattle.whole_names.specs.ModuleNames.{name_or, taken_names}
 
@@ -94,7 +90,7 @@ temporary_wanted from zero k low = absurd (omega (arith, low))
 temporary_wanted from (suc count) zero low = inl (ap a_temporary (let e : from ≡ from + 0 = omega arith in e))
 temporary_wanted from (suc count) (suc k) low =
     inr (subst (λ n. Among (map (λ (one : WantedLocal). one.key) (wanted_temporaries (suc from) count)) (a_temporary n)) (let e : suc from + k ≡ from + suc k = omega arith in e)
-        (temporary_wanted (suc from) count k (omega (arith, low))))
+    (temporary_wanted (suc from) count k (omega (arith, low))))
 
 keys_append : (xs ys : List WantedLocal) → map (λ (one : WantedLocal). one.key) (xs ++ ys) ≡ map (λ (one : WantedLocal). one.key) xs ++ map (λ (one : WantedLocal). one.key) ys
 keys_append [] ys = refl
@@ -112,9 +108,9 @@ module _ (whole : NamedProgram) (fun : CFun) where
       let front = map (λ (one : WantedLocal). one.key) (wanted_locals whole.program fun) in
       name_there (local_among (a_temporary k) (own_names whole fun))
       (local_some (taken_names whole.program fun.unit) (wanted_in whole.program fun count) (a_temporary k)
-          (subst (λ (keys : List LocalKey). Among keys (a_temporary k)) (sym (keys_append (wanted_locals whole.program fun) (wanted_temporaries 0 count)))
-              (among_right front (map (λ (one : WantedLocal). one.key) (wanted_temporaries 0 count)) (a_temporary k)
-                  (subst (λ n. Among (map (λ (one : WantedLocal). one.key) (wanted_temporaries 0 count)) (a_temporary n)) (let e : 0 + k ≡ k = omega arith in e) (temporary_wanted 0 count k low)))))
+      (subst (λ (keys : List LocalKey). Among keys (a_temporary k)) (sym (keys_append (wanted_locals whole.program fun) (wanted_temporaries 0 count)))
+      (among_right front (map (λ (one : WantedLocal). one.key) (wanted_temporaries 0 count)) (a_temporary k)
+      (subst (λ n. Among (map (λ (one : WantedLocal). one.key) (wanted_temporaries 0 count)) (a_temporary n)) (let e : 0 + k ≡ k = omega arith in e) (temporary_wanted 0 count k low)))))
 
   get_at : (front behind : List Ty) (t : Ty) → slice_get (front ++ t ∷ behind) (length front) ≡ Some t
   get_at [] behind t = refl
@@ -128,10 +124,11 @@ module _ (whole : NamedProgram) (fun : CFun) where
       let at : slice_get (held_in_body whole fun) (length front) ≡ Some t = ap (λ (ts : List Ty). slice_get ts (length front)) same ∙ get_at front (part ++ behind) t in
       let held_low = slice_get_within (held_in_body whole fun) (length front) t at in
       let count : length (temporaries_of whole fun) ≡ length (held_in_body whole fun) + length (map _ (Rattle.whole_bodies.specs.Names.zeroed_objects whole fun)) =
-          length-append (held_in_body whole fun) (map _ (Rattle.whole_bodies.specs.Names.zeroed_objects whole fun)) in
+      length-append (held_in_body whole fun) (map _ (Rattle.whole_bodies.specs.Names.zeroed_objects whole fun)) in
       let named = temporary_named (length front) (omega (arith, held_low, count)) in
-      let next : length (front ++ t ∷ []) ≡ suc (length front) = length-append front (t ∷ []) ∙ (let e : length front + 1 ≡ suc (length front) = omega arith in e) in
-      (ap (λ found. kept_temporary found (slice_get (held_in_body whole fun) (length front))) named
-          ∙ ap (kept_temporary (Some ((names_in whole fun.unit (locals_of whole fun)).temporary (length front)))) at,
-          subst (λ n. AreKeptFrom (names_in whole fun.unit (locals_of whole fun)) (kept_names whole fun) n part) next
-          (stretch_kept (front ++ t ∷ []) part behind (same ∙ sym (append_assoc front (t ∷ []) (part ++ behind)))))
+      let next : length (front ++ t ∷ []) ≡ suc (length front) = length-append front (t ∷ []) ∙ (let e : length front + 1 ≡ suc (length front) = omega arith in e) in (
+        ap (λ found. kept_temporary found (slice_get (held_in_body whole fun) (length front))) named
+            ∙ ap (kept_temporary (Some ((names_in whole fun.unit (locals_of whole fun)).temporary (length front)))) at,
+        subst (λ n. AreKeptFrom (names_in whole fun.unit (locals_of whole fun)) (kept_names whole fun) n part) next
+            (stretch_kept (front ++ t ∷ []) part behind (same ∙ sym (append_assoc front (t ∷ []) (part ++ behind)))),
+      )

@@ -1,5 +1,5 @@
 -- What the names of a function of the crate are: its locals, and the static objects that its text may name (ISO C99, 6.2.1, 6.2.4 and 6.9.1).
-use Rattle.std.specs.Prelude.{ℕ, ◌+◌, ◌==◌, Bool, true, false, if◌then◌else◌, List, length, Option, None, Some, is_some, slice_get, option_map}
+use Rattle.std.specs.Prelude.{ℕ, ◌+◌, ◌==◌, if◌then◌else◌, List, length, Option, None, Some, is_some, slice_get}
 use Rattle.std.specs.List.{list_any}
 use Rattle.cx_core.specs.Trees.{CFun, CObject}
 use Rattle.cx_core.specs.Typing.{object_with}

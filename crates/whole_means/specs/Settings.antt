@@ -1,24 +1,16 @@
 -- A program and the crate that is written for it, with what its functions and static objects have become (ISO C99, 6.2.4p3 and 6.9.1; the Rust Reference, "Functions" and "Static items").
-use Rattle.std.specs.Prelude.{ℕ, suc, ◌+◌, ◌==◌, nat_lt, Bool, true, false, if◌then◌else◌, List, [], ◌∷◌, length, map, Option, None, Some, is_some, slice_get, option_map}
-use Rattle.std.specs.List.{list_any}
-use Rattle.std.specs.Option.{option_and_then}
-use Rattle.cx_core.specs.Trees.{CObject, CFun, COuter}
+use Rattle.std.specs.Prelude.{ℕ, List, Option, None, Some, is_some}
+use Rattle.cx_core.specs.Trees.{CObject, CFun}
 use Rattle.cx_core.specs.Typing.{function_with, object_with}
 use Rattle.cx_mean.specs.Operands.{Frame as CFrame}
-use Rattle.lift_calls.specs.Frames.{FunctionNames, KeptTemporary}
 use Rattle.lift_calls.specs.Programs.{Setting}
-use Rattle.lift_exprs.specs.Names.{type_in}
-use Rattle.lift_forms.specs.Places.{Kept}
-use Rattle.rs_items.specs.declared.known.Named.TheVariants.{Object}
 use Rattle.rs_mean.specs.Lookups.{function_number}
-use Rattle.rs_text.specs.Tree.{ModuleTree, CrateTree}
+use Rattle.rs_text.specs.Tree.{ModuleTree}
 use Rattle.rs_tree.specs.declared.ty.RPath.{RPath}
 use Rattle.whole_bodies.specs.Bodies.{ShapeOf}
 use Rattle.whole_bodies.specs.Crates.{crate_of}
-use Rattle.whole_bodies.specs.Names.{held_in_body, index_in, kept_object, module_names_in, object_type, own_names, temporaries_of, zero_name, zeroed_objects}
-use Rattle.whole_names.specs.FunctionNames.{LocalName, a_local, a_result, a_temporary}
 use Rattle.whole_names.specs.Keys.{a_function, an_object}
-use Rattle.whole_names.specs.Kept.{NamedProgram, LocalNames, known_thing, local_among, module_of, name_in, path_if, types_of}
+use Rattle.whole_names.specs.Kept.{NamedProgram, module_of, name_in, path_if}
 
 -- ---- items
 
