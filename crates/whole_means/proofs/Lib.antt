@@ -1,5 +1,6 @@
 pub mod Agrees
 pub mod Callees
+pub mod Entries
 pub mod Fields
 pub mod Items
 pub mod Keys
