@@ -12,6 +12,7 @@ pub mod Means
 pub mod Modules
 pub mod Named
 pub mod Numbers
+pub mod Outside
 pub mod Params
 pub mod Records
 pub mod Rows

@@ -68,10 +68,10 @@ differ_behind : (front behind : List (List ℕ)) → all_differ (front ++ behind
 differ_behind [] behind differ = differ
 differ_behind (x ∷ front) behind differ = differ_behind front behind (differ_rest x (front ++ behind) differ)
 
-local_number : (n m : ℕ) → a_local n ≡ a_local m → n ≡ m
+pub local_number : (n m : ℕ) → a_local n ≡ a_local m → n ≡ m
 local_number n m same = number_same n m (ap (λ k. same_local (a_local n) k) (sym same) ∙ local_self (a_local n))
 
-temporary_number : (n m : ℕ) → a_temporary n ≡ a_temporary m → n ≡ m
+pub temporary_number : (n m : ℕ) → a_temporary n ≡ a_temporary m → n ≡ m
 temporary_number n m same = number_same n m (ap (λ k. same_local (a_temporary n) k) (sym same) ∙ local_self (a_temporary n))
 
 module _ (whole : NamedProgram) (is : IsNamed whole) (bodies : WrittenBodies) (fun : CFun) (few : HasFewNames whole fun) where
