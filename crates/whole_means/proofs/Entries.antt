@@ -104,7 +104,7 @@ module _ (whole : NamedProgram) (fun : CFun) (has_dispatch : Bool) (statements :
   abbrev pub tree_with : FunctionTree
   tree_with = function_tree whole fun body_with
 
-  own_same : own ≡ names_of_body whole fun body_with
+  pub own_same : own ≡ names_of_body whole fun body_with
   own_same = ap (local_names program fun) (sym (count_same (temporaries_of whole fun)))
 
   local_there : (key : LocalKey) (x : List ℕ) (local : LocalTree) → local_among key own ≡ Some x → Among (local_of whole fun body_with (record { key = key; name = x })) local → Among tree_with.locals local

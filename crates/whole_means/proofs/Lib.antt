@@ -1,5 +1,6 @@
 pub mod Agrees
 pub mod Callees
+pub mod Differ
 pub mod Entries
 pub mod Fields
 pub mod Items
