@@ -32,8 +32,6 @@ first_is : (taken : List (List ℕ)) (candidates : ℕ → Option (List ℕ)) (f
 first_is taken candidates from zero = inl refl
 first_is taken candidates from (suc count) = by_candidate (candidates from) refl (first_is taken candidates (suc from) count)
   where
-    rest : List ℕ
-    rest = first_free taken candidates (suc from) count
     later : (first_free taken candidates from (suc count) ≡ first_free taken candidates (suc from) count) →
         (first_free taken candidates (suc from) count ≡ []) ⊎ ((k : ℕ) × (k < suc from + count) × (candidates k ≡ Some (first_free taken candidates (suc from) count))) →
         (first_free taken candidates from (suc count) ≡ []) ⊎ ((k : ℕ) × (k < from + suc count) × (candidates k ≡ Some (first_free taken candidates from (suc count))))

@@ -13,6 +13,7 @@ pub mod Means
 pub mod Modules
 pub mod Named
 pub mod Numbers
+pub mod Outers
 pub mod Outside
 pub mod Params
 pub mod Records

@@ -22,7 +22,7 @@ use Rattle.whole_names.specs.ModuleNames.{taken_names}
 
 -- ---- results
 
-same_void : (t : Ty) → option_ty (value_type t) ≡ (if is_void t then no_ty else some_ty t)
+pub same_void : (t : Ty) → option_ty (value_type t) ≡ (if is_void t then no_ty else some_ty t)
 same_void (Integer which) = refl
 same_void Boolean = refl
 same_void Void = refl
@@ -31,7 +31,7 @@ same_void (Array element size) = refl
 same_void (Code params result) = refl
 same_void (Record m x) = refl
 
-same_record : (t : CTy) → types.is_record t ≡ is_record (form_of_type t)
+pub same_record : (t : CTy) → types.is_record t ≡ is_record (form_of_type t)
 same_record (ty void is_const) = refl
 same_record (ty (basic which) is_const) = refl
 same_record (ty (enum_type number) is_const) = refl

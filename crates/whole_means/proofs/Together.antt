@@ -1,11 +1,21 @@
 -- The laws of bodies and programs, each of its parts.
+use Rattle.lift_calls_entry.specs.Entry.{IsLocalKept, IsStaticKept}
+use Rattle.lift_forms.specs.Places.{Kept}
+use Rattle.reloop.specs.Shapes.{has_dispatch}
+use Rattle.whole_bodies.specs.Bodies.{written_bodies, written_body}
 use Rattle.whole_means.proofs.Agrees.{crate_agrees, crate_images_apart}
 use Rattle.whole_means.proofs.Locals.{names_apart}
-use Rattle.whole_means.proofs.Whole.{objects_are, stretch_kept}
-use Rattle.whole_means.specs.Laws.{NamesOfBodies, ProgramsAgree}
+use Rattle.whole_means.proofs.Whole.{modules_are, objects_are, stretch_kept}
+use Rattle.whole_means.specs.Laws.{EntriesMean, EntriesMeanInCrate, NamesOfBodies, ProgramsAgree, tree_of}
+use Rattle.whole_means.proofs.Differ.{locals_differ}
+use Rattle.whole_means.proofs.Entries.{kept_there, params_differ, temporaries_there, zeros_there}
+use Rattle.whole_means.proofs.Lists.{contains_among}
+use Rattle.whole_means.proofs.Outside.{statics_kept}
+use Rattle.whole_means.specs.FunctionNames.{kept_names}
+use Rattle.whole_means.specs.Settings.{setting_with}
 use Rattle.whole_items.specs.Items.{WrittenBodies}
-use Rattle.rs_text.specs.Tree.{no_stmts}
-use Rattle.std.proofs.Common.{[], false}
+use Rattle.rs_text.specs.Tree.{ModuleTree, no_stmts}
+use Rattle.std.proofs.Common.{◌≡◌, ℕ, ◌⊎◌, List, [], false, Some, sym, subst}
 
 -- names don't depend on bodies
 no_bodies : WrittenBodies
@@ -20,3 +30,21 @@ bodies_named = record {
 
 pub all_agree : ProgramsAgree
 all_agree = record { agrees = crate_agrees; functions_apart = crate_images_apart }
+
+-- ---- entries
+
+pub entries_mean : EntriesMeanInCrate
+entries_mean whole shape statics fun is among few =
+    let there = contains_among whole.program.functions fun among in
+    let dispatch = has_dispatch (shape fun) in
+    let text = (written_body whole shape fun).statements in
+    record {
+      differ = params_differ whole.program.functions fun is.linked.numbers.blocks_differ there;
+      names_differ = locals_differ whole is no_bodies fun few dispatch text;
+      kept = subst (λ (modules : List ModuleTree). (number : ℕ) (it : Kept) → (kept_names whole fun).objects number ≡ Some it →
+          IsStaticKept (setting_with whole modules statics) it ⊎ IsLocalKept (tree_of whole shape fun) it) (sym (modules_are whole shape)) (kept_there whole fun dispatch text is (written_bodies whole shape) statics);
+      statics_kept = statics_kept whole is fun there;
+      temporaries = temporaries_there whole fun dispatch text;
+      zeros = zeros_there whole fun dispatch text;
+      apart = names_apart whole is no_bodies fun few;
+    }

@@ -1,15 +1,19 @@
 -- Laws of what the names of a written crate mean (ISO C99, 6.2.1 and 6.2.5; the Rust Reference, "Paths" and "Type layout").
-use Rattle.std.specs.Prelude.{◌≡◌, ℕ, List, ◌++◌, length, Some}
+use Rattle.std.specs.Prelude.{◌≡◌, ◌⊎◌, ℕ, List, ◌++◌, length, Some}
+use Rattle.std.specs.List.{Contains}
 use Rattle.cx_core.specs.Trees.{CFun}
 use Rattle.cx_core.specs.Typing.{CHome}
 use Rattle.cx_mean.specs.Operands.{Frame as CFrame}
-use Rattle.lift_calls.specs.Frames.{FunctionNames, NamesApart}
+use Rattle.lift_calls.specs.Frames.{FunctionNames, KeptTemporary, NamesApart}
 use Rattle.lift_calls.specs.Programs.{ProgramAgrees}
+use Rattle.lift_calls_entry.specs.Entry.{AllDiffer, IsLocalKept, IsStaticKept, NamesDiffer, all_locals}
 use Rattle.lift_does.specs.Agree.{AreKeptFrom, NamesMean}
 use Rattle.lift_forms.specs.Places.{Kept}
-use Rattle.rs_text.specs.Tree.{Ty}
-use Rattle.whole_bodies.specs.Bodies.{ShapeOf}
+use Rattle.rs_text.specs.Tree.{Ty, Static, FunctionTree}
+use Rattle.rs_tree.specs.declared.ty.RPath.{RPath}
+use Rattle.whole_bodies.specs.Bodies.{ShapeOf, written_body}
 use Rattle.whole_bodies.specs.Names.{held_in_body, locals_of, names_in}
+use Rattle.whole_items.specs.Items.{function_tree}
 use Rattle.whole_means.specs.Beginning.{StandUnitByUnit, first_images, first_statics}
 use Rattle.whole_means.specs.FunctionNames.{HasFewNames, kept_names}
 use Rattle.whole_means.specs.Settings.{modules_of, setting_of}
@@ -39,3 +43,24 @@ pub record ProgramsAgree : Type 0 where
   -- no two functions have one image
   pub functions_apart : (whole : NamedProgram) (shape : ShapeOf) → IsNamed whole → (one other place : ℕ) → (first_images whole (modules_of whole shape)).functions one ≡ Some place →
       (first_images whole (modules_of whole shape)).functions other ≡ Some place → one ≡ other
+
+-- ---- entries
+
+-- the function of the crate that is written for one of C
+abbrev pub tree_of : NamedProgram → ShapeOf → CFun → FunctionTree
+tree_of whole shape fun = function_tree whole fun (written_body whole shape fun)
+
+-- what the parameters and locals of a function are, whatever its body is
+pub record EntriesMean (whole : NamedProgram) (shape : ShapeOf) (statics : CFrame) (fun : CFun) : Type 0 where
+  pub differ : AllDiffer fun.params
+  pub names_differ : NamesDiffer (all_locals (tree_of whole shape fun))
+  pub kept : (number : ℕ) (it : Kept) → (kept_names whole fun).objects number ≡ Some it → IsStaticKept (setting_of whole shape statics) it ⊎ IsLocalKept (tree_of whole shape fun) it
+  pub statics_kept : (number : ℕ) (path : RPath) → (setting_of whole shape statics).objects number ≡ Some path →
+      (it : Kept) × ((kept_names whole fun).objects number ≡ Some it) × (it.place ≡ Static path.home path.name)
+  pub temporaries : (number : ℕ) (it : KeptTemporary) → (kept_names whole fun).temporaries number ≡ Some it → Contains (tree_of whole shape fun).locals (record { name = it.name; ty = it.ty })
+  pub zeros : (number : ℕ) (it : KeptTemporary) → (kept_names whole fun).zeros number ≡ Some it → Contains (tree_of whole shape fun).locals (record { name = it.name; ty = it.ty })
+  pub apart : NamesApart (kept_names whole fun)
+
+abbrev pub EntriesMeanInCrate : Type 0
+EntriesMeanInCrate = (whole : NamedProgram) (shape : ShapeOf) (statics : CFrame) (fun : CFun) → IsNamed whole → Contains whole.program.functions fun → HasFewNames whole fun →
+    EntriesMean whole shape statics fun

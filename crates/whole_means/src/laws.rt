@@ -1,4 +1,4 @@
-ghost use Rattle.whole_means.specs.Laws.{NamesMeanInCrate, NamesOfBodies, ProgramsAgree};
+ghost use Rattle.whole_means.specs.Laws.{EntriesMeanInCrate, NamesMeanInCrate, NamesOfBodies, ProgramsAgree};
 
 /// Law: the names of a module of the written crate mean what they say.
 pub fn names_mean()
@@ -13,4 +13,9 @@ pub fn names_of_bodies()
 /// Law: a program agrees with its crate on functions and static objects as it begins.
 pub fn programs_agree()
     ensures { ProgramsAgree }
+{}
+
+/// Law: the parameters and locals of a function are what its names say.
+pub fn entries_mean()
+    ensures { EntriesMeanInCrate }
 {}
