@@ -86,15 +86,15 @@ module _ (x : Around) where
     pub handed : IsHanded images (blocks_of world) of_c given
     pub passes : alike param param ≡ true
 
-  abbrev argument_by : Bool → CExpr → Given → Argument
+  abbrev pub argument_by : Bool → CExpr → Given → Argument
   argument_by record_is first given =
       if record_is then record { ty = Pointer (type_in x.names (type_of first)); passed = address_of_given given }
       else record { ty = type_in x.names (type_of first); passed = given_value given }
 
-  abbrev passed_as : Argument → Ty → Expr
+  abbrev pub passed_as : Argument → Ty → Expr
   passed_as one param = as_type one.ty param one.passed
 
-  argument_runs : (record_is : Bool) (last : Images) (later : World) (first : CExpr) (given : Given) (param : Ty) (of_c : CValue) → is_record (type_of first) ≡ record_is → ParamFits record_is first param → IsGiven x.home.program first of_c → is_missing of_c ≡ false →
+  pub argument_runs : (record_is : Bool) (last : Images) (later : World) (first : CExpr) (given : Given) (param : Ty) (of_c : CValue) → is_record (type_of first) ≡ record_is → ParamFits record_is first param → IsGiven x.home.program first of_c → is_missing of_c ≡ false →
       GivesUsed x true last later first given of_c → ArgumentRuns last later param (passed_as (argument_by record_is first given) param) of_c
   argument_runs false last later first given param (scalar one) no_record fits (inl is) there gave =
       let T = type_in x.names (type_of first) in
@@ -137,12 +137,12 @@ module _ (x : Around) where
     pub types : tys (map (λ (one : Typed). one.ty) values) ≡ params
     pub accepted : accepts (map (λ (one : Typed). one.ty) values) false values ≡ true
 
-  record AllThere (first : COperand) (others all : List COperand) : Type 0 where
-    rest : List COperand
-    rest_is : all_given others ≡ Ok rest
-    there : is_missing first.value ≡ false
+  pub record AllThere (first : COperand) (others all : List COperand) : Type 0 where
+    pub rest : List COperand
+    pub rest_is : all_given others ≡ Ok rest
+    pub there : is_missing first.value ≡ false
 
-  all_there : (first : COperand) (others all : List COperand) → all_given (first ∷ others) ≡ Ok all → AllThere first others all
+  pub all_there : (first : COperand) (others all : List COperand) → all_given (first ∷ others) ≡ Ok all → AllThere first others all
   all_there first others all e =
       let parts = and_then_is (all_given others) _ all e in
       record { rest = parts.0; rest_is = parts.1; there = by (is_missing first.value) parts.0 parts.2 }

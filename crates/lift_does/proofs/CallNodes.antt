@@ -70,7 +70,7 @@ alone_written names asked type called args plain unused no_base = rw (plain, unu
 module _ (x : Around) where
   -- ---- behind the arguments
 
-  node_did : (used more : Bool) (e : CExpr) (written : Written) (from mid : ℕ) (images last : Images) (c0 w0 c2 w2 : World) (source : ℕ → CRan COperand) (list : List Stmt) → At x images c0 w0 → Reached x from mid images last c0 w0 c2 w2 → from ≤ mid → mid ≤ written.next →
+  pub node_did : (used more : Bool) (e : CExpr) (written : Written) (from mid : ℕ) (images last : Images) (c0 w0 c2 w2 : World) (source : ℕ → CRan COperand) (list : List Stmt) → At x images c0 w0 → Reached x from mid images last c0 w0 c2 w2 → from ≤ mid → mid ≤ written.next →
       OweAs x (NodeCame x used e written.given mid written.next last c2 w2) source list w2 → OweAs x (DidOf x used more e written from images c0 w0) source list w2
   node_did used more e written from mid images last c0 w0 c2 w2 source list here reached p q owes =
       weaker_owes x (NodeCame x used e written.given mid written.next last c2 w2) (DidOf x used more e written from images c0 w0) source list w2 (λ operand c3 flow w3 came.

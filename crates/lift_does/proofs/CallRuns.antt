@@ -1,23 +1,25 @@
 -- How statements run in which a call stands (the Rust Reference, "Call expressions" and "Expression statements").
 use Rattle.std.proofs.Common.{◌≡◌, ℕ, Bool, true, false, if◌then◌else◌, List, [], ◌∷◌, Option, Some, None, Result, Ok, Err, refl, sym, ap, subst, ◌∙◌}
 use Rattle.cr_runs.proofs.Rules.{bind_bind}
-use Rattle.cr_runs.specs.Owes.{Rests}
 use Rattle.cr_runs.specs.Runs.{Ran, came, halted, bad, out, bind}
 use Rattle.cr_world.specs.World.{World, Stop, events_of}
 use Rattle.lift_does.proofs.Around.{Around, runs}
 use Rattle.lift_does.proofs.Runs.{flow_behaves}
 use Rattle.lift_forms.specs.Operators.{cast_to, transmute_to, as_type}
+use Rattle.lift_forms_laws.specs.Gives.{GivesAt}
+use Rattle.mem_bytes.specs.declared.value.Value.TheVariants.{Code as Function}
 use Rattle.rs_mean.specs.Calls.{store}
-use Rattle.rs_mean.specs.Lookups.{Callee, callee_at}
-use Rattle.rs_mean.specs.Run.{Frame, Flow, normal, breaks, continues, returned, call_found, call_at, the_value, run_place, run_expr, run_exprs, run_stmt, run_stmts, goes_on, then_on, unwrapped, call_pointed}
+use Rattle.rs_mean.specs.Lookups.{Callee, own, own_signature, callee_at, function_with}
+use Rattle.rs_mean.specs.Run.{Frame, Flow, normal, call_found, call_at, call_pointed, called_as, retyped, unwrapped, the_value, run_place, run_expr, run_exprs, run_dropped, run_call_by, goes_on, then_on}
 use Rattle.rs_mean.specs.Scalars.{same_type}
 use Rattle.rs_mean.specs.Values.{Typed, typed, cast_of, transmuted}
-use Rattle.rs_mean.specs.World.{Run, pure, seq, or_fails}
+use Rattle.rs_mean.specs.World.{Run, pure, seq, either, fails, or_fails}
 use Rattle.rs_mean.specs.declared.cause.Cause.{Cause}
+use Rattle.rs_mean.specs.declared.cause.Cause.TheVariants.{WrongCall}
 use Rattle.rs_mean_frames.proofs.Behaving.{behaves_pure, behaves_fails, behaves_local, behaves_seq}
 use Rattle.rs_mean_frames.proofs.Framed.{pieces_behave}
 use Rattle.rs_mean_frames.specs.Behave.{Behaves}
-use Rattle.rs_text.specs.Tree.{Ty, Integer, Boolean, Void, Pointer, Array, Code, Record, Place, Expr, Cast, Transmute, Call as CallTree, Exprs, Stmt, Assign, Eval}
+use Rattle.rs_text.specs.Tree.{Ty, Integer, Boolean, Void, Pointer, Array, Code, Record, Place, Expr, Cast, Transmute, Call as CallTree, CallBy, Exprs, Tys, OptionTy, FunctionTree, Stmt, Assign, Eval}
 
 -- ---- a value in another type
 
@@ -105,33 +107,89 @@ module _ (x : Around) where
   abbrev pub goes_on_behind : Option Typed → World → ℕ → Ran (Stop Cause) World Flow
   goes_on_behind given after left = came normal after left
 
-  -- a call of what a path names, with arguments that are given at once
-  module _ (m f : List ℕ) (args : Exprs) (values : List Typed) (callee : Callee) (world : World) (found : callee_at x.frame.modules m f ≡ Some callee) (comes : (units : ℕ) → run_exprs x.frame args world units ≡ came values world units) where
-    abbrev called : ℕ → Ran (Stop Cause) World (Option Typed)
-    called units = call_found x.frame.bodies values (Some callee) world units
+  -- ---- a call, however it is written
 
-    call_runs : (units : ℕ) → run_expr x.frame (CallTree m f args) world units ≡ bind (called units) the_value
-    unfolding seq
-    call_runs units =
-        ap (λ (r : Ran (Stop Cause) World (List Typed)). bind r (λ given. seq (call_at x.frame.modules x.frame.bodies m f given) the_value)) (comes units)
-        ∙ ap (λ (one : Option Callee). bind (call_found x.frame.bodies values one world units) the_value) found
-
-    pub dropped_runs : (units : ℕ) → runs x (Eval (CallTree m f args) ∷ []) world units ≡ bind (called units) goes_on_behind
+  module _ (e : Expr) (world : World) (called : ℕ → Ran (Stop Cause) World (Option Typed)) where
+    pub dropped_from : ((units : ℕ) → run_dropped x.frame e world units ≡ bind (called units) goes_on) → (units : ℕ) → runs x (Eval e ∷ []) world units ≡ bind (called units) goes_on_behind
     unfolding seq pure
-    dropped_runs units =
-        ap (λ (r : Ran (Stop Cause) World (List Typed)). bind (bind r (λ given. seq (call_at x.frame.modules x.frame.bodies m f given) goes_on)) (then_on (pure normal))) (comes units)
-        ∙ ap (λ (one : Option Callee). bind (bind (call_found x.frame.bodies values one world units) goes_on) (then_on (pure normal))) found
-        ∙ bind_bind (called units) goes_on (then_on (pure normal))
+    dropped_from comes units =
+        ap (λ (r : Ran (Stop Cause) World Flow). bind r (then_on (pure normal))) (comes units) ∙ bind_bind (called units) goes_on (then_on (pure normal))
 
-    pub stored_runs : (from to : Ty) (p : Place) (units : ℕ) → runs x (Assign p (as_type from to (CallTree m f args)) ∷ []) world units ≡ bind (called units) (stored_behind from to p)
+    pub stored_from : ((units : ℕ) → run_expr x.frame e world units ≡ bind (called units) the_value) → (from to : Ty) (p : Place) (units : ℕ) → runs x (Assign p (as_type from to e) ∷ []) world units ≡ bind (called units) (stored_behind from to p)
     unfolding seq pure
-    stored_runs from to p units =
+    stored_from comes from to p units =
         ap (λ (r : Ran (Stop Cause) World Typed). bind (bind r (λ stored. seq (run_place x.frame p) (λ place. seq (store place stored.value) goes_on))) (then_on (pure normal)))
-        (passes_runs x.frame from to (CallTree m f args) world units ∙ ap (λ (r : Ran (Stop Cause) World Typed). bind r (passes from to)) (call_runs units))
+        (passes_runs x.frame from to e world units ∙ ap (λ (r : Ran (Stop Cause) World Typed). bind r (passes from to)) (comes units))
         ∙ bind_bind (bind (bind (called units) the_value) (passes from to)) (λ stored. seq (run_place x.frame p) (λ place. seq (store place stored.value) goes_on)) (then_on (pure normal))
         ∙ ap (λ (r : Ran (Stop Cause) World Typed). bind r (λ stored. seq (seq (run_place x.frame p) (λ place. seq (store place stored.value) goes_on)) (then_on (pure normal))))
         (bind_bind (called units) the_value (passes from to))
         ∙ bind_bind (called units) (λ given. seq (the_value given) (passes from to)) (λ stored. seq (seq (run_place x.frame p) (λ place. seq (store place stored.value) goes_on)) (then_on (pure normal)))
+
+  -- of what a path names, with arguments that are given at once
+  module _ (m f : List ℕ) (args : Exprs) (values : List Typed) (callee : Callee) (world : World) (found : callee_at x.frame.modules m f ≡ Some callee) (comes : (units : ℕ) → run_exprs x.frame args world units ≡ came values world units) where
+    abbrev called : ℕ → Ran (Stop Cause) World (Option Typed)
+    called units = call_found x.frame.bodies values (Some callee) world units
+
+    found_runs : {A : Type 0} (next : Option Typed → Run A) (units : ℕ) → bind (run_exprs x.frame args world units) (λ given. seq (call_at x.frame.modules x.frame.bodies m f given) next) ≡ bind (called units) next
+    unfolding seq
+    found_runs next units =
+        ap (λ (r : Ran (Stop Cause) World (List Typed)). bind r (λ given. seq (call_at x.frame.modules x.frame.bodies m f given) next)) (comes units)
+        ∙ ap (λ (one : Option Callee). bind (call_found x.frame.bodies values one world units) next) found
+
+    call_runs : (units : ℕ) → run_expr x.frame (CallTree m f args) world units ≡ bind (called units) the_value
+    unfolding seq
+    call_runs units = found_runs the_value units
+
+    drop_runs : (units : ℕ) → run_dropped x.frame (CallTree m f args) world units ≡ bind (called units) goes_on
+    unfolding seq
+    drop_runs units = found_runs goes_on units
+
+    pub dropped_runs : (units : ℕ) → runs x (Eval (CallTree m f args) ∷ []) world units ≡ bind (called units) goes_on_behind
+    dropped_runs = dropped_from (CallTree m f args) world called drop_runs
+
+    pub stored_runs : (from to : Ty) (p : Place) (units : ℕ) → runs x (Assign p (as_type from to (CallTree m f args)) ∷ []) world units ≡ bind (called units) (stored_behind from to p)
+    stored_runs = stored_from (CallTree m f args) world called call_runs
+
+  -- of what a pointer points to
+  module _ (e : Expr) (args : Exprs) (params : Tys) (result : OptionTy) (place : ℕ) (tree : FunctionTree) (values : List Typed) (world : World) (gives : GivesAt x.frame world e (Code params result) (Function place))
+      (at_place : function_with x.frame.modules place ≡ Some tree) (comes : (units : ℕ) → run_exprs x.frame args world units ≡ came values world units) (fits : called_as params result (own_signature tree) ≡ true) where
+    -- its result has the type of the pointer
+    abbrev pub pointed_run : ℕ → Ran (Stop Cause) World (Option Typed)
+    pointed_run units = bind (call_found x.frame.bodies values (Some (own tree)) world units) (λ given after left. came (retyped result given) after left)
+
+    is_pointed : (units : ℕ) → call_pointed x.frame.bodies params result values (Some tree) world units ≡ pointed_run units
+    unfolding seq pure
+    is_pointed units = ap (λ (b : Bool). either b (seq (call_found x.frame.bodies values (Some (own tree))) (λ given. pure (retyped result given))) (fails WrongCall) world units) fits
+
+    pointed_from : {A : Type 0} (next : Option Typed → Run A) (units : ℕ) →
+        seq (run_expr x.frame e) (λ pointer. seq (unwrapped x.frame.modules pointer) (λ pointed. seq (run_exprs x.frame args) (λ given. seq (call_pointed x.frame.bodies pointed.params pointed.result given pointed.fun) next))) world units ≡ bind (pointed_run units) next
+    unfolding seq pure
+    pointed_from next units =
+        ap (λ (r : Ran (Stop Cause) World Typed). bind r (λ pointer. seq (unwrapped x.frame.modules pointer) (λ pointed. seq (run_exprs x.frame args) (λ given. seq (call_pointed x.frame.bodies pointed.params pointed.result given pointed.fun) next)))) (gives.runs units)
+        ∙ ap (λ (fun : Option FunctionTree). bind (run_exprs x.frame args world units) (λ given. seq (call_pointed x.frame.bodies params result given fun) next)) at_place
+        ∙ ap (λ (r : Ran (Stop Cause) World (List Typed)). bind r (λ given. seq (call_pointed x.frame.bodies params result given (Some tree)) next)) (comes units)
+        ∙ ap (λ (r : Ran (Stop Cause) World (Option Typed)). bind r next) (is_pointed units)
+
+    call_by_runs : (units : ℕ) → run_expr x.frame (CallBy e args) world units ≡ bind (pointed_run units) the_value
+    call_by_runs units = pointed_from the_value units
+
+    runs_by : (units : ℕ) → run_call_by x.frame e args world units ≡ pointed_run units
+    unfolding seq pure
+    runs_by units =
+        ap (λ (r : Ran (Stop Cause) World Typed). bind r (λ pointer. seq (unwrapped x.frame.modules pointer) (λ pointed. seq (run_exprs x.frame args) (λ given. call_pointed x.frame.bodies pointed.params pointed.result given pointed.fun)))) (gives.runs units)
+        ∙ ap (λ (fun : Option FunctionTree). bind (run_exprs x.frame args world units) (λ given. call_pointed x.frame.bodies params result given fun)) at_place
+        ∙ ap (λ (r : Ran (Stop Cause) World (List Typed)). bind r (λ given. call_pointed x.frame.bodies params result given (Some tree))) (comes units)
+        ∙ is_pointed units
+
+    drop_by_runs : (units : ℕ) → run_dropped x.frame (CallBy e args) world units ≡ bind (pointed_run units) goes_on
+    unfolding seq
+    drop_by_runs units = ap (λ (r : Ran (Stop Cause) World (Option Typed)). bind r goes_on) (runs_by units)
+
+    pub dropped_by_runs : (units : ℕ) → runs x (Eval (CallBy e args) ∷ []) world units ≡ bind (pointed_run units) goes_on_behind
+    dropped_by_runs = dropped_from (CallBy e args) world pointed_run drop_by_runs
+
+    pub stored_by_runs : (from to : Ty) (p : Place) (units : ℕ) → runs x (Assign p (as_type from to (CallBy e args)) ∷ []) world units ≡ bind (pointed_run units) (stored_behind from to p)
+    stored_by_runs = stored_from (CallBy e args) world pointed_run call_by_runs
 
   pub stored_behaves : (from to : Ty) (p : Place) (given : Option Typed) → Behaves Flow (stored_behind from to p given)
   stored_behaves from to p given =

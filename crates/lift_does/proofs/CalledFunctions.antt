@@ -49,7 +49,7 @@ enum_kind types number unit are is =
     (scalar_of_basic (basic_of_enum found.0), ap (option_map (λ (is_int : Bool). scalar_of_basic (basic_of_enum is_int))) found.1)
 
 -- the result of a function is no array: `void`, a structure or union, or a scalar
-result_kind : (types : CTypes) (unit : ℕ) (result : CTy) → AreTypes types → IsTypeIn types unit result → IsResultForm (form_of_type result) → is_void result ≡ false → is_record result ≡ false → (kind : Scalar) × (c_scalar_of types (form_of_type result) ≡ Some kind)
+pub result_kind : (types : CTypes) (unit : ℕ) (result : CTy) → AreTypes types → IsTypeIn types unit result → IsResultForm (form_of_type result) → is_void result ≡ false → is_record result ≡ false → (kind : Scalar) × (c_scalar_of types (form_of_type result) ≡ Some kind)
 result_kind types unit (ty (basic which) is_const) are is form some plain = (_, refl)
 result_kind types unit (ty (pointer to) is_const) are is form some plain = (_, refl)
 result_kind types unit (ty (enum_type number) is_const) are is form some plain = enum_kind types number unit are is
@@ -58,7 +58,7 @@ result_kind types unit (ty (record_type number) is_const) are is form some plain
 result_kind types unit (ty (array element count) is_const) are is form some plain = absurd form
 result_kind types unit (ty (function result params variadic) is_const) are is form some plain = absurd form
 
-void_none : (given : Ty) (kind : Scalar) → scalar_of given ≡ Some kind → is_void_type given ≡ false
+pub void_none : (given : Ty) (kind : Scalar) → scalar_of given ≡ Some kind → is_void_type given ≡ false
 void_none (Integer which) kind e = refl
 void_none Boolean kind e = refl
 void_none (Pointer target) kind e = refl
@@ -68,7 +68,7 @@ void_none (Array element size) kind e = cc (e)
 void_none (Record m x) kind e = cc (e)
 
 -- two words for one test
-passed_record : (type : CTy) → is_passed type ≡ is_record type
+pub passed_record : (type : CTy) → is_passed type ≡ is_record type
 passed_record (ty void is_const) = refl
 passed_record (ty (basic which) is_const) = refl
 passed_record (ty (enum_type number) is_const) = refl
@@ -80,7 +80,7 @@ passed_record (ty (function result params variadic) is_const) = refl
 same_some : {A : Type 0} (one other : A) → Some one ≡ Some other → one ≡ other
 same_some one other e = cc (e)
 
-option_same : (one other : Option Ty) → option_ty one ≡ option_ty other → one ≡ other
+pub option_same : (one other : Option Ty) → option_ty one ≡ option_ty other → one ≡ other
 option_same None None e = refl
 option_same (Some one) (Some other) e = let same : one ≡ other = cc (e) in ap Some same
 option_same None (Some other) e = cc (e)
@@ -88,14 +88,14 @@ option_same (Some one) None e = cc (e)
 
 -- ---- compatible functions
 
-record_same : (types : CTypes) (first second : CTy) → AreCompatible types first second → is_record first ≡ is_record second
+pub record_same : (types : CTypes) (first second : CTy) → AreCompatible types first second → is_record first ≡ is_record second
 record_same types (ty first one) (ty second other) by =
     records_alike types (in_pairs by.pairs) first second one other (forms_meet types (in_pairs by.pairs) (ty first one) (ty second other) by.meet) ∙ passed_record (ty second other)
 
-unqualified_record : (type : CTy) → is_record (unqualified type) ≡ is_record type
+pub unqualified_record : (type : CTy) → is_record (unqualified type) ≡ is_record type
 unqualified_record (ty form is_const) = refl
 
-unqualified_form : (type : CTy) → form_of_type (unqualified type) ≡ form_of_type type
+pub unqualified_form : (type : CTy) → form_of_type (unqualified type) ≡ form_of_type type
 unqualified_form (ty form is_const) = refl
 
 void_alike : (types : CTypes) (counts : ℕ → ℕ → Bool) (first : CTyForm) → forms_agree types counts first void ≡ true → is_void_form first ≡ true
@@ -136,11 +136,11 @@ list_count names_of (more_exprs first others) next = ap suc (list_count names_of
 pub same_count : (n : ℕ) → (n == n) ≡ true
 same_count n = grind (arith, nat_tests)
 
-empty_is : (list : List ℕ) → length list ≡ 0 → list ≡ []
+pub empty_is : (list : List ℕ) → length list ≡ 0 → list ≡ []
 empty_is [] e = refl
 empty_is (one ∷ others) e = cc (e)
 
-none_held : (home : CHome) (list : List ℕ) (params : CTys) → list ≡ [] → AreParams home list params → params ≡ no_types
+pub none_held : (home : CHome) (list : List ℕ) (params : CTys) → list ≡ [] → AreParams home list params → params ≡ no_types
 none_held home [] no_types e are = refl
 none_held home [] (more_types first others) e are = absurd are
 none_held home (one ∷ list) params e are = cc (e)
@@ -195,7 +195,7 @@ module _ (x : Around) where
 
   -- ---- the item
 
-  pointer_is : (type result : CTy) (params : CParams) (variadic : Bool) → form_of_type type ≡ function result params variadic →
+  pub pointer_is : (type result : CTy) (params : CParams) (variadic : Bool) → form_of_type type ≡ function result params variadic →
       type_in x.names (ty (pointer type) false) ≡ code_type (is_passed result) (rust_type x.names.types result) (rust_params x.names.types params)
   pointer_is (ty form is_const) result params variadic e = ap (rust_pointer_form x.names.types) e
 
@@ -207,10 +207,10 @@ module _ (x : Around) where
     abbrev pub all_params : Tys
     all_params = with_result (is_passed result) Given (rust_params x.names.types running.params)
 
-    item_is : Code (tys (map (λ (one : LocalTree). one.ty) means.tree.params)) (option_ty means.tree.result) ≡ code_type (is_passed result) Given (rust_params x.names.types running.params)
+    pub item_is : Code (tys (map (λ (one : LocalTree). one.ty) means.tree.params)) (option_ty means.tree.result) ≡ code_type (is_passed result) Given (rust_params x.names.types running.params)
     item_is = sym means.ty_is ∙ kept_ty ∙ pointer_is one.type result running.params running.variadic running.type_is
 
-    code_parts : (params others : Tys) (back other : OptionTy) → Code params back ≡ Code others other → (params ≡ others) × (back ≡ other)
+    pub code_parts : (params others : Tys) (back other : OptionTy) → Code params back ≡ Code others other → (params ≡ others) × (back ≡ other)
     code_parts params others back other e = (cc (e), cc (e))
 
     pub item_params : tys (map (λ (one : LocalTree). one.ty) means.tree.params) ≡ all_params
@@ -222,7 +222,7 @@ module _ (x : Around) where
     pub kept_result : result_of kept.ty ≡ option_ty means.tree.result
     kept_result = ap result_of means.ty_is
 
-    function_typed : IsTypeIn x.home.program.types one.unit result × IsResultForm (form_of_type result)
+    pub function_typed : IsTypeIn x.home.program.types one.unit result × IsResultForm (form_of_type result)
     function_typed = by one.type running.type_is (all_of (IsTypedFunction x.home.program None) x.home.program.functions one linked.functions running.defined).type_in
       where
         by : (type : CTy) → form_of_type type ≡ function result running.params running.variadic → IsTypeIn x.home.program.types one.unit type → IsTypeIn x.home.program.types one.unit result × IsResultForm (form_of_type result)

@@ -1,12 +1,12 @@
 -- The expressions without calls and compound literals: what is written for them does what they do.
-use Rattle.std.proofs.Common.{◌≡◌, ◌⊎◌, inl, inr, ℕ, ◌+◌, ◌≤◌, Bool, true, false, not, if◌then◌else◌, ◌&&◌, ◌||◌, ◌==◌, List, [], ◌∷◌, ◌++◌, length, Option, Some, None, refl, sym, ap, subst, ◌∙◌}
+use Rattle.std.proofs.Common.{◌≡◌, ◌⊎◌, inl, inr, ℕ, ◌+◌, ◌≤◌, Bool, true, false, not, if◌then◌else◌, ◌&&◌, ◌||◌, ◌==◌, List, [], ◌∷◌, ◌++◌, length, Option, Some, None, refl, sym, ap, subst, ◌∙◌, ⊎_elim}
 use Rattle.cr_base.specs.declared.layout.Spot.{Spot}
 use Rattle.cr_base.specs.declared.refusal.Place.{Place}
 use Rattle.cr_world.specs.World.{World}
 use Rattle.cx_core.specs.Trees.{CTy, ty, CTyForm, CExpr, expr, CForm, whole, null, object, code, load, deref, member, address, convert, unary, binary, and, or, cond, assign, assign_by, step, call, call_by, comma, literal, type_of, CFun, CExprs, no_exprs, more_exprs}
-use Rattle.cx_core.specs.Typing.{CHome, IsTyped, AreTyped, IsLvalue, function_with, is_bit_field, width_of}
+use Rattle.cx_core.specs.Typing.{CHome, IsTyped, AreTyped, IsCallBy, IsLvalue, function_with, is_bit_field, width_of}
 use Rattle.cx_core.specs.Conversions.{promoted}
-use Rattle.cx_core.specs.Trees.{CProgram, CTypes, CMember, void, basic, enum_type, pointer, array, record_type, function, form_of_type, CTy, ty, CTyForm, CExpr, expr, CForm, whole, null, object, code, load, deref, member, address, convert, unary, binary, and, or, cond, assign, assign_by, step, call, call_by, comma, literal, type_of}
+use Rattle.cx_core.specs.Trees.{CTypes, CMember, void, basic, enum_type, pointer, array, record_type, function, form_of_type, CTy, ty, CTyForm, CExpr, expr, CForm, whole, null, object, code, load, deref, member, address, convert, unary, binary, and, or, cond, assign, assign_by, step, call, call_by, comma, literal, type_of}
 use Rattle.cx_core.specs.ValidTypes.{member_of}
 use Rattle.lift_does.proofs.ValueMembers.{value_member_owes}
 use Rattle.cx_core.specs.declared.expr.Op2.{Op2}
@@ -26,9 +26,11 @@ use Rattle.lift_does.proofs.BitNodes.{bits_kind_is, bits_node, bits_node_as}
 use Rattle.lift_does.proofs.BitPlaces.{member_bits_owes}
 use Rattle.lift_does.proofs.Arguments.{EachOwes}
 use Rattle.lift_does.proofs.CallNodes.{held_call, named_owes, defined_serves}
+use Rattle.lift_does.proofs.OuterNodes.{outer_is_served}
+use Rattle.lift_does.proofs.PointedNodes.{pointed_owes}
 use Rattle.lift_does.proofs.Choices.{choice_owes, part_is_taken}
 use Rattle.lift_does.proofs.Records.{void_record}
-use Rattle.lift_exprs.specs.Calls.{Called, Arguments, called_by_name, called_for_record, called_for_value, called_alone, called_with}
+use Rattle.lift_exprs.specs.Calls.{Called, Arguments, called_by_name, called_by_pointer, called_for_record, called_for_value, called_alone, called_with}
 use Rattle.std.specs.Prelude.{IsSome}
 use Rattle.lift_does.proofs.Commas.{comma_owes}
 use Rattle.lift_does.proofs.Conversions.{convert_owes}
@@ -48,9 +50,11 @@ use Rattle.lift_does.proofs.RecordTypes.{assign_by_no_record, step_no_record}
 use Rattle.lift_does.proofs.Unary.{form_fixed, ExprOwes, FormOwes, unary_owes}
 use Rattle.lift_does.proofs.Used.{scalar_has, unary_has, convert_has, left_has, right_has, lvalue_has, assigned_has, address_kind}
 use Rattle.lift_does.specs.Agree.{AreKeptFrom}
+use Rattle.lift_does.specs.Outers.{OuterItem}
+use Rattle.lift_calls.specs.Programs.{Setting}
 use Rattle.lift_does.specs.Covered.{IsCovered, IsCoveredForm, AreCovered, CoveredDoes}
 use Rattle.lift_does.specs.Does.{IsAsked, is_fixed}
-use Rattle.lift_exprs.specs.Lifted.{lifted, lifted_args, lifted_form, operand_of, Deciding, where_true, where_false, decided_written, Choice, chosen_written}
+use Rattle.lift_exprs.specs.Lifted.{lifted, lifted_args, lifted_form, operand_of, joined_to, Deciding, where_true, where_false, decided_written, Choice, chosen_written}
 use Rattle.lift_exprs.specs.Names.{Names, type_in}
 use Rattle.lift_exprs.specs.Stores.{Target, a_scalar, a_structure, a_field, is_field, target_of, held_store, plain_store, old_value, stored, stored_value, Change, changed, changed_first, stepped, step_by_one, promoted_type, target_type}
 use Rattle.lift_exprs.specs.Written.{Written, Both, both, in_turn, place_of_given, address_of_given, NodeKind, a_value, a_record, lvalue_kind, value_kind, kind_in, held_type, then_held, held_where}
@@ -240,29 +244,51 @@ base_lasts asked home type at (call callee args) base is e = absurd is.2
 base_lasts asked home type at (call_by callee args) base is e = absurd is.2
 base_lasts asked home type at (comma first second) base is e = absurd is.2
 
+-- a pointer to a function has a value
+pointer_has : (types : CTypes) (type : CTy) (args : CExprs) (own : CTy) → IsCallBy types type args own → is_void own ≡ false
+pointer_has types type args (ty (pointer to) is_const) is = refl
+pointer_has types type args (ty void is_const) is = absurd is
+pointer_has types type args (ty (basic which) is_const) is = refl
+pointer_has types type args (ty (enum_type number) is_const) is = refl
+pointer_has types type args (ty (array element count) is_const) is = refl
+pointer_has types type args (ty (record_type number) is_const) is = refl
+pointer_has types type args (ty (function back params variadic) is_const) is = refl
+
+-- what a call gives that is held is no `void`
+call_has : (asked : Asked) (type : CTy) (at : Place) (form : CForm) → IsAsked asked (expr type at form) → (is_record type || asked.used) ≡ true → is_void type ≡ false
+call_has asked type at form asked_is = by (is_record type) refl
+  where
+    by : (of_it : Bool) → is_record type ≡ of_it → (of_it || asked.used) ≡ true → is_void type ≡ false
+    by true of_it some = void_record type of_it
+    by false of_it some = asked_is.used some
+
+found_some : (found : Option CFun) → IsSome found → (one : CFun) × (found ≡ Some one)
+found_some None none = cc (none)
+found_some (Some one) some = (one, refl)
+
 -- an lvalue is no call
-covered_form : (home : CHome) (program : CProgram) (type : CTy) (at : Place) (form : CForm) → IsLvalue home (expr type at form) → IsCovered program (expr type at form) → IsCoveredForm program form
-covered_form home program type at (call callee args) typed is = absurd typed.2
-covered_form home program type at (whole value) typed is = is
-covered_form home program type at null typed is = is
-covered_form home program type at (object number) typed is = is
-covered_form home program type at (code number) typed is = is
-covered_form home program type at (load of) typed is = is
-covered_form home program type at (deref of) typed is = is
-covered_form home program type at (member of spot) typed is = is
-covered_form home program type at (address of) typed is = is
-covered_form home program type at (convert of) typed is = is
-covered_form home program type at (unary op of) typed is = is
-covered_form home program type at (binary op left right) typed is = is
-covered_form home program type at (and left right) typed is = is
-covered_form home program type at (or left right) typed is = is
-covered_form home program type at (cond test first second) typed is = is
-covered_form home program type at (assign target value) typed is = is
-covered_form home program type at (assign_by op computes target value) typed is = is
-covered_form home program type at (step up post on) typed is = is
-covered_form home program type at (comma first second) typed is = is
-covered_form home program type at (call_by callee args) typed is = is
-covered_form home program type at (literal number puts) typed is = is
+covered_form : (home : CHome) (s : Setting) (names_of : Names) (type : CTy) (at : Place) (form : CForm) → IsLvalue home (expr type at form) → IsCovered s names_of (expr type at form) → IsCoveredForm s names_of form
+covered_form home s names_of type at (call callee args) typed is = absurd typed.2
+covered_form home s names_of type at (whole value) typed is = is
+covered_form home s names_of type at null typed is = is
+covered_form home s names_of type at (object number) typed is = is
+covered_form home s names_of type at (code number) typed is = is
+covered_form home s names_of type at (load of) typed is = is
+covered_form home s names_of type at (deref of) typed is = is
+covered_form home s names_of type at (member of spot) typed is = is
+covered_form home s names_of type at (address of) typed is = is
+covered_form home s names_of type at (convert of) typed is = is
+covered_form home s names_of type at (unary op of) typed is = is
+covered_form home s names_of type at (binary op left right) typed is = is
+covered_form home s names_of type at (and left right) typed is = is
+covered_form home s names_of type at (or left right) typed is = is
+covered_form home s names_of type at (cond test first second) typed is = is
+covered_form home s names_of type at (assign target value) typed is = is
+covered_form home s names_of type at (assign_by op computes target value) typed is = is
+covered_form home s names_of type at (step up post on) typed is = is
+covered_form home s names_of type at (comma first second) typed is = is
+covered_form home s names_of type at (call_by callee args) typed is = absurd typed.2
+covered_form home s names_of type at (literal number puts) typed is = is
 
 module _ (x : Around) where
   kind_type : (record_type : Bool) (one : Ty) (size : ℕ) → held_type (if record_type then a_record one size else a_value one) ≡ one
@@ -527,33 +553,30 @@ module _ (x : Around) where
   call_kept asked type at callee args from are = calls_kept x.names x.kept asked type (called_by_name x.names callee) (lifted_args x.names args from) from (args_numbered x.names args from) are
 
   named_any : (asked : Asked) (type : CTy) (at : Place) (callee : ℕ) (args : CExprs) (from : ℕ) (images : Images) (c w : World) → At x images c w → IsTyped x.home (expr type at (call callee args)) → IsAsked asked (expr type at (call callee args)) →
-      IsSome (function_with callee x.s.program.functions) → EachOwes x args from → ((is_record type || asked.used) ≡ true → is_void type ≡ false → kept_as x.names x.kept (lifted_args x.names args from).written.next (type_in x.names type)) →
+      IsSome (function_with callee x.s.program.functions) ⊎ OuterItem x.s x.names callee args → EachOwes x args from → ((is_record type || asked.used) ≡ true → is_void type ≡ false → kept_as x.names x.kept (lifted_args x.names args from).written.next (type_in x.names type)) →
       ExprOwes x asked (expr type at (call callee args)) from images c w
-  named_any asked type at callee args from images c w here typed asked_is is owes kept_it = by (function_with callee x.s.program.functions) refl is
-    where
-      has : (of_it : Bool) → is_record type ≡ of_it → (of_it || asked.used) ≡ true → is_void type ≡ false
-      has true of_it some = void_record type of_it
-      has false of_it some = asked_is.used some
-
-      by : (found : Option CFun) → function_with callee x.s.program.functions ≡ found → IsSome found → ExprOwes x asked (expr type at (call callee args)) from images c w
-      by None e none = cc (none)
-      by (Some one) e some =
-          named_owes x asked type at callee args from images c w here typed owes (defined_serves x asked type at callee args from images c w here typed owes one e) asked_is
-          (rises (lifted_args x.names args from).written from (args_numbered x.names args from)) (λ held. kept_it held (has (is_record type) refl held))
+  named_any asked type at callee args from images c w here typed asked_is is owes kept_it =
+      named_owes x asked type at callee args from images c w here typed owes
+      (⊎_elim
+      (λ (some : IsSome (function_with callee x.s.program.functions)).
+      let found = found_some (function_with callee x.s.program.functions) some in
+      defined_serves x asked type at callee args from images c w here typed owes found.0 found.1)
+      (λ (item : OuterItem x.s x.names callee args). outer_is_served x asked type at callee args from images c w here typed owes item) is) asked_is (rises (lifted_args x.names args from).written from (args_numbered x.names args from))
+      (λ held. kept_it held (call_has asked type at (call callee args) asked_is held))
 
   mutual
-    base_does : (asked : Asked) (e : CExpr) (from : ℕ) → IsAsked asked e → AreKeptFrom x.names x.kept from (lifted x.names asked e from).temporaries → IsLvalue x.home e → IsCovered x.s.program e → asked.is_base ≡ true → (images : Images) (c w : World) → At x images c w →
+    base_does : (asked : Asked) (e : CExpr) (from : ℕ) → IsAsked asked e → AreKeptFrom x.names x.kept from (lifted x.names asked e from).temporaries → IsLvalue x.home e → IsCovered x.s x.names e → asked.is_base ≡ true → (images : Images) (c w : World) → At x images c w →
         is_bit_field e ≡ false → PartOwes x asked.used true e (lifted x.names asked e from) from images c w
     base_does asked (expr type at form) from asked_is are typed is base images c w here plainly =
-        base_owes asked type at form from asked_is are typed base images c w here plainly (λ own. form_does asked type at form from asked_is own (inr typed) (covered_form x.home x.s.program type at form typed is))
+        base_owes asked type at form from asked_is are typed base images c w here plainly (λ own. form_does asked type at form from asked_is own (inr typed) (covered_form x.home x.s x.names type at form typed is))
 
-    target_does : (asked : Asked) (e : CExpr) (from : ℕ) → IsAsked asked e → AreKeptFrom x.names x.kept from (lifted x.names asked e from).temporaries → IsLvalue x.home e → IsCovered x.s.program e → is_bit_field e ≡ true → FixedAnywhere asked e from
+    target_does : (asked : Asked) (e : CExpr) (from : ℕ) → IsAsked asked e → AreKeptFrom x.names x.kept from (lifted x.names asked e from).temporaries → IsLvalue x.home e → IsCovered x.s x.names e → is_bit_field e ≡ true → FixedAnywhere asked e from
     target_does asked (expr type at (member of spot)) from asked_is are typed is bits = λ images c w here.
         target_owes asked type at of spot from asked_is are typed bits images c w here (λ own.
         base_does (whole_of spot) of from (used_base (whole_of spot) of refl (lvalue_has x of typed.2.0)) own typed.2.0 is bits images c w here (holder_plain x.home type of spot here.typed.scene.linked.types typed.2.0 typed.2.1))
     target_does asked (expr type at other) from asked_is are typed is bits = absurd (no_truth bits)
 
-    expr_does : (asked : Asked) (e : CExpr) (from : ℕ) → IsAsked asked e → AreKeptFrom x.names x.kept from (lifted x.names asked e from).temporaries → IsTyped x.home e ⊎ IsLvalue x.home e → IsCovered x.s.program e → OwesAnywhere asked e from
+    expr_does : (asked : Asked) (e : CExpr) (from : ℕ) → IsAsked asked e → AreKeptFrom x.names x.kept from (lifted x.names asked e from).temporaries → IsTyped x.home e ⊎ IsLvalue x.home e → IsCovered x.s x.names e → OwesAnywhere asked e from
     expr_does asked (expr type at (whole value)) from asked_is are typed is = node_owes asked type at (whole value) from asked_is are typed (λ own. form_does asked type at (whole value) from asked_is own typed is)
     expr_does asked (expr type at null) from asked_is are typed is = node_owes asked type at null from asked_is are typed (λ own. form_does asked type at null from asked_is own typed is)
     expr_does asked (expr type at (object number)) from asked_is are typed is = node_owes asked type at (object number) from asked_is are typed (λ own. form_does asked type at (object number) from asked_is own typed is)
@@ -576,11 +599,24 @@ module _ (x : Around) where
         let kept_all = call_kept asked type at callee args from are in
         named_any asked type at callee args from images c w here typed asked_is is.0 (args_do args from kept_all.0 typed.1.0 is.1) kept_all.1
     expr_does asked (expr type at (call callee args)) from asked_is are (inr typed) is = absurd typed.2
-    expr_does asked (expr type at (call_by callee args)) from asked_is are typed is = absurd is
+    expr_does asked (expr type at (call_by callee args)) from asked_is are (inl typed) is = λ images c w here.
+        let before = operand_before (some_holds_call args) in
+        let pointer = lifted x.names before callee from in
+        let others = lifted_args x.names args pointer.next in
+        let two : Both = record { first = pointer; second = others.written } in
+        let first_count = numbered x.names before callee from in
+        let second_count = args_numbered x.names args pointer.next in
+        let kept_all =
+        calls_kept x.names x.kept asked type (called_by_pointer (operand_of x.names callee pointer.given)) (joined_to pointer others) from (turn_numbered two given_form.nothing from first_count second_count) are in
+        pointed_owes x asked type at callee args from images c w here typed (rises pointer from first_count) (rises others.written pointer.next second_count)
+        (expr_does before callee from (used_part before callee refl (pointer_has x.home.program.types type args (type_of callee) typed.1.2)) (kept_front x.names x.kept from pointer.temporaries others.written.temporaries kept_all.0) (inl typed.1.0) is.0 images c w here)
+        (args_do args pointer.next (second_kept x.names x.kept two given_form.nothing from first_count kept_all.0) typed.1.1 is.1) asked_is
+        (λ held. kept_all.1 held (call_has asked type at (call_by callee args) asked_is held))
+    expr_does asked (expr type at (call_by callee args)) from asked_is are (inr typed) is = absurd typed.2
     expr_does asked (expr type at (literal number puts)) from asked_is are typed is = absurd is
 
     -- arguments, from the left
-    args_do : (args : CExprs) (next : ℕ) → AreKeptFrom x.names x.kept next (lifted_args x.names args next).written.temporaries → AreTyped x.home args → AreCovered x.s.program args → EachOwes x args next
+    args_do : (args : CExprs) (next : ℕ) → AreKeptFrom x.names x.kept next (lifted_args x.names args next).written.temporaries → AreTyped x.home args → AreCovered x.s x.names args → EachOwes x args next
     args_do no_exprs next are typed is = tt
     args_do (more_exprs first others) next are typed is =
         let asked = operand_before (some_holds_call others) in
@@ -591,7 +627,7 @@ module _ (x : Around) where
         )
 
     form_does : (asked : Asked) (type : CTy) (at : Place) (form : CForm) (from : ℕ) → IsAsked asked (expr type at form) → AreKeptFrom x.names x.kept from (lifted_form x.names asked type form from).temporaries →
-        IsTyped x.home (expr type at form) ⊎ IsLvalue x.home (expr type at form) → IsCoveredForm x.s.program form → FormAnywhere asked type at form from
+        IsTyped x.home (expr type at form) ⊎ IsLvalue x.home (expr type at form) → IsCoveredForm x.s x.names form → FormAnywhere asked type at form from
     form_does asked type at (whole value) from asked_is are (inl typed) is = λ images c w here. whole_owes x asked type at value from images c w here typed
     form_does asked type at null from asked_is are (inl typed) is = λ images c w here. null_owes x asked type at from images c w here typed
     form_does asked type at (code number) from asked_is are (inl typed) is = λ images c w here. code_owes x asked type at number from images c w here typed

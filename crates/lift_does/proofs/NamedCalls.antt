@@ -67,7 +67,7 @@ operands_count x (more_exprs first others) (one ∷ rest) are = ap suc (operands
 
 -- ---- lists of types
 
-types_same : (one other : List Ty) → tys one ≡ tys other → one ≡ other
+pub types_same : (one other : List Ty) → tys one ≡ tys other → one ≡ other
 types_same [] [] e = refl
 types_same (first ∷ one) (second ∷ other) e =
     let here : first ≡ second = cc (e) in
@@ -95,14 +95,14 @@ visible_by x type args one (Some other) outer e is =
 visible_by x type args one None outer e is = cc (e)
 
 -- what is visible is a function type that lists what is passed
-record IsListed (x : Around) (args : CExprs) (visible : CTy) : Type 0 where
-  back : CTy
-  params : CParams
-  variadic : Bool
-  form_is : form_of_type visible ≡ function back params variadic
-  typed : AreArgumentsOf x.home.program.types params variadic args
+pub record IsListed (x : Around) (args : CExprs) (visible : CTy) : Type 0 where
+  pub back : CTy
+  pub params : CParams
+  pub variadic : Bool
+  pub form_is : form_of_type visible ≡ function back params variadic
+  pub typed : AreArgumentsOf x.home.program.types params variadic args
 
-listed_by : (x : Around) (type : CTy) (args : CExprs) (visible : CTy) (form : CTyForm) → form_of_type visible ≡ form → IsCallOf x.home.program.types type args form → IsListed x args visible
+pub listed_by : (x : Around) (type : CTy) (args : CExprs) (visible : CTy) (form : CTyForm) → form_of_type visible ≡ form → IsCallOf x.home.program.types type args form → IsListed x args visible
 listed_by x type args visible (function back params variadic) e is = record { back = back; params = params; variadic = variadic; form_is = e; typed = is.2 }
 listed_by x type args visible void e is = absurd is
 listed_by x type args visible (basic which) e is = absurd is
@@ -147,7 +147,7 @@ module _ (x : Around) (type : CTy) (at : Place) (number : ℕ) (args : CExprs) (
         let is : callee_of (Some one) (outer_with number x.s.program.externals) ≡ Ok found.0 =
         ap (λ (f : Option CFun). callee_of f (outer_with number x.s.program.externals)) (sym defined_is) ∙ found.1 in
         let same : defined one ≡ found.0 = cc (is) in
-        with_parts type at united.0 operands (defined one) calling united.1 (subst (λ (callee : CCallee). called_with type at united.0 operands callee ≡ Ok calling) (sym same) found.2)
+        with_parts type at united.0 operands (defined one) calling (subst (λ (callee : CCallee). called_with type at united.0 operands callee ≡ Ok calling) (sym same) found.2)
 
     abbrev kept : KeptFunction
     kept = (x.means.functions number one defined_is).0

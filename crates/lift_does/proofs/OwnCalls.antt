@@ -15,7 +15,7 @@ use Rattle.cx_core.specs.Typing.{function_with}
 use Rattle.cx_mean.specs.Calls.{CCallee, defined, external, CCalled, CCalling, is_missing, all_given, counted, called_with, type_of_callee}
 use Rattle.cx_mean.specs.Leftmost.{CRan, gives_operand, c_callee}
 use Rattle.cx_mean.specs.Marks.{Marks}
-use Rattle.cx_mean.specs.Operands.{breaks, CWhy, CValue, scalar, cells, names, designates, designates_bits, missing, COperand, united_operands}
+use Rattle.cx_mean.specs.Operands.{breaks, CWhy, CValue, scalar, cells, names, designates, designates_bits, missing, COperand}
 use Rattle.cx_mean.specs.State.{values_of_args}
 use Rattle.cx_typed_leftmost.proofs.Worlds.{typed_kept}
 use Rattle.cx_typed_leftmost.specs.Laws.{CallIsTyped}
@@ -54,8 +54,6 @@ number_is one other is = grind (arith, nat_tests, is)
 
 -- what is called, once C's step has a meaning: the arguments are all given, and as many as it has parameters
 pub record CallsAs (type : CTy) (operands : List COperand) (callee : CCallee) (calling : CCalling) : Type 0 where
-  pub marks : Marks
-  pub united_is : united_operands operands ≡ Ok marks
   pub args_are : calling.called.args ≡ operands
   pub all_is : all_given operands ≡ Ok operands
   pub callee_is : calling.called.callee ≡ callee
@@ -87,9 +85,9 @@ params_count one count e = by (length one.params == count) refl e
     by true is found = number_is (length one.params) count is
     by false is found = cc (found)
 
-pub with_parts : (type : CTy) (place : Place) (marks : Marks) (operands : List COperand) (callee : CCallee) (calling : CCalling) → united_operands operands ≡ Ok marks → called_with type place marks operands callee ≡ Ok calling →
+pub with_parts : (type : CTy) (place : Place) (marks : Marks) (operands : List COperand) (callee : CCallee) (calling : CCalling) → called_with type place marks operands callee ≡ Ok calling →
     CallsAs type operands callee calling
-with_parts type place marks operands callee calling united_is e =
+with_parts type place marks operands callee calling e =
     let first = and_then_is (counted callee (length operands)) _ calling e in
     let second = and_then_is (all_given operands) _ calling first.2 in
     let same = all_same operands second.0 second.1 in
@@ -98,8 +96,6 @@ with_parts type place marks operands callee calling united_is e =
     let args_are : second.0 ≡ calling.called.args = ap (λ (one : CCalling). one.called.args) is in
     let callee_is : first.0 ≡ calling.called.callee = ap (λ (one : CCalling). one.called.callee) is in
     record {
-      marks = marks;
-      united_is = united_is;
       args_are = sym args_are ∙ same;
       all_is = second.1 ∙ ap (λ (list : List COperand). ok_list list) same;
       callee_is = sym callee_is ∙ one;

@@ -27,7 +27,7 @@ records_alike types counts (function a params more) (function b others rest) one
 records_alike types counts _ _ one other e = absurd cc
 
 module _ (x : Around) where
-  param_fits : (a b : CTy) (by : AreCompatible x.home.program.types a b) (f s : CTyForm) (const : Bool) (first : CExpr) (record_is : Bool) → is_record (type_of first) ≡ record_is → type_of first ≡ ty f false →
+  pub param_fits : (a b : CTy) (by : AreCompatible x.home.program.types a b) (f s : CTyForm) (const : Bool) (first : CExpr) (record_is : Bool) → is_record (type_of first) ≡ record_is → type_of first ≡ ty f false →
       forms_agree x.home.program.types (in_pairs by.pairs) f s ≡ true → ParamFits x record_is first (passed (is_passed (ty s const)) (rust_type x.names.types (ty s const)))
   param_fits a b by f s const first true is typed agrees =
       let passes : is_passed (ty s const) ≡ true = sym (records_alike x.home.program.types (in_pairs by.pairs) f s false const agrees) ∙ (ap is_record (sym typed) ∙ is) in

@@ -4,3 +4,4 @@ pub mod Does
 pub mod Gives
 pub mod Here
 pub mod Later
+pub mod Outers

@@ -3,7 +3,7 @@
 
 ghost use Rattle.lift_does.specs.Covered.{CoveredDoes};
 
-/// Law: so it is with each expression without compound literals, calls by a pointer and calls of functions that no unit defines.
+/// Law: so it is with each expression without compound literals, where the module declares the external functions that it calls.
 pub fn covered_does()
     ensures { CoveredDoes }
 {}

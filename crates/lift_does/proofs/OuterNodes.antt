@@ -1,0 +1,314 @@
+-- Calls of external functions, as nodes of an expression (ISO C99, 6.5.2.2 and 7.1.4; the Rust Reference, "External blocks").
+use Rattle.std.proofs.Common.{◌≡◌, ◌⊎◌, inl, inr, ℕ, pred, zero, Bool, true, false, not, if◌then◌else◌, ◌&&◌, ◌==◌, List, [], ◌∷◌, length, map, Option, Some, None, option_map, Result, Ok, Err, refl, sym, ap, subst, ◌∙◌}
+use Rattle.std.specs.List.{Contains}
+use Rattle.std.specs.Prelude.{IsSome, IfSome, bytes_eq, codes}
+use Rattle.cr_base.specs.declared.refusal.Place.{Place}
+use Rattle.cr_base.specs.declared.scalar.Scalar.{Scalar}
+use Rattle.cr_runs.proofs.Rules.{renamed}
+use Rattle.cr_runs.specs.Owes.{Owes}
+use Rattle.cr_runs.specs.Runs.{Ran, came, tick}
+use Rattle.cr_runs_rules.proofs.Rules.{ticks_by}
+use Rattle.cr_world.specs.Known.{KnownFunction, known_table, known_named, frees}
+use Rattle.cr_world.specs.World.{World, Stop, blocks_of, events_of}
+use Rattle.cx_core.specs.Compatible.{AreCompatible}
+use Rattle.cx_core.specs.Conversions.{scalar_of as c_scalar_of}
+use Rattle.cx_core.specs.Externals.{CKnown, known_as, HasSignature, IsOpaque, IsExternalType}
+use Rattle.cx_core.specs.Linked.{IsLinked, IsTypedOuter}
+use Rattle.cx_core.specs.Trees.{CProgram, CTypes, CTy, ty, CTyForm, void, basic, enum_type, pointer, array, record_type, function, form_of_type, unqualified, CExpr, expr, call, CExprs, no_exprs, more_exprs, CFun, COuter}
+use Rattle.cx_core.specs.Typing.{function_with, outer_with, IsTyped, IsCalleeOf, CCallee as CoreCallee}
+use Rattle.cx_mean.specs.Calls.{CCallee, external, CCalling, callee_of, callee_numbered, called_with, node_calling, type_of_callee, external_call}
+use Rattle.cx_mean.specs.Leftmost.{CRan, c_callee, c_returned}
+use Rattle.cx_mean.specs.Operands.{COperand, united_operands}
+use Rattle.cx_mean.specs.Settings.{scalar_in_type}
+use Rattle.cx_mean.specs.State.{values_of_args}
+use Rattle.cx_typed_runs.proofs.Scenes.{all_of}
+use Rattle.cx_typed_work.proofs.AlikeCalls.{call_alike}
+use Rattle.cx_typed_work.proofs.AlikeValues.{alike_kind}
+use Rattle.cx_typed_work.proofs.KnownCalls.{typed_row, known_row, known_as_is}
+use Rattle.cx_typed_work.proofs.KnownEffects.{type_of_known, result_of as result_of_known}
+use Rattle.cx_typed_work.specs.Calls.{IsCalleeIn, IsCalledAs, FitsCallee, IsTypedCall}
+use Rattle.lift_calls.specs.Calls.{AreHanded}
+use Rattle.lift_calls.specs.Programs.{setting_in, c_calls}
+use Rattle.lift_does.proofs.Arguments.{EachOwes, ArgsGiven}
+use Rattle.lift_does.proofs.Around.{Around, At}
+use Rattle.lift_does.proofs.CallEnds.{IsPassed, Came, Served}
+use Rattle.lift_does.proofs.CallNodes.{Serving, Serves}
+use Rattle.lift_does.proofs.CallRuns.{dropped_runs, stored_runs}
+use Rattle.lift_does.proofs.CalledFunctions.{pointer_is, code_parts, option_same, void_none, record_same, unqualified_record, unqualified_form, passed_record, some_same}
+use Rattle.lift_does.proofs.NamedCalls.{call_typed, operands_are, Visible, IsListed, listed_by}
+use Rattle.lift_does.proofs.Nodes.{and_then_is}
+use Rattle.lift_does.proofs.OuterArguments.{FrontFits, OuterRan, outer_run}
+use Rattle.lift_does.proofs.OuterServes.{kinds_by, table_step}
+use Rattle.lift_does.proofs.OuterCalls.{all_leave}
+use Rattle.lift_does.proofs.OuterOpaque.{HaveKinds}
+use Rattle.lift_does.proofs.OuterTypes.{OuterForm, outer_form, outer_fits}
+use Rattle.lift_does.proofs.OwnCalls.{CallsAs, with_parts}
+use Rattle.lift_does.proofs.PointedServes.{void_back, void_type, kind_in}
+use Rattle.lift_does.proofs.Runs.{same_events}
+use Rattle.lift_does.specs.Outers.{is_variadic, TakesAll, OuterItem}
+use Rattle.lift_exprs.specs.Calls.{Argument, count_of, call_of, called_by_name, called_by_symbol, is_bare, outer_called, is_malloc, outer_arguments, one_item, as_params}
+use Rattle.lift_exprs.specs.Lifted.{lifted_args}
+use Rattle.lift_exprs.specs.Names.{Names, KeptFunction, function_or, type_in, params_of, result_of}
+use Rattle.lift_held.specs.Held.{is_void_form, is_void, is_record}
+use Rattle.lift_held.specs.declared.asked.Asked.{Asked}
+use Rattle.lift_stands.specs.Stands.{Images}
+use Rattle.rs_items.specs.Types.{is_record as is_passed, rust_type, rust_params, code_type, result_type}
+use Rattle.rs_mean.specs.Calls.{accepts, outer_by, outer_call}
+use Rattle.rs_mean.specs.Lookups.{outer, callee_at, symbol_of}
+use Rattle.rs_mean.specs.Run.{run_callee, call_found, run_exprs}
+use Rattle.rs_mean.specs.Scalars.{scalar_of}
+use Rattle.rs_mean.specs.Values.{Typed}
+use Rattle.rs_mean.specs.World.{takes_unit, either, fails}
+use Rattle.rs_mean.specs.declared.cause.Cause.{Cause}
+use Rattle.rs_mean.specs.declared.cause.Cause.TheVariants.{WrongCall}
+use Rattle.rs_text.specs.Tree.{Ty, Void, Tys, no_tys, more_tys, tys, OptionTy, no_ty, some_ty, option_ty, Code, Expr, exprs, OuterTree, ModuleTree}
+
+-- ---- `free`, and what is no `malloc`
+
+abbrev IsAs : CTypes → CTyForm → Option CKnown → Type 0
+IsAs types form (Some one) = HasSignature one.signature form
+IsAs types form None = IsOpaque types form
+
+free_form : (program : CProgram) (name : List ℕ) (row : KnownFunction) (type : CTy) (operands : List COperand) (form : CTyForm) → known_named name ≡ Some row → row.does ≡ frees → IsExternalType program.types name form → IsCalledAs program form type operands → is_void type ≡ true
+free_form program name row type operands (function back params variadic) e does served called =
+    let has : HasSignature (typed_row row).signature (function back params variadic) = subst (IsAs program.types (function back params variadic)) (known_as_is name ∙ ap (option_map typed_row) e) served in
+    let result = (known_row name row e).0 ∙ ap result_of_known does in
+    ap is_void (called.0 ∙ has.0 ∙ ap type_of_known result)
+free_form program name row type operands void e does served called = absurd called
+free_form program name row type operands (basic which) e does served called = absurd called
+free_form program name row type operands (enum_type number) e does served called = absurd called
+free_form program name row type operands (pointer to) e does served called = absurd called
+free_form program name row type operands (array element count) e does served called = absurd called
+free_form program name row type operands (record_type number) e does served called = absurd called
+
+first_missed : {A : Type 0} (test : Bool) (one : A) (rest : Option A) → (if test then Some one else rest) ≡ None → test ≡ false
+first_missed true one rest e = cc (e)
+first_missed false one rest e = refl
+
+no_malloc : (name : List ℕ) → known_named name ≡ None → bytes_eq name (codes "malloc") ≡ false
+unfolding known_table
+no_malloc name e = first_missed (bytes_eq name (codes "malloc")) _ _ e
+
+as_it_is : (names_of : Names) (name : List ℕ) → (names_of.has_bits ≡ false) ⊎ (known_named name ≡ None) → is_malloc names_of name ≡ false
+as_it_is names_of name (inl none) = rw (none) refl
+as_it_is names_of name (inr none) = by names_of.has_bits
+  where
+    by : (bits : Bool) → (bits && bytes_eq name (codes "malloc")) ≡ false
+    by true = no_malloc name none
+    by false = refl
+
+-- it isn't called without the parameters that its item lists
+not_bare : (kept : KeptFunction) (variadic : Bool) (args : CExprs) (names_of : Names) (next : ℕ) → TakesAll (params_of kept.ty) variadic args → is_bare kept (lifted_args names_of args next).list ≡ false
+not_bare kept variadic no_exprs names_of next takes = by (params_of kept.ty) takes
+  where
+    by : (params : Tys) → TakesAll params variadic no_exprs → not (count_of params == 0) ≡ false
+    by no_tys they = refl
+    by (more_tys param params) they = absurd they
+not_bare kept variadic (more_exprs first others) names_of next takes = refl
+
+same_item : (kept : KeptFunction) (bare : Option KeptFunction) (list : List Argument) → is_bare kept list ≡ false → outer_called kept bare list ≡ kept
+same_item kept None list is = refl
+same_item kept (Some other) list is = ap (λ (b : Bool). if b then other else kept) is
+
+none_there : {A : Type 0} → IsSome {T = KnownFunction} None → A
+none_there is = cc (is)
+
+-- ---- the type that is visible
+
+abbrev callee_among : Option CFun → Option COuter → Option CoreCallee
+callee_among (Some one) outer_one = Some (record { type = one.type; outer = None })
+callee_among None (Some one) = Some (record { type = one.type; outer = Some one })
+callee_among None None = None
+
+outer_visible : (x : Around) (type : CTy) (args : CExprs) (one : COuter) (found : Option CFun) (outer_one : Option COuter) → found ≡ None → outer_one ≡ Some one → IfSome (callee_among found outer_one) (IsCalleeOf x.home type args) → Visible x type args one.type
+outer_visible x type args one None (Some other) e f is =
+    let same : other ≡ one = cc (f) in
+    subst (λ (o : COuter). Visible x type args o.type) same (record { visible = is.visible; compatible = is.compatible; call = is.call })
+outer_visible x type args one None None e f is = cc (f)
+outer_visible x type args one (Some fun) outer_one e f is = cc (e)
+
+module _ (x : Around) (type : CTy) (at : Place) (number : ℕ) (args : CExprs) (next : ℕ) (typed_node : IsTyped x.home (expr type at (call number args))) (operands : List COperand) (last : Images) (c w : World) (here : At x last c w)
+    (given : ArgsGiven x last w args next operands) (calling : CCalling) (calls_it : node_calling (setting_in x.s) type at (call number args) operands ≡ Ok calling) (item : OuterItem x.s x.names number args) where
+  abbrev one : COuter
+  one = item.one
+
+  abbrev kept : KeptFunction
+  kept = item.kept
+
+  abbrev tree : OuterTree
+  tree = item.means.tree
+
+  calls : CallsAs type operands (external item.one) calling
+  calls =
+      let united = and_then_is (united_operands operands) _ calling calls_it in
+      let found = and_then_is (callee_numbered x.s.program number) _ calling united.2 in
+      let is : callee_of None (Some item.one) ≡ Ok found.0 =
+      ap (λ (f : Option CFun). callee_of f (Some item.one)) (sym item.undefined) ∙ (ap (λ (o : Option COuter). callee_of (function_with number x.s.program.functions) o) (sym item.outer_is) ∙ found.1) in
+      let same : external item.one ≡ found.0 = cc (is) in
+      with_parts type at united.0 operands (external item.one) calling (subst (λ (callee : CCallee). called_with type at united.0 operands callee ≡ Ok calling) (sym same) found.2)
+
+  typed_call : IsTypedCall x.home.program calling.called
+  typed_call = (call_typed x type at number args next typed_node operands last c w here given calling calls_it).typed
+
+  abbrev linked : IsLinked x.home.program
+  linked = here.typed.scene.linked
+
+  there : Contains x.home.program.externals item.one
+  there = subst (IsCalleeIn x.home.program) calls.callee_is typed_call.callee_in
+
+  form : OuterForm x.home.program.types (form_of_type item.one.type)
+  form = outer_form x.home.program.types item.one.name (form_of_type item.one.type) (all_of (IsTypedOuter x.home.program.types) x.home.program.externals item.one linked.externals there).external
+
+  type_alike : AreCompatible x.home.program.types type (unqualified form.back)
+  type_alike =
+      subst (λ (t : CTy). AreCompatible x.home.program.types t (unqualified form.back)) calls.type_is
+      (call_alike x.home.program calling.called form.back form.params form.variadic typed_call (ap (λ (it : CCallee). form_of_type (type_of_callee it)) calls.callee_is ∙ form.form_is)).compatible
+
+  pub plain : is_record type ≡ false
+  plain = record_same x.home.program.types type (unqualified form.back) type_alike ∙ (unqualified_record form.back ∙ form.gives.plain)
+
+  back_some : is_void type ≡ false → is_void form.back ≡ false
+  back_some some = ap is_void_form (sym (unqualified_form form.back)) ∙ some_same x.home.program.types type (unqualified form.back) type_alike some
+
+  abbrev Back : Ty
+  Back = rust_type x.names.types form.back
+
+  c_kind : (some : is_void type ≡ false) → c_scalar_of x.home.program.types (form_of_type type) ≡ Some (form.gives.kind (back_some some)).0
+  c_kind some =
+      alike_kind x.home.program.types type (unqualified form.back) type_alike ∙ (ap (c_scalar_of x.home.program.types) (unqualified_form form.back) ∙ (form.gives.kind (back_some some)).1)
+
+  kind_there : is_void type ≡ false → (kind : Scalar) × (scalar_in_type (setting_in x.s) type ≡ Some kind)
+  kind_there some = ((form.gives.kind (back_some some)).0, subst (λ (program : CProgram). c_scalar_of program.types (form_of_type type) ≡ Some (form.gives.kind (back_some some)).0) x.means.program (c_kind some))
+
+  item_is : Code (tys tree.params) (option_ty tree.result) ≡ code_type (is_passed form.back) Back (rust_params x.names.types form.params)
+  item_is = sym item.means.ty_is ∙ item.ty_is ∙ pointer_is x item.one.type form.back form.params form.variadic form.form_is
+
+  plain_is : code_type (is_passed form.back) Back (rust_params x.names.types form.params) ≡ Code (rust_params x.names.types form.params) (result_type false Back)
+  plain_is = ap (λ (b : Bool). code_type b Back (rust_params x.names.types form.params)) (passed_record form.back ∙ form.gives.plain)
+
+  parts : (params others : Tys) (back other : OptionTy) → Code params back ≡ Code others other → (params ≡ others) × (back ≡ other)
+  parts params others back other e = (cc (e), cc (e))
+
+  item_params : tys tree.params ≡ rust_params x.names.types form.params
+  item_params = (parts _ _ _ _ (item_is ∙ plain_is)).0
+
+  item_result : option_ty tree.result ≡ result_type false Back
+  item_result = (parts _ _ _ _ (item_is ∙ plain_is)).1
+
+  passes : is_void type ≡ false → is_record type ≡ false → IsPassed tree.result (type_in x.names type)
+  passes some no_record =
+      let kind = form.gives.kind (back_some some) in
+      let own = kind_in x form.back kind.0 kind.1 in
+      record {
+        from = Back;
+        own_is = option_same tree.result (Some Back) (item_result ∙ ap (λ (v : Bool). if v then no_ty else some_ty Back) (void_none Back kind.0 own));
+        kind = kind.0;
+        from_kind = own;
+        kind_is = kind_in x type kind.0 (c_kind some);
+      }
+
+  nothing : is_void type ≡ true → tree.result ≡ None
+  nothing is =
+      let void = void_back x type (unqualified form.back) (is_void (unqualified form.back)) type_alike is refl in
+      let own : is_void form.back ≡ true = ap is_void_form (sym (unqualified_form form.back)) ∙ void in
+      option_same tree.result None (item_result ∙ ap (λ (t : Ty). result_type false t) (void_type x form.back own))
+
+  -- ---- what is passed
+
+  visible : Visible x type args item.one.type
+  visible =
+      outer_visible x type args item.one (function_with number x.home.program.functions) (outer_with number x.home.program.externals)
+      (subst (λ (program : CProgram). function_with number program.functions ≡ None) (sym x.means.program) item.undefined)
+      (subst (λ (program : CProgram). outer_with number program.externals ≡ Some item.one) (sym x.means.program) item.outer_is) typed_node.1.1.1
+
+  kept_params : params_of kept.ty ≡ tys tree.params
+  kept_params = ap params_of item.means.ty_is
+
+  takes_all : TakesAll (tys tree.params) tree.variadic args
+  takes_all = subst (λ (params : Tys). TakesAll params tree.variadic args) kept_params item.takes
+
+  front : FrontFits x args (tys tree.params)
+  front =
+      let listed = listed_by x type args visible.visible (form_of_type visible.visible) refl visible.call in
+      let variadic : tree.variadic ≡ form.variadic = item.variadic_is ∙ ap is_variadic form.form_is in
+      subst (FrontFits x args) (sym item_params)
+      (outer_fits x visible.visible item.one.type listed.back form.back listed.params form.params listed.variadic form.variadic args visible.compatible listed.form_is form.form_is listed.typed
+      (subst (λ (v : Bool). TakesAll (rust_params x.names.types form.params) v args) variadic (subst (λ (params : Tys). TakesAll params tree.variadic args) item_params takes_all)))
+
+  abbrev list : List Argument
+  list = (lifted_args x.names args next).list
+
+  ran : OuterRan x last w args list tree.params tree.variadic (values_of_args operands)
+  ran = outer_run x last w args next tree.params tree.variadic operands operands typed_node.1.0 front takes_all given calls.all_is
+
+  -- ---- what is written
+
+  call_is : (called_by_name x.names number).call list ≡ call_of kept list
+  call_is =
+      ap (λ (f : Option KeptFunction). called_by_symbol x.names number (function_or f) (function_or f).symbol list) item.kept_is
+      ∙ ap (λ (s : Option (List ℕ)). called_by_symbol x.names number kept s list) item.means.symbol_is
+      ∙ ap (λ (k : KeptFunction). call_of k (outer_arguments x.names item.one.name list)) (same_item kept (x.names.bare_functions number) list (not_bare kept tree.variadic args x.names next item.takes))
+      ∙ ap (λ (b : Bool). call_of kept (if b then one_item ∷ list else list)) (as_it_is x.names item.one.name item.as_it_is)
+
+  result_is : (called_by_name x.names number).result ≡ option_ty tree.result
+  result_is = ap (λ (f : Option KeptFunction). result_of (function_or f).ty) item.kept_is ∙ ap result_of item.means.ty_is
+
+  abbrev source : ℕ → CRan COperand
+  source = tick c (λ left. c_callee (setting_in x.s) (c_calls x.s) type calling calling.called.callee c left)
+
+  abbrev crate_run : ℕ → Ran (Stop Cause) World (Option Typed)
+  crate_run k = call_found x.frame.bodies ran.values (Some (outer tree)) w k
+
+  crate_runs : (k : ℕ) → tick w (λ left. outer_by (known_named item.one.name) tree ran.values w left) k ≡ crate_run k
+  unfolding takes_unit
+  crate_runs k =
+      ap (λ (name : List ℕ). tick w (λ left. outer_by (known_named name) tree ran.values w left) k) (sym item.means.named)
+      ∙ ap (λ (b : Bool). either b (takes_unit (run_callee x.frame.bodies ran.values (outer tree))) (fails WrongCall) w k) (sym ran.accepted)
+
+  no_bytes : (known_named item.one.name ≡ known_named item.one.name) → IsSome (known_named item.one.name) → last.in_bytes ≡ false
+  no_bytes same some = by item.as_it_is some
+    where
+      by : (x.names.has_bits ≡ false) ⊎ (known_named item.one.name ≡ None) → IsSome (known_named item.one.name) → last.in_bytes ≡ false
+      by (inl none) is = here.program.bytes ∙ sym x.means.bits ∙ none
+      by (inr none) is = none_there (subst (λ (found : Option KnownFunction). IsSome found) none is)
+
+  frees_void : (row : KnownFunction) → known_named item.one.name ≡ Some row → row.does ≡ frees → tree.result ≡ None
+  frees_void row e does =
+      let served = subst (FitsCallee x.home.program.types typed_call.visible calling.called.args) calls.callee_is typed_call.served in
+      nothing (ap is_void (sym calls.type_is) ∙ free_form x.home.program item.one.name row calling.called.type calling.called.args (form_of_type typed_call.visible) e does served.0 typed_call.called_as)
+
+  outer_owes : Owes events_of events_of (Came x None tree.result type last c w) x.units x.steps source crate_run
+  outer_owes =
+      let operands_now = subst (λ (all : List COperand). AreHanded last (blocks_of w) (values_of_args all) ran.values) (sym calls.args_are) ran.handed in
+      let kinds = subst (λ (all : List COperand). HaveKinds (setting_in x.s) all ran.values) (sym calls.args_are) (kinds_by x args operands ran.values (operands_are x last w args next operands given) ran.scalars) in
+      renamed events_of events_of (Came x None tree.result type last c w) x.units x.steps (tick c (λ left. c_returned type calling.marks c left (external_call (setting_in x.s) calling.called item.one c))) source
+      (tick w (λ left. outer_by (known_named item.one.name) tree ran.values w left)) crate_run
+      (λ k. ap (λ (callee : CCallee). tick c (λ left. c_callee (setting_in x.s) (c_calls x.s) type calling callee c left) k) (sym calls.callee_is)) crate_runs
+      (ticks_by events_of events_of (Came x None tree.result type last c w) x.units x.steps c w (λ left. c_returned type calling.marks c left (external_call (setting_in x.s) calling.called item.one c)) (λ left. outer_by (known_named item.one.name) tree ran.values w left)
+      (same_events last c w here.worlds)
+      (table_step x type last c w here calling item.one calls.callee_is calls.type_is typed_call tree passes plain nothing kind_there ran.values operands_now kinds item.means.named (pred x.units) (pred x.steps) (known_named item.one.name) refl
+      (no_bytes refl) frees_void (all_leave x type last c w here calling item.one calls.callee_is calls.type_is typed_call tree.result passes plain)))
+
+  pub outer_serves : Served x None type (called_by_name x.names number).result ((called_by_name x.names number).call list) source last c w
+  outer_serves =
+      let found : callee_at x.frame.modules kept.home kept.name ≡ Some (outer tree) = ap (λ (modules : List ModuleTree). callee_at modules kept.home kept.name) here.frames.modules ∙ item.means.tree_is in
+      let comes : (units : ℕ) → run_exprs x.frame (exprs (as_params (params_of kept.ty) list)) w units ≡ came ran.values w units = λ units. ap (λ (params : Tys). run_exprs x.frame (exprs (as_params params list)) w units) kept_params ∙ ran.runs units in
+      subst (λ (e : Expr). Served x None type (called_by_name x.names number).result e source last c w) (sym call_is)
+      (record {
+        target = crate_run;
+        own = tree.result;
+        result_is = result_is;
+        kinds = passes;
+        owes = outer_owes;
+        dropped = dropped_runs x kept.home kept.name (exprs (as_params (params_of kept.ty) list)) ran.values (outer tree) w found comes;
+        stored = stored_runs x kept.home kept.name (exprs (as_params (params_of kept.ty) list)) ran.values (outer tree) w found comes;
+      })
+
+-- so it serves
+pub outer_is_served : (x : Around) (asked : Asked) (type : CTy) (at : Place) (number : ℕ) (args : CExprs) (from : ℕ) (images : Images) (c w : World) (here : At x images c w) (typed : IsTyped x.home (expr type at (call number args))) (owes : EachOwes x args from) →
+    OuterItem x.s x.names number args → Serves x asked type at number args from images c w here typed owes
+outer_is_served x asked type at number args from images c w here typed owes item operands last c2 w2 there given calling is = record {
+  at = there;
+  plain = λ no_record. outer_serves x type at number args from typed operands last c2 w2 there given calling is item;
+  placed = λ place address laid of_it. let clash : true ≡ false = sym of_it ∙ plain x type at number args from typed operands last c2 w2 there given calling is item in cc (clash);
+}
