@@ -6,13 +6,16 @@ use Rattle.std.specs.Str.{bytes_eq}
 use Rattle.cx_core.specs.Conversions.{IsIntegerType}
 use Rattle.cx_core.specs.Externals.{CKnown, CSignature, HasSignature, IsExternalType, IsOpaque, known_as, known_functions}
 use Rattle.cx_core.specs.Linked.{IsTypedOuter}
-use Rattle.cx_core.specs.Trees.{COuter, CProgram, CTy, ty, CTyForm, void, basic, enum_type, pointer, array, record_type, function, CParams, CTypes, form_of_type, unqualified}
+use Rattle.cr_world.specs.Known.{known_named, known_table}
+use Rattle.cx_core.specs.BitFields.{has_bit_fields}
+use Rattle.cx_core.specs.Trees.{CExprs, COuter, CProgram, CTy, ty, CTyForm, void, basic, enum_type, pointer, array, record_type, function, CParams, CTypes, form_of_type, unqualified}
 use Rattle.cx_core.specs.Trees as core
 use Rattle.cx_core.specs.Typing.{function_with, outer_with}
 use Rattle.cx_mean.specs.Operands.{Frame as CFrame}
 use Rattle.lift_calls.specs.Programs.{Setting}
 use Rattle.lift_does.specs.Agree.{OuterMeans}
-use Rattle.lift_exprs.specs.Names.{KeptFunction, Names, type_in}
+use Rattle.lift_does.specs.Outers.{OuterItem, TakesAll, is_variadic}
+use Rattle.lift_exprs.specs.Names.{KeptFunction, Names, params_of, type_in}
 use Rattle.rs_items.specs.Types.{rust_params, rust_type}
 use Rattle.rs_items.specs.Types as types
 use Rattle.rs_mean.specs.Lookups.{callee_among, callee_at, outer, symbol_of, symbol_or}
@@ -30,8 +33,8 @@ use Rattle.whole_means.proofs.Params.{same_record, same_void}
 use Rattle.whole_means.specs.Settings.{setting_with}
 use Rattle.whole_means.specs.Written.{IsNamed}
 use Rattle.whole_names.specs.FunctionNames.{is_record}
-use Rattle.whole_names.specs.Keys.{NameKey, a_function, is_defined_in, is_named_in, key_of, module_keys, order_of, things_of}
-use Rattle.whole_names.specs.Kept.{LocalNames, NamedProgram, calloc_item, code_type, function_thing, is_replaced, module_of, name_in, outer_item, outer_thing, types_of}
+use Rattle.whole_names.specs.Keys.{NameKey, a_function, is_defined_in, is_named_in, is_outer_named, key_of, module_keys, order_of, things_of}
+use Rattle.whole_names.specs.Kept.{LocalNames, NamedProgram, calloc_item, code_type, function_thing, is_replaced, module_of, name_in, outer_item as outer_item_of, outer_thing, types_of}
 
 -- ---- results of external functions
 
@@ -103,6 +106,13 @@ pub external_plain : (types_in : CTypes) (name : List ℕ) (form : CTyForm) → 
 external_plain types_in name form external =
     external_by types_in form (known_as name) (λ one found. (find_there (λ (k : CKnown). bytes_eq name k.name) known_functions one found).0) external
 
+malloc_there : IsSome (known_named (codes "malloc"))
+unfolding known_table
+malloc_there = refl
+
+malloc_known : known_named (codes "malloc") ≡ None → ⊥
+malloc_known is = let h : false ≡ true = sym (ap is_some is) ∙ malloc_there in cc
+
 -- ---- their items
 
 all_tys : (ts : Tys) → tys (tys_in ts) ≡ ts
@@ -168,23 +178,56 @@ module _ (whole : NamedProgram) (is : IsNamed whole) (bodies : WrittenBodies) (u
         ∙ ap (λ (r : OptionTy). Code (rust_params (types_of whole) params) r) (sym (same_void (rust_type (types_of whole) result)))
         ∙ ap (λ (ps : Tys). Code ps (option_ty (value_type (rust_type (types_of whole) result)))) (sym (all_tys (rust_params (types_of whole) params)))
 
-    -- an external function that isn't replaced has its own item
-    pub outer_means : is_replaced whole one ≡ false →
-        (function_kept : KeptFunction) × (names.functions number ≡ Some function_kept) × OuterMeans s one.name one.name function_kept × (function_kept.ty ≡ type_in names (ty (pointer one.type) false))
-    outer_means itself =
+    pub kept_is : is_replaced whole one ≡ false → names.functions number ≡ Some (kept_function (outer_item_of whole unit one))
+    kept_is itself =
+        ap (option_map kept_function) (ap (λ f. function_thing whole unit f (outer_with number program.externals)) undefined ∙ ap (outer_thing whole unit) found
+            ∙ ap (λ t. Some (if t then calloc_item whole unit one else outer_item_of whole unit one)) itself)
+
+    tree_found : callee_at modules (module_of whole unit) (name_in whole unit (a_function one.function)) ≡ Some (outer tree)
+    tree_found =
         let made : Among (outers_of whole unit) tree =
             outer_there tree (subst (λ (f : CTyForm). Among (outer_of_form whole one.name (name_in whole unit (a_function number)) f) tree) (sym plain.form_is) (inl refl)) in
-        (kept_function (outer_item whole unit one),
-            ap (option_map kept_function) (ap (λ f. function_thing whole unit f (outer_with number program.externals)) undefined ∙ ap (outer_thing whole unit) found
-                ∙ ap (λ t. Some (if t then calloc_item whole unit one else outer_item whole unit one)) itself),
-            record {
-              symbol_is = refl;
-              tree = tree;
-              tree_is =
-                  ap (λ n. callee_at modules (module_of whole unit) (name_in whole unit (a_function n)))
-                      (number_same one.function number (find_there (λ (o : COuter). o.function == number) program.externals one found).1)
-                  ∙ ap (callee_among (name_in whole unit (a_function number))) (items_found whole is bodies unit low) ∙ outer_among whole is bodies unit tree made;
-              named = linked_as one.name (name_in whole unit (a_function number));
-              ty_is = code_of one.type plain.result plain.params plain.variadic plain.form_is plain.plain;
-            },
-            refl)
+        ap (λ n. callee_at modules (module_of whole unit) (name_in whole unit (a_function n)))
+            (number_same one.function number (find_there (λ (o : COuter). o.function == number) program.externals one found).1)
+        ∙ ap (callee_among (name_in whole unit (a_function number))) (items_found whole is bodies unit low) ∙ outer_among whole is bodies unit tree made
+
+    -- an external function that isn't replaced has its own item
+    abbrev outer_means : OuterMeans s one.name one.name (kept_function (outer_item_of whole unit one))
+    outer_means = record {
+      symbol_is = refl;
+      tree = tree;
+      tree_is = tree_found;
+      named = linked_as one.name (name_in whole unit (a_function number));
+      ty_is = code_of one.type plain.result plain.params plain.variadic plain.form_is plain.plain;
+    }
+
+    variadic_same : plain.variadic ≡ is_variadic (form_of_type one.type)
+    variadic_same = sym (ap is_variadic plain.form_is)
+
+    replaced_not : (names.has_bits ≡ false) ⊎ (known_named one.name ≡ None) → is_replaced whole one ≡ false
+    replaced_not (inl none) = ap (λ t. t && is_outer_named (codes "malloc") one) none
+    replaced_not (inr unknown) = by_name (is_outer_named (codes "malloc") one) refl
+      where
+        both_false : (t : Bool) → (t && false) ≡ false
+        both_false true = refl
+        both_false false = refl
+        by_name : (t : Bool) → is_outer_named (codes "malloc") one ≡ t → is_replaced whole one ≡ false
+        by_name true e = absurd (let h : known_named (codes "malloc") ≡ None = ap known_named (sym (texts_equal one.name (codes "malloc") e)) ∙ unknown in malloc_known h)
+        by_name false e = ap (λ t. has_bit_fields program.types && t) e ∙ both_false (has_bit_fields program.types)
+
+    -- what a call of it has to know
+    pub outer_item : (args : CExprs) → TakesAll (params_of (code_type whole one.type)) (is_variadic (form_of_type one.type)) args → (names.has_bits ≡ false) ⊎ (known_named one.name ≡ None) →
+        OuterItem s names number args
+    outer_item args takes itself =
+        record {
+          one = one;
+          undefined = undefined;
+          outer_is = found;
+          kept = kept_function (outer_item_of whole unit one);
+          kept_is = kept_is (replaced_not itself);
+          means = outer_means;
+          ty_is = refl;
+          variadic_is = variadic_same;
+          takes = subst (λ v. TakesAll (params_of (code_type whole one.type)) v args) (sym variadic_same) takes;
+          as_it_is = itself;
+        }

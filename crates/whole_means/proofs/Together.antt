@@ -6,10 +6,13 @@ use Rattle.whole_bodies.specs.Bodies.{written_bodies, written_body}
 use Rattle.whole_means.proofs.Agrees.{crate_agrees, crate_images_apart}
 use Rattle.whole_means.proofs.Locals.{names_apart}
 use Rattle.whole_means.proofs.Whole.{modules_are, objects_are, stretch_kept}
-use Rattle.whole_means.specs.Laws.{EntriesMean, EntriesMeanInCrate, NamesOfBodies, ProgramsAgree, tree_of}
+use Rattle.whole_means.specs.Laws.{EntriesMean, EntriesMeanInCrate, NamesOfBodies, OutersMean, ProgramsAgree, tree_of}
 use Rattle.whole_means.proofs.Differ.{locals_differ}
 use Rattle.whole_means.proofs.Entries.{kept_there, params_differ, temporaries_there, zeros_there}
 use Rattle.whole_means.proofs.Lists.{contains_among}
+use Rattle.lift_does.specs.Outers.{OuterItem}
+use Rattle.whole_bodies.specs.Names.{names_in}
+use Rattle.whole_means.proofs.Outers.{outer_item}
 use Rattle.whole_means.proofs.Outside.{statics_kept}
 use Rattle.whole_means.specs.FunctionNames.{kept_names}
 use Rattle.whole_means.specs.Settings.{setting_with}
@@ -48,3 +51,8 @@ entries_mean whole shape statics fun is among few =
       zeros = zeros_there whole fun dispatch text;
       apart = names_apart whole is no_bodies fun few;
     }
+
+pub outers_mean : OutersMean
+outers_mean whole shape statics unit own number one args is low found undefined ordered declares takes itself =
+    subst (λ (modules : List ModuleTree). OuterItem (setting_with whole modules statics) (names_in whole unit own) number args) (sym (modules_are whole shape))
+    (outer_item whole is (written_bodies whole shape) unit low own statics number one found undefined ordered declares args takes itself)

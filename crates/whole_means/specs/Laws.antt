@@ -1,24 +1,29 @@
 -- Laws of what the names of a written crate mean (ISO C99, 6.2.1 and 6.2.5; the Rust Reference, "Paths" and "Type layout").
-use Rattle.std.specs.Prelude.{◌≡◌, ◌⊎◌, ℕ, List, ◌++◌, length, Some}
+use Rattle.std.specs.Prelude.{◌≡◌, ◌⊎◌, ℕ, ◌<◌, true, false, List, ◌++◌, length, Some, None}
 use Rattle.std.specs.List.{Contains}
-use Rattle.cx_core.specs.Trees.{CFun}
-use Rattle.cx_core.specs.Typing.{CHome}
+use Rattle.cr_world.specs.Known.{known_named}
+use Rattle.cx_core.specs.Trees.{CExprs, CFun, COuter, form_of_type}
+use Rattle.cx_core.specs.Trees as core
+use Rattle.cx_core.specs.Typing.{CHome, function_with, outer_with}
 use Rattle.cx_mean.specs.Operands.{Frame as CFrame}
 use Rattle.lift_calls.specs.Frames.{FunctionNames, KeptTemporary, NamesApart}
 use Rattle.lift_calls.specs.Programs.{ProgramAgrees}
 use Rattle.lift_calls_entry.specs.Entry.{AllDiffer, IsLocalKept, IsStaticKept, NamesDiffer, all_locals}
 use Rattle.lift_does.specs.Agree.{AreKeptFrom, NamesMean}
+use Rattle.lift_does.specs.Outers.{OuterItem, TakesAll, is_variadic}
+use Rattle.lift_exprs.specs.Names.{params_of}
 use Rattle.lift_forms.specs.Places.{Kept}
 use Rattle.rs_text.specs.Tree.{Ty, Static, FunctionTree}
 use Rattle.rs_tree.specs.declared.ty.RPath.{RPath}
 use Rattle.whole_bodies.specs.Bodies.{ShapeOf, written_body}
 use Rattle.whole_bodies.specs.Names.{held_in_body, locals_of, names_in}
-use Rattle.whole_items.specs.Items.{function_tree}
+use Rattle.whole_items.specs.Items.{function_tree, is_declared}
 use Rattle.whole_means.specs.Beginning.{StandUnitByUnit, first_images, first_statics}
 use Rattle.whole_means.specs.FunctionNames.{HasFewNames, kept_names}
 use Rattle.whole_means.specs.Settings.{modules_of, setting_of}
 use Rattle.whole_means.specs.Written.{IsNamed}
-use Rattle.whole_names.specs.Kept.{LocalNames, NamedProgram, types_of}
+use Rattle.whole_names.specs.Keys.{order_of}
+use Rattle.whole_names.specs.Kept.{LocalNames, NamedProgram, code_type, types_of}
 
 -- the names of a module mean what they say, where those that a function keeps of objects are these
 abbrev pub NamesMeanInCrate : Type 0
@@ -64,3 +69,13 @@ pub record EntriesMean (whole : NamedProgram) (shape : ShapeOf) (statics : CFram
 abbrev pub EntriesMeanInCrate : Type 0
 EntriesMeanInCrate = (whole : NamedProgram) (shape : ShapeOf) (statics : CFrame) (fun : CFun) → IsNamed whole → Contains whole.program.functions fun → HasFewNames whole fun →
     EntriesMean whole shape statics fun
+
+-- ---- external functions
+
+-- a unit that calls an external function declares it, with its own symbol and type; `malloc` in a program with a bit-field member aside
+abbrev pub OutersMean : Type 0
+OutersMean =
+    (whole : NamedProgram) (shape : ShapeOf) (statics : CFrame) (unit : ℕ) (own : LocalNames) (number : ℕ) (one : COuter) (args : CExprs) → IsNamed whole → unit < length whole.module_names →
+    outer_with number whole.program.externals ≡ Some one → function_with number whole.program.functions ≡ None → Contains (order_of whole.program unit).things (core.a_function number) →
+    is_declared whole unit one ≡ true → TakesAll (params_of (code_type whole one.type)) (is_variadic (form_of_type one.type)) args →
+    ((names_in whole unit own).has_bits ≡ false) ⊎ (known_named one.name ≡ None) → OuterItem (setting_of whole shape statics) (names_in whole unit own) number args

@@ -1,4 +1,4 @@
-ghost use Rattle.whole_means.specs.Laws.{EntriesMeanInCrate, NamesMeanInCrate, NamesOfBodies, ProgramsAgree};
+ghost use Rattle.whole_means.specs.Laws.{EntriesMeanInCrate, NamesMeanInCrate, NamesOfBodies, OutersMean, ProgramsAgree};
 
 /// Law: the names of a module of the written crate mean what they say.
 pub fn names_mean()
@@ -18,4 +18,9 @@ pub fn programs_agree()
 /// Law: the parameters and locals of a function are what its names say.
 pub fn entries_mean()
     ensures { EntriesMeanInCrate }
+{}
+
+/// Law: a unit that calls an external function declares it, with its own symbol and type.
+pub fn outers_mean()
+    ensures { OutersMean }
 {}

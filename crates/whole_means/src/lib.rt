@@ -4,4 +4,4 @@
 
 mod laws;
 
-pub use laws::{entries_mean, names_mean, names_of_bodies, programs_agree};
+pub use laws::{entries_mean, names_mean, names_of_bodies, outers_mean, programs_agree};
