@@ -1,6 +1,6 @@
 -- The names of a function's parameters and locals differ, that of the local that says where it goes on too.
-use Rattle.std.proofs.Common.{arith, ◌≡◌, ◌<◌, ◌≤◌, ◌^◌, ℕ, zero, suc, ◌+◌, ◌==◌, Bool, true, false, not, cond, ◌&&◌, ◌||◌, if◌then◌else◌, List, [], ◌∷◌, ◌++◌, map, length, codes, Option, Some, None, slice_get, is_some, IsSome, refl, sym, ap, subst, ◌∙◌, ◌⊎◌, inl, inr, append_assoc, append-nil, length-append}
-use Rattle.std.specs.List.{Contains, flat_map}
+use Rattle.std.proofs.Common.{arith, ◌≡◌, ◌<◌, ◌^◌, ℕ, zero, suc, ◌+◌, Bool, true, false, cond, ◌||◌, if◌then◌else◌, List, [], ◌∷◌, ◌++◌, map, length, codes, Option, Some, None, slice_get, refl, sym, ap, subst, ◌∙◌, ◌⊎◌, inl, inr, append_assoc, append-nil, length-append}
+use Rattle.std.specs.List.{flat_map}
 use Rattle.std.specs.Str.{bytes_eq}
 use Rattle.cx_core.specs.Trees.{CFun, CTy, form_of_type}
 use Rattle.lift_calls_entry.specs.Entry.{NamesDiffer, all_locals}
@@ -9,20 +9,19 @@ use Rattle.rs_items_sets.specs.Names.{candidate, first_free, free, is_entry_in, 
 use Rattle.rs_items_sets.specs.Names as sets
 use Rattle.rs_items_sets.specs.declared.scope.NameScope.TheVariants.{Function}
 use Rattle.rs_text.specs.Names.{is_among, keywords, path_words}
-use Rattle.rs_text.specs.Tree.{Ty, Integer, LocalTree, FunctionTree, Stmts}
+use Rattle.rs_text.specs.Tree.{Ty, Integer, LocalTree, Stmts}
 use Rattle.rs_text.specs.declared.integer.IntegerTy.TheVariants.{U32}
 use Rattle.rs_text.specs.Valid.{all_differ}
 use Rattle.whole_bodies.specs.Names.{own_names, temporaries_of}
-use Rattle.whole_items.specs.Items.{WrittenBodies, dispatch_local, function_tree, is_plain_param, local_of, named, names_of_body, object_local, param_of, result_of_form, result_param, temporary_named}
+use Rattle.whole_items.specs.Items.{WrittenBodies, dispatch_local, is_plain_param, local_of, named, object_local, param_of, result_of_form, result_param, temporary_named}
 use Rattle.whole_means.proofs.Entries.{body_with, own_same, tree_with}
 use Rattle.whole_means.proofs.Keys.{differ_first, differ_rest}
-use Rattle.whole_means.proofs.Lists.{Among, among_cases, among_contains, among_left, among_right, contains_among, texts_equal, texts_same}
+use Rattle.whole_means.proofs.Lists.{Among, among_cases, among_contains, among_left, among_right, contains_among, texts_equal}
 use Rattle.whole_means.proofs.Locals.{own_differ}
 use Rattle.whole_means.specs.FunctionNames.{HasFewNames}
 use Rattle.whole_means.specs.Written.{IsNamed}
 use Rattle.whole_names.specs.FunctionNames.{LocalKey, a_result, a_passed, a_local, a_temporary, LocalName, WantedLocal, locals_from, wanted_in}
 use Rattle.whole_names.specs.Kept.{NamedProgram}
-use Rattle.whole_names.specs.Laws.{wanted_of_function}
 use Rattle.whole_names.specs.ModuleNames.{taken_names}
 
 -- ---- no name is `current_block`
@@ -37,16 +36,18 @@ first_is taken candidates from (suc count) = by_candidate (candidates from) refl
         (first_free taken candidates from (suc count) ≡ []) ⊎ ((k : ℕ) × (k < from + suc count) × (candidates k ≡ Some (first_free taken candidates from (suc count))))
     later same (inl none) = inl (same ∙ none)
     later same (inr (k, low, is)) = inr (k, omega (arith, low), is ∙ ap Some (sym same))
+
     by_test : (x : List ℕ) (t : Bool) → candidates from ≡ Some x → is_among taken x ≡ t →
         (first_free taken candidates (suc from) count ≡ []) ⊎ ((k : ℕ) × (k < suc from + count) × (candidates k ≡ Some (first_free taken candidates (suc from) count))) →
         (first_free taken candidates from (suc count) ≡ []) ⊎ ((k : ℕ) × (k < from + suc count) × (candidates k ≡ Some (first_free taken candidates from (suc count))))
     by_test x true e f more =
         later (ap (λ c. sets.name_or (free taken c) (first_free taken candidates (suc from) count)) e
-            ∙ ap (λ t. sets.name_or (unless t x) (first_free taken candidates (suc from) count)) f) more
+        ∙ ap (λ t. sets.name_or (unless t x) (first_free taken candidates (suc from) count)) f) more
     by_test x false e f more =
         let same : first_free taken candidates from (suc count) ≡ x =
-            ap (λ c. sets.name_or (free taken c) (first_free taken candidates (suc from) count)) e ∙ ap (λ t. sets.name_or (unless t x) (first_free taken candidates (suc from) count)) f in
+        ap (λ c. sets.name_or (free taken c) (first_free taken candidates (suc from) count)) e ∙ ap (λ t. sets.name_or (unless t x) (first_free taken candidates (suc from) count)) f in
         inr (from, omega arith, e ∙ ap Some (sym same))
+
     by_candidate : (c : Option (List ℕ)) → candidates from ≡ c →
         (first_free taken candidates (suc from) count ≡ []) ⊎ ((k : ℕ) × (k < suc from + count) × (candidates k ≡ Some (first_free taken candidates (suc from) count))) →
         (first_free taken candidates from (suc count) ≡ []) ⊎ ((k : ℕ) × (k < from + suc count) × (candidates k ≡ Some (first_free taken candidates from (suc count))))
@@ -71,6 +72,7 @@ itself_no_block name one is = by_excluded (is_excluded Function name) refl
         let known = neither (is_among path_words name || is_among reserved name) (is_main_in Function name) candid in
         let path = neither (is_among path_words name) (is_among reserved name) known.0 in
         subst (λ n. bytes_eq (codes "current_block") n ≡ false) its (block_reserved name path.1)
+
     by_excluded : (r : Bool) → is_excluded Function name ≡ r → bytes_eq (codes "current_block") one ≡ false
     by_excluded true e = let none : None ≡ Some one = sym (ap (λ r. unless r (raw_or_same name)) e) ∙ is in cc
     by_excluded false e = by_keyword e (let some : Some (raw_or_same name) ≡ Some one = sym (ap (λ r. unless r (raw_or_same name)) e) ∙ is in cc) (is_among keywords name) refl
@@ -91,6 +93,7 @@ no_block taken name few = by_first (first_is taken (candidate Function name) 0 (
     by_number : (k : ℕ) → k < 0 + (length taken + 3) → candidate Function name k ≡ Some (rust_name taken Function name) → bytes_eq (codes "current_block") (rust_name taken Function name) ≡ false
     by_number zero low is = itself_no_block name (rust_name taken Function name) is
     by_number (suc k) low is = suffixed_no_block name (rust_name taken Function name) k (omega (arith, low, few)) is
+
     by_first : (rust_name taken Function name ≡ []) ⊎ ((k : ℕ) × (k < 0 + (length taken + 3)) × (candidate Function name k ≡ Some (rust_name taken Function name))) →
         bytes_eq (codes "current_block") (rust_name taken Function name) ≡ false
     by_first (inl none) = ap (bytes_eq (codes "current_block")) none
@@ -110,9 +113,10 @@ no_blocks taken (first ∷ wanted) one few (inr there) =
 -- one more in the middle
 insert_differs : (xs ys : List LocalTree) (x : LocalTree) → NamesDiffer (xs ++ ys) → ((other : LocalTree) → Among (xs ++ ys) other → bytes_eq x.name other.name ≡ false) → NamesDiffer (xs ++ x ∷ ys)
 insert_differs [] ys x differ apart = ((λ other there. apart other (contains_among ys other there)), differ)
-insert_differs (z ∷ xs) ys x differ apart =
-    ((λ other there. by_place other (among_cases xs (x ∷ ys) other (contains_among (xs ++ x ∷ ys) other there))),
-        insert_differs xs ys x differ.1 (λ other there. apart other (inr there)))
+insert_differs (z ∷ xs) ys x differ apart = (
+  (λ other there. by_place other (among_cases xs (x ∷ ys) other (contains_among (xs ++ x ∷ ys) other there))),
+  insert_differs xs ys x differ.1 (λ other there. apart other (inr there)),
+)
   where
     by_place : (other : LocalTree) → Among xs other ⊎ Among (x ∷ ys) other → bytes_eq z.name other.name ≡ false
     by_place other (inl before) = differ.0 other (among_contains (xs ++ ys) other (among_left xs ys other before))
@@ -182,6 +186,7 @@ module _ (p l : LocalName → List LocalTree) where
       where
         apart : (t : LocalTree) → t.name ≡ n.name → (other : LocalTree) → Among (flat_map p names ++ flat_map l names) other → bytes_eq t.name other.name ≡ false
         apart t named other there = ap (λ (x : List ℕ). bytes_eq x other.name) named ∙ no_other n.name names other differ there (bytes_eq n.name other.name) refl
+
         by_piece : Piece n → NamesDiffer (flat_map p names ++ flat_map l names) → NamesDiffer ((p n ++ flat_map p names) ++ (l n ++ flat_map l names))
         by_piece (nothing a b) rest =
             subst (λ (ts : List LocalTree). NamesDiffer ((ts ++ flat_map p names) ++ (l n ++ flat_map l names))) (sym a)
@@ -189,11 +194,11 @@ module _ (p l : LocalName → List LocalTree) where
         by_piece (as_param t named a b) rest =
             subst (λ (ts : List LocalTree). NamesDiffer ((ts ++ flat_map p names) ++ (l n ++ flat_map l names))) (sym a)
             (subst (λ (ts : List LocalTree). NamesDiffer ((t ∷ flat_map p names) ++ (ts ++ flat_map l names))) (sym b)
-                ((λ other there. apart t named other (contains_among (flat_map p names ++ flat_map l names) other there)), rest))
+            ((λ other there. apart t named other (contains_among (flat_map p names ++ flat_map l names) other there)), rest))
         by_piece (as_local t named a b) rest =
             subst (λ (ts : List LocalTree). NamesDiffer ((ts ++ flat_map p names) ++ (l n ++ flat_map l names))) (sym a)
             (subst (λ (ts : List LocalTree). NamesDiffer (flat_map p names ++ (ts ++ flat_map l names))) (sym b)
-                (insert_differs (flat_map p names) (flat_map l names) t rest (apart t named)))
+            (insert_differs (flat_map p names) (flat_map l names) t rest (apart t named)))
 
 -- ---- those of a function
 

@@ -1,6 +1,6 @@
 -- What a function keeps is among its parameters and locals, or a static object.
-use Rattle.std.proofs.Common.{arith, ◌≡◌, ◌≢◌, ◌<◌, ◌≤◌, ℕ, zero, suc, ◌+◌, ◌==◌, Bool, true, false, not, ◌&&◌, ◌||◌, if◌then◌else◌, List, [], ◌∷◌, ◌++◌, map, length, Option, Some, None, slice_get, is_some, IsSome, option_map, refl, sym, ap, subst, ◌∙◌, ◌⊎◌, inl, inr, eqb, append_assoc}
-use Rattle.std.proofs.lemmas.Map.Keys.{IsDistinct-head, IsDistinct-tail}
+use Rattle.std.proofs.Common.{arith, ◌≡◌, ℕ, zero, suc, ◌+◌, ◌==◌, Bool, true, false, ◌||◌, if◌then◌else◌, List, [], ◌∷◌, ◌++◌, map, length, Option, Some, None, slice_get, is_some, refl, sym, ap, subst, ◌∙◌, ◌⊎◌, inl, inr, eqb, append_assoc}
+use Rattle.std.proofs.lemmas.Map.Keys.{IsDistinct-tail}
 use Rattle.std.specs.List.{Contains, IsDistinct, flat_map, list_any}
 use Rattle.cx_core.specs.Linked.{block_objects}
 use Rattle.cx_core.specs.Statements.{objects_in}
@@ -13,7 +13,7 @@ use Rattle.lift_calls_entry.specs.Entry.{AllDiffer, IsLocalKept, IsStaticKept, a
 use Rattle.lift_exprs.specs.Names.{type_in}
 use Rattle.lift_forms.specs.Places.{Kept}
 use Rattle.rs_items.specs.Types.{rust_type}
-use Rattle.rs_text.specs.Tree.{Ty, Local, Static, LocalTree, FunctionTree, ModuleTree, Stmts}
+use Rattle.rs_text.specs.Tree.{Ty, Local, LocalTree, FunctionTree, ModuleTree, Stmts}
 use Rattle.whole_bodies.specs.Names.{held_in_body, index_in, kept_object, module_names_in, object_type, own_names, temporaries_of, zeroed_objects}
 use Rattle.whole_items.specs.Items.{WrittenBodies, WrittenBody, count_of, dispatch_local, function_tree, is_plain_param, local_of, module_tree, names_of_body, object_local, param_of, temporary_named, type_of_object}
 use Rattle.whole_means.proofs.Keys.{distinct_first, distinct_later, number_same, number_self}
@@ -23,9 +23,9 @@ use Rattle.whole_means.proofs.Numbers.{static_found}
 use Rattle.whole_means.proofs.Locals.{local_same}
 use Rattle.whole_means.proofs.Things.{object_there}
 use Rattle.whole_means.specs.FunctionNames.{kept_by, kept_found, kept_names, kept_temporary, kept_zero, zero_number}
-use Rattle.whole_means.specs.Settings.{object_path, setting_with}
+use Rattle.whole_means.specs.Settings.{setting_with}
 use Rattle.whole_means.specs.Written.{IsNamed}
-use Rattle.whole_names.specs.FunctionNames.{LocalKey, a_result, a_passed, a_local, a_temporary, LocalName, local_names}
+use Rattle.whole_names.specs.FunctionNames.{LocalKey, a_local, a_temporary, LocalName, local_names}
 use Rattle.whole_names.specs.Keys.{an_object}
 use Rattle.whole_names.specs.Kept.{NamedProgram, local_among, module_of, name_in, object_item, same_local, types_of}
 
@@ -83,11 +83,12 @@ index_at f (one ∷ numbers) number there = by_test (one == number) refl (index_
 
 distinct_part : (xs ys : List ℕ) → IsDistinct eqb (xs ++ ys) → AllDiffer xs
 distinct_part [] ys distinct = tt
-distinct_part (x ∷ xs) ys distinct =
-    ((λ other there same.
-        let apart : eqb x other ≡ false = distinct_first eqb x (xs ++ ys) other distinct (among_left xs ys other (contains_among xs other there)) in
-        let h : false ≡ true = sym apart ∙ ap (λ n. eqb n other) same ∙ number_self other in cc),
-        distinct_part xs ys (IsDistinct-tail eqb x (xs ++ ys) distinct))
+distinct_part (x ∷ xs) ys distinct = (
+  (λ other there same.
+      let apart : eqb x other ≡ false = distinct_first eqb x (xs ++ ys) other distinct (among_left xs ys other (contains_among xs other there)) in
+      let h : false ≡ true = sym apart ∙ ap (λ n. eqb n other) same ∙ number_self other in cc),
+  distinct_part xs ys (IsDistinct-tail eqb x (xs ++ ys) distinct),
+)
 
 -- ---- a function with its temporaries
 
@@ -111,7 +112,7 @@ module _ (whole : NamedProgram) (fun : CFun) (has_dispatch : Bool) (statements :
   local_there key x local found made =
       among_left (flat_map (local_of whole fun body_with) (names_of_body whole fun body_with)) (dispatch_local has_dispatch) local
       (subst (λ (names : List LocalName). Among (flat_map (local_of whole fun body_with) names) local) own_same
-          (among_flat_in (local_of whole fun body_with) own (record { key = key; name = x }) local (entry_of own key x found).among made))
+      (among_flat_in (local_of whole fun body_with) own (record { key = key; name = x }) local (entry_of own key x found).among made))
 
   param_there : (key : LocalKey) (x : List ℕ) (local : LocalTree) → local_among key own ≡ Some x → Among (param_of whole fun (record { key = key; name = x })) local → Among tree_with.params local
   param_there key x local found made =
@@ -123,7 +124,7 @@ module _ (whole : NamedProgram) (fun : CFun) (has_dispatch : Bool) (statements :
   temporary_there number x type found at =
       among_contains tree_with.locals (record { name = x; ty = type })
       (local_there (a_temporary number) x (record { name = x; ty = type }) found
-          (subst (λ (locals : List LocalTree). Among locals (record { name = x; ty = type })) (sym (ap (temporary_named x) at)) (inl refl)))
+      (subst (λ (locals : List LocalTree). Among locals (record { name = x; ty = type })) (sym (ap (temporary_named x) at)) (inl refl)))
 
   -- the temporaries of held operands are locals
   pub temporaries_there : (number : ℕ) (it : KeptTemporary) → (kept_names whole fun).temporaries number ≡ Some it → Contains tree_with.locals (record { name = it.name; ty = it.ty })
@@ -152,8 +153,9 @@ module _ (whole : NamedProgram) (fun : CFun) (has_dispatch : Bool) (statements :
           let same : record { name = x; ty = type } ≡ it = cc (some) in
           subst (λ (t : KeptTemporary). Contains tree_with.locals (record { name = t.name; ty = t.ty })) same
           (temporary_there (zero_number whole fun number) x type e
-              (get_behind (held_in_body whole fun) (map (λ n. type_in (module_names_in whole fun.unit) (object_type whole n)) (zeroed_objects whole fun)) (index_in number (zeroed_objects whole fun))
-                  ∙ index_at (λ n. type_in (module_names_in whole fun.unit) (object_type whole n)) (zeroed_objects whole fun) number f))
+          (get_behind (held_in_body whole fun) (map (λ n. type_in (module_names_in whole fun.unit) (object_type whole n)) (zeroed_objects whole fun)) (index_in number (zeroed_objects whole fun))
+          ∙ index_at (λ n. type_in (module_names_in whole fun.unit) (object_type whole n)) (zeroed_objects whole fun) number f))
+
       by_name : (name : Option (List ℕ)) → local_among (a_temporary (zero_number whole fun number)) own ≡ name → kept_zero whole fun number name ≡ Some it →
           Contains tree_with.locals (record { name = it.name; ty = it.ty })
       by_name None e is = absurd cc
@@ -173,21 +175,23 @@ module _ (whole : NamedProgram) (fun : CFun) (has_dispatch : Bool) (statements :
       where
         local : LocalTree
         local = record { name = x; ty = type_of_object whole (object_with o.object program.objects) }
+
         type_is : type_of_object whole (object_with o.object program.objects) ≡ rust_type (types_of whole) o.type
         type_is = ap (type_of_object whole) (object_there whole is o there)
+
         by_test : (t : Bool) → is_plain_param whole fun o.object ≡ t → Among (tree_with.params ++ tree_with.locals) (record { name = x; ty = rust_type (types_of whole) o.type })
         by_test true e =
             subst (λ (ty : Ty). Among (tree_with.params ++ tree_with.locals) (record { name = x; ty = ty })) type_is
             (among_left tree_with.params tree_with.locals (record { name = x; ty = type_of_object whole (object_with o.object program.objects) })
-                (param_there (a_local o.object) x (record { name = x; ty = type_of_object whole (object_with o.object program.objects) }) found
-                    (subst (λ (locals : List LocalTree). Among locals (record { name = x; ty = type_of_object whole (object_with o.object program.objects) }))
-                        (sym (ap (λ t. if t then object_local whole x o.object else []) e)) (inl refl))))
+            (param_there (a_local o.object) x (record { name = x; ty = type_of_object whole (object_with o.object program.objects) }) found
+            (subst (λ (locals : List LocalTree). Among locals (record { name = x; ty = type_of_object whole (object_with o.object program.objects) }))
+            (sym (ap (λ t. if t then object_local whole x o.object else []) e)) (inl refl))))
         by_test false e =
             subst (λ (ty : Ty). Among (tree_with.params ++ tree_with.locals) (record { name = x; ty = ty })) type_is
             (among_right tree_with.params tree_with.locals (record { name = x; ty = type_of_object whole (object_with o.object program.objects) })
-                (local_there (a_local o.object) x (record { name = x; ty = type_of_object whole (object_with o.object program.objects) }) found
-                    (subst (λ (locals : List LocalTree). Among locals (record { name = x; ty = type_of_object whole (object_with o.object program.objects) }))
-                        (sym (ap (λ t. if t then [] else object_local whole x o.object) e)) (inl refl))))
+            (local_there (a_local o.object) x (record { name = x; ty = type_of_object whole (object_with o.object program.objects) }) found
+            (subst (λ (locals : List LocalTree). Among locals (record { name = x; ty = type_of_object whole (object_with o.object program.objects) }))
+            (sym (ap (λ t. if t then [] else object_local whole x o.object) e)) (inl refl))))
 
     static_kept : (o : CObject) (puts : CPuts) → Among program.objects o → o.puts ≡ Some puts → IsStaticKept s (kept_object (object_item whole o))
     static_kept o puts there found =
@@ -211,6 +215,7 @@ module _ (whole : NamedProgram) (fun : CFun) (has_dispatch : Bool) (statements :
             let some : Some (kept_object (object_item whole o)) ≡ Some it = is_it in
             let same : kept_object (object_item whole o) ≡ it = cc (some) in
             inl (subst (λ (k : Kept). IsStaticKept s k) same (static_kept o puts there e))
+
         by_name : (o : CObject) → Among program.objects o → (name : Option (List ℕ)) → local_among (a_local o.object) own ≡ name → kept_by whole o name ≡ Some it → IsStaticKept s it ⊎ IsLocalKept tree_with it
         by_name o there None e is_it = by_puts o there o.puts refl is_it
         by_name o there (Some x) e is_it =
@@ -221,6 +226,7 @@ module _ (whole : NamedProgram) (fun : CFun) (has_dispatch : Bool) (statements :
               among = among_contains (all_locals tree_with) (record { name = x; ty = rust_type (types_of whole) o.type }) (object_local_there o x there e);
               kept_is = sym same;
             })
+
         by_object : (object : Option CObject) → object_with number program.objects ≡ object → kept_found whole fun object ≡ Some it → IsStaticKept s it ⊎ IsLocalKept tree_with it
         by_object None e is_it = absurd cc
         by_object (Some o) e is_it = by_name o (find_there (λ (one : CObject). one.object == number) program.objects o e).0 (local_among (a_local o.object) own) refl is_it

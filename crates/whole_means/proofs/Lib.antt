@@ -3,6 +3,7 @@ pub mod Callees
 pub mod Differ
 pub mod Entries
 pub mod Fields
+pub mod HeldTypes
 pub mod Items
 pub mod Keys
 pub mod Laid

@@ -1,10 +1,10 @@
 -- External functions that a unit calls are declared in its module, with their types and symbols (the Rust Reference, "External blocks").
-use Rattle.std.proofs.Common.{arith, ◌≡◌, ◌<◌, ℕ, zero, suc, ◌+◌, ◌==◌, Bool, true, false, not, ◌&&◌, if◌then◌else◌, List, [], ◌∷◌, ◌++◌, map, filter, length, codes, Option, Some, None, is_some, IsSome, option_map, find, refl, sym, ap, subst, ◌∙◌, ◌⊎◌, inl, inr}
+use Rattle.std.proofs.Common.{◌≡◌, ◌<◌, ℕ, ◌==◌, Bool, true, false, ◌&&◌, if◌then◌else◌, List, [], filter, length, codes, Option, Some, None, is_some, IsSome, option_map, refl, sym, ap, subst, ◌∙◌, ◌⊎◌, inl, inr}
 use Rattle.std.proofs.lemmas.List.Elements.{All-contains}
 use Rattle.std.specs.List.{Contains}
 use Rattle.std.specs.Str.{bytes_eq}
 use Rattle.cx_core.specs.Conversions.{IsIntegerType}
-use Rattle.cx_core.specs.Externals.{CKnown, CSignature, HasSignature, IsExternalType, IsOpaque, known_as, known_functions}
+use Rattle.cx_core.specs.Externals.{CKnown, HasSignature, IsExternalType, IsOpaque, known_as, known_functions}
 use Rattle.cx_core.specs.Linked.{IsTypedOuter}
 use Rattle.cr_world.specs.Known.{known_named, known_table}
 use Rattle.cx_core.specs.BitFields.{has_bit_fields}
@@ -15,13 +15,12 @@ use Rattle.cx_mean.specs.Operands.{Frame as CFrame}
 use Rattle.lift_calls.specs.Programs.{Setting}
 use Rattle.lift_does.specs.Agree.{OuterMeans}
 use Rattle.lift_does.specs.Outers.{OuterItem, TakesAll, is_variadic}
-use Rattle.lift_exprs.specs.Names.{KeptFunction, Names, params_of, type_in}
+use Rattle.lift_exprs.specs.Names.{Names, params_of}
 use Rattle.rs_items.specs.Types.{rust_params, rust_type}
 use Rattle.rs_items.specs.Types as types
-use Rattle.rs_mean.specs.Lookups.{callee_among, callee_at, outer, symbol_of, symbol_or}
+use Rattle.rs_mean.specs.Lookups.{callee_among, callee_at, outer, symbol_or}
 use Rattle.rs_text.specs.Names.{bare_name}
-use Rattle.rs_text.specs.Tree.{Ty, Code, Tys, no_tys, more_tys, ModuleTree, OptionTy, no_ty, some_ty, OuterTree, tys, option_ty}
-use Rattle.rs_text.specs.Valid.{is_void}
+use Rattle.rs_text.specs.Tree.{Code, Tys, no_tys, more_tys, ModuleTree, OptionTy, OuterTree, tys, option_ty}
 use Rattle.whole_bodies.specs.Names.{kept_function, names_in}
 use Rattle.whole_items.specs.Items.{WrittenBodies, is_declared, link_name_of, module_tree, outer_if, outer_of, outer_of_form, outers_of, outers_of_key, tys_in, value_type}
 use Rattle.whole_means.proofs.Callees.{outer_among}
@@ -33,7 +32,7 @@ use Rattle.whole_means.proofs.Params.{same_record, same_void}
 use Rattle.whole_means.specs.Settings.{setting_with}
 use Rattle.whole_means.specs.Written.{IsNamed}
 use Rattle.whole_names.specs.FunctionNames.{is_record}
-use Rattle.whole_names.specs.Keys.{NameKey, a_function, is_defined_in, is_named_in, is_outer_named, key_of, module_keys, order_of, things_of}
+use Rattle.whole_names.specs.Keys.{a_function, is_defined_in, is_named_in, is_outer_named, key_of, module_keys, order_of}
 use Rattle.whole_names.specs.Kept.{LocalNames, NamedProgram, calloc_item, code_type, function_thing, is_replaced, module_of, name_in, outer_item as outer_item_of, outer_thing, types_of}
 
 -- ---- results of external functions
@@ -144,22 +143,22 @@ module _ (whole : NamedProgram) (is : IsNamed whole) (bodies : WrittenBodies) (u
     pub key_there : Among (module_keys program unit) (a_function number)
     key_there =
         let named : is_named_in program unit (core.a_function number) ≡ true =
-            ap (λ f. is_defined_in unit f (outer_with number program.externals)) undefined ∙ ap is_some found in
+        ap (λ f. is_defined_in unit f (outer_with number program.externals)) undefined ∙ ap is_some found in
         thing_key whole unit (a_function number)
         (among_map_in key_of (filter (is_named_in program unit) (order_of program unit).things) (core.a_function number)
-            (among_filter_in (is_named_in program unit) (order_of program unit).things (core.a_function number) (contains_among (order_of program unit).things (core.a_function number) ordered) named))
+        (among_filter_in (is_named_in program unit) (order_of program unit).things (core.a_function number) (contains_among (order_of program unit).things (core.a_function number) ordered) named))
 
     -- what the module declares
     pub outer_there : (tree : OuterTree) → Among (outer_of_form whole one.name (name_in whole unit (a_function number)) (form_of_type one.type)) tree → Among (outers_of whole unit) tree
     outer_there tree made =
         among_flat_in (outers_of_key whole unit) (module_keys program unit) (a_function number) tree key_there
         (subst (λ (outers : List OuterTree). Among outers tree)
-            (sym (ap (outer_if whole unit (a_function number)) found ∙ ap (λ t. if t then outer_of whole unit (a_function number) (Some one) else []) declares)) made)
+        (sym (ap (outer_if whole unit (a_function number)) found ∙ ap (λ t. if t then outer_of whole unit (a_function number) (Some one) else []) declares)) made)
 
     plain : IsPlainFunction (form_of_type one.type)
     plain = external_plain program.types one.name (form_of_type one.type)
         ((All-contains (IsTypedOuter program.types) program.externals one is.linked.externals
-            (among_contains program.externals one (find_there (λ (o : COuter). o.function == number) program.externals one found).0)).external)
+        (among_contains program.externals one (find_there (λ (o : COuter). o.function == number) program.externals one found).0)).external)
 
     abbrev tree : OuterTree
     tree = record {
@@ -181,14 +180,14 @@ module _ (whole : NamedProgram) (is : IsNamed whole) (bodies : WrittenBodies) (u
     pub kept_is : is_replaced whole one ≡ false → names.functions number ≡ Some (kept_function (outer_item_of whole unit one))
     kept_is itself =
         ap (option_map kept_function) (ap (λ f. function_thing whole unit f (outer_with number program.externals)) undefined ∙ ap (outer_thing whole unit) found
-            ∙ ap (λ t. Some (if t then calloc_item whole unit one else outer_item_of whole unit one)) itself)
+        ∙ ap (λ t. Some (if t then calloc_item whole unit one else outer_item_of whole unit one)) itself)
 
     tree_found : callee_at modules (module_of whole unit) (name_in whole unit (a_function one.function)) ≡ Some (outer tree)
     tree_found =
         let made : Among (outers_of whole unit) tree =
-            outer_there tree (subst (λ (f : CTyForm). Among (outer_of_form whole one.name (name_in whole unit (a_function number)) f) tree) (sym plain.form_is) (inl refl)) in
+        outer_there tree (subst (λ (f : CTyForm). Among (outer_of_form whole one.name (name_in whole unit (a_function number)) f) tree) (sym plain.form_is) (inl refl)) in
         ap (λ n. callee_at modules (module_of whole unit) (name_in whole unit (a_function n)))
-            (number_same one.function number (find_there (λ (o : COuter). o.function == number) program.externals one found).1)
+        (number_same one.function number (find_there (λ (o : COuter). o.function == number) program.externals one found).1)
         ∙ ap (callee_among (name_in whole unit (a_function number))) (items_found whole is bodies unit low) ∙ outer_among whole is bodies unit tree made
 
     -- an external function that isn't replaced has its own item
@@ -211,6 +210,7 @@ module _ (whole : NamedProgram) (is : IsNamed whole) (bodies : WrittenBodies) (u
         both_false : (t : Bool) → (t && false) ≡ false
         both_false true = refl
         both_false false = refl
+
         by_name : (t : Bool) → is_outer_named (codes "malloc") one ≡ t → is_replaced whole one ≡ false
         by_name true e = absurd (let h : known_named (codes "malloc") ≡ None = ap known_named (sym (texts_equal one.name (codes "malloc") e)) ∙ unknown in malloc_known h)
         by_name false e = ap (λ t. has_bit_fields program.types && t) e ∙ both_false (has_bit_fields program.types)

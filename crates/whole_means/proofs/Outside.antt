@@ -1,10 +1,10 @@
 -- A static object is none of a function's parameters and locals.
-use Rattle.std.proofs.Common.{arith, ◌≡◌, ◌<◌, ℕ, zero, suc, ◌+◌, ◌==◌, Bool, true, false, not, ◌&&◌, if◌then◌else◌, List, [], ◌∷◌, ◌++◌, map, filter, length, codes, Option, Some, None, is_some, is_none, IsSome, IfSome, refl, sym, ap, subst, ◌∙◌, ◌⊎◌, inl, inr}
+use Rattle.std.proofs.Common.{◌≡◌, ℕ, zero, suc, ◌==◌, Bool, true, false, not, ◌&&◌, if◌then◌else◌, List, [], ◌∷◌, ◌++◌, filter, length, codes, Option, Some, None, is_some, is_none, IsSome, IfSome, refl, sym, ap, subst, ◌∙◌, ◌⊎◌, inl, inr}
 use Rattle.std.proofs.lemmas.Bool.{and_parts}
 use Rattle.std.proofs.lemmas.List.Elements.{All-contains}
 use Rattle.cx_core.specs.Linked.{IsTypedFunction, home_of}
-use Rattle.cx_core.specs.Statements.{AreParams, AreParamsOf, IsDefinition, IsDefinitionOf, IsParamObject, objects_in}
-use Rattle.cx_core.specs.Trees.{CFun, CObject, CPuts, CProgram, CTy, ty, CTyForm, void, basic, enum_type, pointer, array, record_type, function, CParams, unlisted, listed, CTys, no_types, more_types, form_of_type}
+use Rattle.cx_core.specs.Statements.{AreParams, AreParamsOf, IsDefinitionOf, IsParamObject, objects_in}
+use Rattle.cx_core.specs.Trees.{CFun, CObject, CPuts, CProgram, CTy, ty, void, basic, enum_type, pointer, array, record_type, function, CParams, unlisted, listed, CTys, no_types, more_types, form_of_type}
 use Rattle.cx_core.specs.Typing.{object_with}
 use Rattle.lift_forms.specs.Places.{Kept}
 use Rattle.rs_items_sets.specs.Names.{rust_name}
@@ -13,7 +13,6 @@ use Rattle.rs_text.specs.Tree.{Static}
 use Rattle.rs_tree.specs.declared.ty.RPath.{RPath}
 use Rattle.whole_bodies.specs.Names.{kept_object, own_names, temporaries_of}
 use Rattle.whole_means.proofs.Entries.{entry_of}
-use Rattle.whole_means.proofs.Keys.{number_same}
 use Rattle.whole_means.proofs.Locals.{local_number}
 use Rattle.whole_means.proofs.Lists.{Among, among_cases, among_contains, among_filter, among_map, find_there}
 use Rattle.whole_means.proofs.Things.{object_there}
@@ -97,7 +96,7 @@ module _ (whole : NamedProgram) (is : IsNamed whole) (fun : CFun) (there : Among
       let in_list = among_filter (λ (q : CObject). is_local_of fun q && test q) whole.program.objects p from.1 in
       let local = (and_parts (is_local_of fun p) (test p) in_list.1).0 in
       let none = (and_parts (is_none p.puts) (is_among (objects_in fun.body) p.object)
-          (and_parts (is_none p.puts && is_among (objects_in fun.body) p.object) (not (is_among fun.params p.object)) local).0).0 in
+      (and_parts (is_none p.puts && is_among (objects_in fun.body) p.object) (not (is_among fun.params p.object)) local).0).0 in
       let number : p.object ≡ o.object = local_number p.object o.object (ap (λ (w : WantedLocal). w.key) from.2 ∙ key) in
       let found : Some p ≡ Some o = sym (object_there whole is p in_list.0) ∙ ap (λ n. object_with n whole.program.objects) number ∙ object_there whole is o among in
       let same : p ≡ o = cc (found) in
@@ -119,21 +118,24 @@ module _ (whole : NamedProgram) (is : IsNamed whole) (fun : CFun) (there : Among
       by_name : Among (locals_that (λ p. is_some p.name) whole.program fun) one ⊎ Among (locals_that (λ p. is_none p.name) whole.program fun) one → ⊥
       by_name (inl here) = block_object (λ p. is_some p.name) o among static one here key
       by_name (inr here) = block_object (λ p. is_none p.name) o among static one here key
+
       by_param : Among (wanted_params whole.program fun.params) one ⊎ Among (locals_that (λ p. is_some p.name) whole.program fun ++ locals_that (λ p. is_none p.name) whole.program fun) one → ⊥
       by_param (inl here) =
           not_both o static (defined_not_static whole.program fun fun.type o.object o
-              (All-contains (IsTypedFunction whole.program None) whole.program.functions fun is.linked.functions (among_contains whole.program.functions fun there)).definition
-              (param_among whole.program fun.params o.object one here key) (object_there whole is o among))
+          (All-contains (IsTypedFunction whole.program None) whole.program.functions fun is.linked.functions (among_contains whole.program.functions fun there)).definition
+          (param_among whole.program fun.params o.object one here key) (object_there whole is o among))
       by_param (inr rest) = by_name (among_cases (locals_that (λ p. is_some p.name) whole.program fun) (locals_that (λ p. is_none p.name) whole.program fun) one rest)
+
       by_result : Among (if gives_record (form_of_type fun.type) then record { key = a_result; wanted = codes "ret" } ∷ [] else []) one
           ⊎ Among (wanted_params whole.program fun.params ++ (locals_that (λ p. is_some p.name) whole.program fun ++ locals_that (λ p. is_none p.name) whole.program fun)) one → ⊥
       by_result (inl here) = in_result (gives_record (form_of_type fun.type)) o.object one here key
       by_result (inr rest) =
           by_param (among_cases (wanted_params whole.program fun.params) (locals_that (λ p. is_some p.name) whole.program fun ++ locals_that (λ p. is_none p.name) whole.program fun) one rest)
+
       by_temporary : Among (wanted_locals whole.program fun) one ⊎ Among (wanted_temporaries 0 (length (temporaries_of whole fun))) one → ⊥
       by_temporary (inl here) =
           by_result (among_cases (if gives_record (form_of_type fun.type) then record { key = a_result; wanted = codes "ret" } ∷ [] else [])
-              (wanted_params whole.program fun.params ++ (locals_that (λ p. is_some p.name) whole.program fun ++ locals_that (λ p. is_none p.name) whole.program fun)) one here)
+          (wanted_params whole.program fun.params ++ (locals_that (λ p. is_some p.name) whole.program fun ++ locals_that (λ p. is_none p.name) whole.program fun)) one here)
       by_temporary (inr here) = no_temporary 0 (length (temporaries_of whole fun)) o.object one here key
 
   pub not_local : (o : CObject) → Among whole.program.objects o → IsSome o.puts → local_among (a_local o.object) (own_names whole fun) ≡ None
@@ -143,8 +145,8 @@ module _ (whole : NamedProgram) (is : IsNamed whole) (fun : CFun) (there : Among
       by_name None e = e
       by_name (Some x) e =
           absurd (not_wanted o among static
-              (wanted_there (taken_names whole.program fun.unit) (wanted_in whole.program fun (length (temporaries_of whole fun))) (record { key = a_local o.object; name = x })
-                  (entry_of (own_names whole fun) (a_local o.object) x e).among))
+          (wanted_there (taken_names whole.program fun.unit) (wanted_in whole.program fun (length (temporaries_of whole fun))) (record { key = a_local o.object; name = x })
+          (entry_of (own_names whole fun) (a_local o.object) x e).among))
 
   -- each static object is kept where it stands
   pub statics_kept : (number : ℕ) (path : RPath) → object_path whole (object_with number whole.program.objects) ≡ Some path →
@@ -157,10 +159,12 @@ module _ (whole : NamedProgram) (is : IsNamed whole) (fun : CFun) (there : Among
       by_test o among e false f at = absurd cc
       by_test o among e true f at =
           let some : Some (record { home = module_of whole o.unit; name = name_in whole o.unit (an_object o.object) }) ≡ Some path = at in
-          let same : record { home = module_of whole o.unit; name = name_in whole o.unit (an_object o.object) } ≡ path = cc (some) in
-          (kept_object (object_item whole o),
-              ap (kept_found whole fun) e ∙ ap (kept_by whole o) (not_local o among f) ∙ ap (λ t. if t then Some (kept_object (object_item whole o)) else None) f,
-              ap (λ (p : RPath). Static p.home p.name) same)
+          let same : record { home = module_of whole o.unit; name = name_in whole o.unit (an_object o.object) } ≡ path = cc (some) in (
+            kept_object (object_item whole o),
+            ap (kept_found whole fun) e ∙ ap (kept_by whole o) (not_local o among f) ∙ ap (λ t. if t then Some (kept_object (object_item whole o)) else None) f,
+            ap (λ (p : RPath). Static p.home p.name) same,
+          )
+
       by_object : (object : Option CObject) → object_with number whole.program.objects ≡ object → object_path whole object ≡ Some path →
           (it : Kept) × ((kept_names whole fun).objects number ≡ Some it) × (it.place ≡ Static path.home path.name)
       by_object None e at = absurd cc

@@ -6,19 +6,21 @@ use Rattle.whole_bodies.specs.Bodies.{written_bodies, written_body}
 use Rattle.whole_means.proofs.Agrees.{crate_agrees, crate_images_apart}
 use Rattle.whole_means.proofs.Locals.{names_apart}
 use Rattle.whole_means.proofs.Whole.{modules_are, objects_are, stretch_kept}
-use Rattle.whole_means.specs.Laws.{EntriesMean, EntriesMeanInCrate, NamesOfBodies, OutersMean, ProgramsAgree, tree_of}
+use Rattle.whole_means.specs.Laws.{EntriesMeanInCrate, NamesOfBodies, OutersMean, ProgramsAgree, tree_of}
 use Rattle.whole_means.proofs.Differ.{locals_differ}
 use Rattle.whole_means.proofs.Entries.{kept_there, params_differ, temporaries_there, zeros_there}
 use Rattle.whole_means.proofs.Lists.{contains_among}
 use Rattle.lift_does.specs.Outers.{OuterItem}
-use Rattle.whole_bodies.specs.Names.{names_in}
+use Rattle.whole_bodies.specs.Names.{locals_of, names_in}
+use Rattle.whole_means.proofs.HeldTypes.{same_stmt}
+use Rattle.whole_names.specs.Kept.{no_locals}
 use Rattle.whole_means.proofs.Outers.{outer_item}
 use Rattle.whole_means.proofs.Outside.{statics_kept}
 use Rattle.whole_means.specs.FunctionNames.{kept_names}
 use Rattle.whole_means.specs.Settings.{setting_with}
 use Rattle.whole_items.specs.Items.{WrittenBodies}
 use Rattle.rs_text.specs.Tree.{ModuleTree, no_stmts}
-use Rattle.std.proofs.Common.{◌≡◌, ℕ, ◌⊎◌, List, [], false, Some, sym, subst}
+use Rattle.std.proofs.Common.{◌≡◌, ℕ, ◌⊎◌, List, [], false, Some, sym, subst, ◌∙◌}
 
 -- names don't depend on bodies
 no_bodies : WrittenBodies
@@ -28,7 +30,7 @@ pub bodies_named : NamesOfBodies
 bodies_named = record {
   objects = objects_are;
   apart = λ whole fun is few. names_apart whole is no_bodies fun few;
-  temporaries = stretch_kept;
+  temporaries = λ whole fun front part behind same. stretch_kept whole fun front part behind (same_stmt whole fun.unit no_locals (locals_of whole fun) fun.body ∙ same);
 }
 
 pub all_agree : ProgramsAgree

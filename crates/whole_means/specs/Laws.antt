@@ -16,7 +16,8 @@ use Rattle.lift_forms.specs.Places.{Kept}
 use Rattle.rs_text.specs.Tree.{Ty, Static, FunctionTree}
 use Rattle.rs_tree.specs.declared.ty.RPath.{RPath}
 use Rattle.whole_bodies.specs.Bodies.{ShapeOf, written_body}
-use Rattle.whole_bodies.specs.Names.{held_in_body, locals_of, names_in}
+use Rattle.build_flow_nodes.specs.Parts.{temporaries_in_stmt}
+use Rattle.whole_bodies.specs.Names.{locals_of, names_in}
 use Rattle.whole_items.specs.Items.{function_tree, is_declared}
 use Rattle.whole_means.specs.Beginning.{StandUnitByUnit, first_images, first_statics}
 use Rattle.whole_means.specs.FunctionNames.{HasFewNames, kept_names}
@@ -37,8 +38,8 @@ pub record NamesOfBodies : Type 0 where
   pub objects : (whole : NamedProgram) (fun : CFun) (number : ℕ) (it : Kept) → (kept_names whole fun).objects number ≡ Some it → (names_in whole fun.unit (locals_of whole fun)).objects number ≡ Some it
   -- no two names are one
   pub apart : (whole : NamedProgram) (fun : CFun) → IsNamed whole → HasFewNames whole fun → NamesApart (kept_names whole fun)
-  -- each stretch of the temporaries of held operands is kept
-  pub temporaries : (whole : NamedProgram) (fun : CFun) (front part behind : List Ty) → held_in_body whole fun ≡ front ++ (part ++ behind) →
+  -- each stretch of the temporaries of its body is kept
+  pub temporaries : (whole : NamedProgram) (fun : CFun) (front part behind : List Ty) → temporaries_in_stmt (names_in whole fun.unit (locals_of whole fun)) fun.body ≡ front ++ (part ++ behind) →
       AreKeptFrom (names_in whole fun.unit (locals_of whole fun)) (kept_names whole fun) (length front) part
 
 -- a program agrees with its crate as it begins
