@@ -1,4 +1,5 @@
 pub mod Agrees
+pub mod Bare
 pub mod Callees
 pub mod Differ
 pub mod Entries

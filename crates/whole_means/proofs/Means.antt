@@ -209,6 +209,10 @@ module _ (whole : NamedProgram) (is : IsNamed whole) (bodies : WrittenBodies) (u
   name_of None is = absurd cc
   name_of (Some name) is = (name, refl)
 
+  found_by : (fields : Option (List MemberField)) (members : List MemberField) (byte : ℕ) (type other : Ty) (name : List ℕ) → fields ≡ Some members → type ≡ other → name_at byte other members ≡ Some name →
+      option_and_then (name_at byte type) fields ≡ Some name
+  found_by fields members byte type other name are same found = ap (option_and_then (name_at byte type)) are ∙ ap (λ (t : Ty). name_at byte t members) same ∙ found
+
   member_means : (number : ℕ) (is_const : Bool) (index : ℕ) (one : CMember) (spot : Spot) (type : CTy) → MemberAt number index one spot → one.bits ≡ None → rust_type (types_of whole) type ≡ rust_type (types_of whole) one.type →
       FieldMeans s names (ty (record_type number) is_const) spot.byte (type_in names type)
   member_means number is_const index one spot type at plain same =
@@ -228,8 +232,7 @@ module _ (whole : NamedProgram) (is : IsNamed whole) (bodies : WrittenBodies) (u
       (named_some (fields_walk known done.one done.row.spots).members place among) in
       let type_same : rust_type (types_of whole) type ≡ rust_type (type_names known) one.type = same ∙ ap (λ n. rust_type n one.type) (sym (types_same whole has.at no_locals)) in
       field_means number is_const spot.byte (type_in names type) name.0
-      (ap (option_and_then (name_at spot.byte (rust_type (types_of whole) type))) has.fields_are
-      ∙ ap (λ (t : Ty). name_at spot.byte t (fields_walk known done.one done.row.spots).members) type_same ∙ name.1)
+      (found_by (names.fields number) (fields_walk known done.one done.row.spots).members spot.byte (rust_type (types_of whole) type) (rust_type (type_names known) one.type) name.0 has.fields_are type_same name.1)
 
   -- each member that is no bit-field has a field
   pub members_mean : (holder type : CTy) (spot : Spot) → IsMemberOf program.types holder spot type → spot.width ≡ 0 → FieldMeans s names holder spot.byte (type_in names type)

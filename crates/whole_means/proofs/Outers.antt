@@ -118,12 +118,21 @@ all_tys : (ts : Tys) → tys (tys_in ts) ≡ ts
 all_tys no_tys = refl
 all_tys (more_tys first others) = ap (more_tys first) (all_tys others)
 
-linked_as : (symbol name : List ℕ) → symbol_or name (link_name_of symbol name) ≡ symbol
+pub linked_as : (symbol name : List ℕ) → symbol_or name (link_name_of symbol name) ≡ symbol
 linked_as symbol name = by_test (bytes_eq (bare_name name) symbol) refl
   where
     by_test : (t : Bool) → bytes_eq (bare_name name) symbol ≡ t → symbol_or name (if t then None else Some symbol) ≡ symbol
     by_test true e = texts_equal (bare_name name) symbol e
     by_test false e = refl
+
+-- the type of a pointer to such a function
+pub code_form : (whole : NamedProgram) (type : CTy) (result : CTy) (params : CParams) (variadic : Bool) → form_of_type type ≡ function result params variadic → is_record (form_of_type result) ≡ false →
+    code_type whole type ≡ Code (tys (tys_in (rust_params (types_of whole) params))) (option_ty (value_type (rust_type (types_of whole) result)))
+code_form whole (ty form is_const) result params variadic is_form flat =
+    ap (λ (f : CTyForm). code_type whole (ty f is_const)) is_form
+    ∙ ap (λ t. types.code_type t (rust_type (types_of whole) result) (rust_params (types_of whole) params)) (same_record result ∙ flat)
+    ∙ ap (λ (r : OptionTy). Code (rust_params (types_of whole) params) r) (sym (same_void (rust_type (types_of whole) result)))
+    ∙ ap (λ (ps : Tys). Code ps (option_ty (value_type (rust_type (types_of whole) result)))) (sym (all_tys (rust_params (types_of whole) params)))
 
 module _ (whole : NamedProgram) (is : IsNamed whole) (bodies : WrittenBodies) (unit : ℕ) (low : unit < length whole.module_names) (own : LocalNames) (statics : CFrame) where
   abbrev program : CProgram
@@ -169,14 +178,6 @@ module _ (whole : NamedProgram) (is : IsNamed whole) (bodies : WrittenBodies) (u
       result = value_type (rust_type (types_of whole) plain.result);
     }
 
-    code_of : (type : CTy) (result : CTy) (params : CParams) (variadic : Bool) → form_of_type type ≡ function result params variadic → is_record (form_of_type result) ≡ false →
-        code_type whole type ≡ Code (tys (tys_in (rust_params (types_of whole) params))) (option_ty (value_type (rust_type (types_of whole) result)))
-    code_of (ty form is_const) result params variadic is_form flat =
-        ap (λ (f : CTyForm). code_type whole (ty f is_const)) is_form
-        ∙ ap (λ t. types.code_type t (rust_type (types_of whole) result) (rust_params (types_of whole) params)) (same_record result ∙ flat)
-        ∙ ap (λ (r : OptionTy). Code (rust_params (types_of whole) params) r) (sym (same_void (rust_type (types_of whole) result)))
-        ∙ ap (λ (ps : Tys). Code ps (option_ty (value_type (rust_type (types_of whole) result)))) (sym (all_tys (rust_params (types_of whole) params)))
-
     pub kept_is : is_replaced whole one ≡ false → names.functions number ≡ Some (kept_function (outer_item_of whole unit one))
     kept_is itself =
         ap (option_map kept_function) (ap (λ f. function_thing whole unit f (outer_with number program.externals)) undefined ∙ ap (outer_thing whole unit) found
@@ -197,7 +198,7 @@ module _ (whole : NamedProgram) (is : IsNamed whole) (bodies : WrittenBodies) (u
       tree = tree;
       tree_is = tree_found;
       named = linked_as one.name (name_in whole unit (a_function number));
-      ty_is = code_of one.type plain.result plain.params plain.variadic plain.form_is plain.plain;
+      ty_is = code_form whole one.type plain.result plain.params plain.variadic plain.form_is plain.plain;
     }
 
     variadic_same : plain.variadic ≡ is_variadic (form_of_type one.type)

@@ -9,9 +9,9 @@ use Rattle.cx_mean.specs.Operands.{Frame as CFrame}
 use Rattle.lift_calls.specs.Frames.{FunctionNames, KeptTemporary, NamesApart}
 use Rattle.lift_calls.specs.Programs.{ProgramAgrees}
 use Rattle.lift_calls_entry.specs.Entry.{AllDiffer, IsLocalKept, IsStaticKept, NamesDiffer, all_locals}
-use Rattle.lift_does.specs.Agree.{AreKeptFrom, NamesMean}
+use Rattle.lift_does.specs.Agree.{AreKeptFrom, NamesMean, OuterMeans}
 use Rattle.lift_does.specs.Outers.{OuterItem, TakesAll, is_variadic}
-use Rattle.lift_exprs.specs.Names.{params_of}
+use Rattle.lift_exprs.specs.Names.{KeptFunction, params_of}
 use Rattle.lift_forms.specs.Places.{Kept}
 use Rattle.rs_text.specs.Tree.{Ty, Static, FunctionTree}
 use Rattle.rs_tree.specs.declared.ty.RPath.{RPath}
@@ -23,7 +23,7 @@ use Rattle.whole_means.specs.Beginning.{StandUnitByUnit, first_images, first_sta
 use Rattle.whole_means.specs.FunctionNames.{HasFewNames, kept_names}
 use Rattle.whole_means.specs.Settings.{modules_of, setting_of}
 use Rattle.whole_means.specs.Written.{IsNamed}
-use Rattle.whole_names.specs.Keys.{order_of}
+use Rattle.whole_names.specs.Keys.{calls_of, is_bare_too, order_of}
 use Rattle.whole_names.specs.Kept.{LocalNames, NamedProgram, code_type, types_of}
 
 -- the names of a module mean what they say, where those that a function keeps of objects are these
@@ -80,3 +80,14 @@ OutersMean =
     outer_with number whole.program.externals ≡ Some one → function_with number whole.program.functions ≡ None → Contains (order_of whole.program unit).things (core.a_function number) →
     is_declared whole unit one ≡ true → TakesAll (params_of (code_type whole one.type)) (is_variadic (form_of_type one.type)) args →
     ((names_in whole unit own).has_bits ≡ false) ⊎ (known_named one.name ≡ None) → OuterItem (setting_of whole shape statics) (names_in whole unit own) number args
+
+-- a unit that calls an external function without arguments, though it has parameters elsewhere, declares it once more without parameters
+pub record BareMeans (whole : NamedProgram) (shape : ShapeOf) (statics : CFrame) (unit : ℕ) (own : LocalNames) (number : ℕ) (one : COuter) : Type 0 where
+  pub kept : KeptFunction
+  pub kept_is : (names_in whole unit own).bare_functions number ≡ Some kept
+  pub means : OuterMeans (setting_of whole shape statics) one.name one.name kept
+
+abbrev pub BaresMean : Type 0
+BaresMean =
+    (whole : NamedProgram) (shape : ShapeOf) (statics : CFrame) (unit : ℕ) (own : LocalNames) (number : ℕ) (one : COuter) → IsNamed whole → unit < length whole.module_names →
+    outer_with number whole.program.externals ≡ Some one → is_bare_too (calls_of whole.program unit) one ≡ true → BareMeans whole shape statics unit own number one

@@ -1,4 +1,4 @@
-ghost use Rattle.whole_means.specs.Laws.{EntriesMeanInCrate, NamesMeanInCrate, NamesOfBodies, OutersMean, ProgramsAgree};
+ghost use Rattle.whole_means.specs.Laws.{BaresMean, EntriesMeanInCrate, NamesMeanInCrate, NamesOfBodies, OutersMean, ProgramsAgree};
 
 /// Law: the names of a module of the written crate mean what they say.
 pub fn names_mean()
@@ -23,4 +23,9 @@ pub fn entries_mean()
 /// Law: a unit that calls an external function declares it, with its own symbol and type.
 pub fn outers_mean()
     ensures { OutersMean }
+{}
+
+/// Law: a unit that calls an external function without arguments, though it has parameters elsewhere, declares it once more without parameters.
+pub fn bares_mean()
+    ensures { BaresMean }
 {}

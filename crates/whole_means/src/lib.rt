@@ -4,4 +4,6 @@
 
 mod laws;
 
-pub use laws::{entries_mean, names_mean, names_of_bodies, outers_mean, programs_agree};
+pub use laws::{
+    bares_mean, entries_mean, names_mean, names_of_bodies, outers_mean, programs_agree,
+};
