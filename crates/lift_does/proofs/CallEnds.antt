@@ -1,11 +1,11 @@
 -- Where the result of a call goes: to a temporary, to a place to which a first argument points, or nowhere (ISO C99, 6.5.2.2 and 6.9.1p12; the Rust Reference, "Call expressions").
-use Rattle.std.proofs.Common.{◌≡◌, ℕ, suc, ◌<◌, Bool, true, false, List, [], ◌∷◌, length, Option, Some, None, option_map, Ok, refl, sym, ap, subst, ◌∙◌, arith}
+use Rattle.std.proofs.Common.{◌≡◌, ℕ, suc, ◌<◌, Bool, true, false, List, [], ◌∷◌, length, Option, Some, None, Ok, refl, sym, ap, subst, ◌∙◌, arith}
 use Rattle.std.proofs.lemmas.Bool.Decides.{nat_tests}
 use Rattle.std.specs.Prelude.{◌==◌}
 use Rattle.cr_base.specs.declared.layout.Laid.{Laid}
 use Rattle.cr_base.specs.declared.scalar.Scalar.{Scalar}
 use Rattle.cr_runs.proofs.Rules.{pieces, values, renamed, bind_came}
-use Rattle.cr_runs.specs.Owes.{Owes, Rests}
+use Rattle.cr_runs.specs.Owes.{Owes}
 use Rattle.cr_runs.specs.Runs.{Ran, came, bind}
 use Rattle.cr_world.specs.World.{World, Stop, blocks_of, events_of}
 use Rattle.cx_core.specs.Trees.{CTy, CExpr, type_of}
@@ -25,7 +25,7 @@ use Rattle.lift_does.proofs.Operands.{other_based, where_used}
 use Rattle.lift_does.proofs.Passed.{value_passes}
 use Rattle.lift_does.proofs.Reaching.{same_local, reached_then}
 use Rattle.lift_does.proofs.Records.{to_room}
-use Rattle.lift_does.proofs.Temporaries.{seq_comes, TemporaryHolds, StoresValue, stores_value, reads_staying}
+use Rattle.lift_does.proofs.Temporaries.{seq_comes, TemporaryHolds, stores_value, reads_staying}
 use Rattle.lift_does.specs.Gives.{GivesOperand}
 use Rattle.lift_does.specs.Later.{TemporariesStay}
 use Rattle.lift_exprs.specs.Calls.{result_type}
@@ -47,7 +47,6 @@ use Rattle.mem_bytes.specs.Coding.{IsValueOf}
 use Rattle.mem_bytes.specs.Memory.{Block, Blocks, live_block, size_of}
 use Rattle.mem_bytes.specs.declared.cell.Cell.{Cell}
 use Rattle.mem_bytes.specs.declared.value.Ptr.{Ptr}
-use Rattle.mem_bytes.specs.declared.value.Value.{Value}
 use Rattle.mem_bytes.specs.declared.value.Value.TheVariants.{Object}
 use Rattle.rs_mean.specs.Layout.{laid_of}
 use Rattle.rs_mean.specs.Lookups.{LocalBlock}
@@ -57,7 +56,7 @@ use Rattle.rs_mean.specs.Scalars.{scalar_of}
 use Rattle.rs_mean.specs.Values.{Typed, typed}
 use Rattle.rs_mean.specs.World.{Run, pure, seq}
 use Rattle.rs_mean.specs.declared.cause.Cause.{Cause}
-use Rattle.rs_text.specs.Tree.{Ty, Pointer, OptionTy, some_ty, option_ty, Place, Expr, Read, AddressOf, Stmt, Assign, Eval}
+use Rattle.rs_text.specs.Tree.{Ty, Pointer, OptionTy, option_ty, Place, Expr, Read, AddressOf, Assign, Eval}
 
 -- what is given has the type that is wanted
 given_some : (given : Option Typed) (from : Ty) → type_of_given given ≡ Some from → (one : Typed) × (given ≡ Some one) × (one.ty ≡ from)

@@ -1,25 +1,25 @@
 -- How statements run in which a call stands (the Rust Reference, "Call expressions" and "Expression statements").
-use Rattle.std.proofs.Common.{◌≡◌, ℕ, Bool, true, false, if◌then◌else◌, List, [], ◌∷◌, Option, Some, None, Result, Ok, Err, refl, sym, ap, subst, ◌∙◌}
+use Rattle.std.proofs.Common.{◌≡◌, ℕ, Bool, true, false, if◌then◌else◌, List, [], ◌∷◌, Option, Some, None, Result, Ok, Err, refl, ap, ◌∙◌}
 use Rattle.cr_runs.proofs.Rules.{bind_bind}
 use Rattle.cr_runs.specs.Runs.{Ran, came, halted, bad, out, bind}
-use Rattle.cr_world.specs.World.{World, Stop, events_of}
+use Rattle.cr_world.specs.World.{World, Stop}
 use Rattle.lift_does.proofs.Around.{Around, runs}
 use Rattle.lift_does.proofs.Runs.{flow_behaves}
-use Rattle.lift_forms.specs.Operators.{cast_to, transmute_to, as_type}
+use Rattle.lift_forms.specs.Operators.{as_type}
 use Rattle.lift_forms_laws.specs.Gives.{GivesAt}
 use Rattle.mem_bytes.specs.declared.value.Value.TheVariants.{Code as Function}
 use Rattle.rs_mean.specs.Calls.{store}
 use Rattle.rs_mean.specs.Lookups.{Callee, own, own_signature, callee_at, function_with}
 use Rattle.rs_mean.specs.Run.{Frame, Flow, normal, call_found, call_at, call_pointed, called_as, retyped, unwrapped, the_value, run_place, run_expr, run_exprs, run_dropped, run_call_by, goes_on, then_on}
 use Rattle.rs_mean.specs.Scalars.{same_type}
-use Rattle.rs_mean.specs.Values.{Typed, typed, cast_of, transmuted}
+use Rattle.rs_mean.specs.Values.{Typed, cast_of, transmuted}
 use Rattle.rs_mean.specs.World.{Run, pure, seq, either, fails, or_fails}
 use Rattle.rs_mean.specs.declared.cause.Cause.{Cause}
 use Rattle.rs_mean.specs.declared.cause.Cause.TheVariants.{WrongCall}
 use Rattle.rs_mean_frames.proofs.Behaving.{behaves_pure, behaves_fails, behaves_local, behaves_seq}
 use Rattle.rs_mean_frames.proofs.Framed.{pieces_behave}
 use Rattle.rs_mean_frames.specs.Behave.{Behaves}
-use Rattle.rs_text.specs.Tree.{Ty, Integer, Boolean, Void, Pointer, Array, Code, Record, Place, Expr, Cast, Transmute, Call as CallTree, CallBy, Exprs, Tys, OptionTy, FunctionTree, Stmt, Assign, Eval}
+use Rattle.rs_text.specs.Tree.{Ty, Integer, Boolean, Void, Pointer, Array, Code, Record, Place, Expr, Cast, Transmute, Call as CallTree, CallBy, Exprs, Tys, OptionTy, FunctionTree, Assign, Eval}
 
 -- ---- a value in another type
 

@@ -67,5 +67,6 @@ pub mod Temporaries
 pub mod Types
 pub mod Unary
 pub mod ValueMembers
+mod WorkedCalls
 pub mod Updates
 pub mod Used

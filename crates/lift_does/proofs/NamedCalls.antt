@@ -1,6 +1,6 @@
 -- Calls by name of functions that the program defines (ISO C99, 6.5.2.2; the Rust Reference, "Call expressions").
-use Rattle.std.proofs.Common.{◌≡◌, inl, inr, ℕ, suc, ◌<◌, ◌≤◌, Bool, true, false, not, if◌then◌else◌, ◌&&◌, ◌||◌, List, [], ◌∷◌, ◌++◌, length, map, Option, Some, None, Result, Ok, Err, refl, sym, ap, subst, ◌∙◌, arith}
-use Rattle.std.specs.Prelude.{IsSome, IfSome}
+use Rattle.std.proofs.Common.{◌≡◌, inl, ℕ, suc, Bool, true, false, if◌then◌else◌, List, [], ◌∷◌, length, map, Option, Some, None, Result, Ok, Err, refl, sym, ap, subst, ◌∙◌}
+use Rattle.std.specs.Prelude.{IfSome}
 use Rattle.cr_base.specs.declared.layout.Laid.{Laid}
 use Rattle.cr_base.specs.declared.refusal.Place.{Place}
 use Rattle.cr_runs.specs.Runs.{came, tick}
@@ -9,7 +9,7 @@ use Rattle.cx_core.specs.Compatible.{AreCompatible}
 use Rattle.cx_core.specs.Linked.{IsLinked, home_of}
 use Rattle.cx_core.specs.Trees.{ty, CParams, CProgram, CTy, CTyForm, void, basic, enum_type, pointer, array, record_type, function, form_of_type, unqualified, CExpr, expr, call, CExprs, no_exprs, more_exprs, CFun, COuter}
 use Rattle.cx_core.specs.Typing.{function_with, outer_with, IsTyped, AreArgumentsOf, IsCallOf, IsCalleeOf, CCallee as CoreCallee}
-use Rattle.cx_mean.specs.Calls.{CCallee, defined, external, CCalling, callee_of, callee_numbered, called_with, node_calling}
+use Rattle.cx_mean.specs.Calls.{CCallee, defined, CCalling, callee_of, callee_numbered, called_with, node_calling}
 use Rattle.cx_mean.proofs.KeptNodes.{IfGiven}
 use Rattle.cx_mean.specs.Leftmost.{CRan, c_callee}
 use Rattle.cx_mean.specs.Operands.{CWhy, CValue, COperand, united_operands}
@@ -30,14 +30,14 @@ use Rattle.lift_does.proofs.CalledFunctions.{args_count, fits_enough, fits_one_m
 use Rattle.lift_does.proofs.Nodes.{and_then_is}
 use Rattle.lift_does.proofs.OwnCalls.{CallsAs, params_count, with_parts, any_align, gives_result, runs_function, result_alike, stands, crate_run, node_owes}
 use Rattle.lift_does.specs.Agree.{FunctionMeans}
-use Rattle.lift_exprs.specs.Calls.{Argument, Called, called_by_name, called_by_symbol, call_of, call_of_own, call_as, pointer_to, as_params, are_enough, result_argument}
+use Rattle.lift_exprs.specs.Calls.{Argument, called_by_name, called_by_symbol, call_of, call_as, pointer_to, as_params, are_enough, result_argument}
 use Rattle.lift_exprs.specs.Lifted.{lifted_args}
 use Rattle.lift_exprs.specs.Names.{KeptFunction, function_or, type_in, params_of, result_of}
 use Rattle.lift_forms.specs.Operators.{as_type}
 use Rattle.lift_forms_laws.proofs.Operands.{as_type_gives}
 use Rattle.lift_forms_laws.proofs.Runs.{seq_is, pure_is}
 use Rattle.lift_forms_laws.specs.Gives.{GivesAt}
-use Rattle.lift_held.specs.Held.{is_void, is_record}
+use Rattle.lift_held.specs.Held.{is_record}
 use Rattle.lift_stands.specs.Stands.{Images}
 use Rattle.lift_stands_values.specs.Given.{align_or, align_in}
 use Rattle.mem_bytes.specs.Memory.{Blocks}
@@ -49,7 +49,7 @@ use Rattle.rs_mean.specs.Lookups.{own, own_signature, callee_at}
 use Rattle.rs_mean.specs.Run.{run_expr, run_exprs}
 use Rattle.rs_mean.specs.Values.{Typed, typed}
 use Rattle.rs_mean.specs.World.{seq, pure}
-use Rattle.rs_text.specs.Tree.{Ty, Pointer, Tys, no_tys, more_tys, tys, option_ty, Expr, exprs, LocalTree, ModuleTree}
+use Rattle.rs_text.specs.Tree.{Ty, Pointer, Tys, more_tys, tys, option_ty, Expr, exprs, LocalTree, ModuleTree}
 
 -- ---- operands
 

@@ -1,16 +1,16 @@
 -- What the crate passes to an external function: each argument in the type of its parameter, and those that follow as they are (ISO C99, 6.5.2.2p6 and p7).
-use Rattle.std.proofs.Common.{◌≡◌, inl, inr, ℕ, suc, Bool, true, false, if◌then◌else◌, ◌&&◌, List, [], ◌∷◌, map, Option, Some, None, Ok, refl, sym, ap, subst, ◌∙◌}
+use Rattle.std.proofs.Common.{◌≡◌, ℕ, Bool, true, false, if◌then◌else◌, ◌&&◌, List, [], ◌∷◌, Some, Ok, refl, sym, subst, ◌∙◌}
 use Rattle.cr_base.specs.declared.scalar.Scalar.{Scalar}
 use Rattle.cr_runs.specs.Runs.{came}
 use Rattle.cr_world.specs.World.{World, blocks_of}
 use Rattle.cx_core.specs.Conversions.{scalar_of as c_scalar_of}
-use Rattle.cx_core.specs.Trees.{CProgram, CTy, form_of_type, CExpr, CExprs, no_exprs, more_exprs, type_of}
+use Rattle.cx_core.specs.Trees.{CProgram, form_of_type, CExpr, CExprs, no_exprs, more_exprs, type_of}
 use Rattle.cx_core.specs.Typing.{AreTyped}
 use Rattle.cx_mean.specs.Calls.{is_missing, all_given}
 use Rattle.cx_mean.specs.Operands.{CValue, COperand}
 use Rattle.cx_mean.specs.State.{values_of_args}
 use Rattle.cx_typed_work.proofs.Given.{value_given}
-use Rattle.lift_calls.specs.Calls.{IsHanded, AreHanded}
+use Rattle.lift_calls.specs.Calls.{AreHanded}
 use Rattle.lift_does.proofs.Arguments.{ArgsGiven}
 use Rattle.lift_does.proofs.ArgumentsRun.{ParamFits, ArgumentRuns, argument_by, argument_runs, passed_as, all_there}
 use Rattle.lift_does.proofs.Around.{Around}
@@ -26,7 +26,6 @@ use Rattle.lift_exprs.specs.Written.{address_of_given}
 use Rattle.lift_forms.specs.Given.{Given}
 use Rattle.lift_forms.specs.Operators.{as_type, given_value}
 use Rattle.lift_forms_laws.proofs.Runs.{seq_is, pure_is}
-use Rattle.lift_forms_laws.specs.Gives.{GivesAt}
 use Rattle.lift_held.specs.Held.{is_record, operand_before, some_holds_call}
 use Rattle.lift_stands.specs.Stands.{Images}
 use Rattle.rs_mean.specs.Calls.{accepts}

@@ -1,19 +1,19 @@
 -- A call of a function that no unit defines: what it does in the crate is what it does in C (ISO C99, 6.5.2.2, 7.20.3, 7.20.4 and 7.21; the Rust Reference, "External blocks").
-use Rattle.std.proofs.Common.{◌≡◌, ◌⊎◌, inl, inr, ℕ, pred, ℤ, Bool, true, false, ◌||◌, List, [], ◌∷◌, ◌++◌, length, map, Option, Some, None, Result, Ok, Err, refl, sym, ap, subst, ◌∙◌, arith}
+use Rattle.std.proofs.Common.{◌≡◌, inl, inr, ℕ, ℤ, Bool, true, false, ◌||◌, List, [], ◌∷◌, length, map, Option, Some, None, Result, Ok, Err, refl, sym, ap, subst, ◌∙◌, arith}
 use Rattle.cr_base.specs.declared.refusal.Place.{Place}
 use Rattle.cr_base.specs.declared.scalar.Scalar.{Scalar}
 use Rattle.cr_runs.proofs.Rules.{values, no_meaning, renamed}
 use Rattle.cr_runs.specs.Owes.{Owes}
-use Rattle.cr_runs.specs.Runs.{Ran, came, halted, bad, bind, tick}
-use Rattle.cr_runs_rules.proofs.Rules.{ticks_by, halted_owe}
+use Rattle.cr_runs.specs.Runs.{Ran, came, halted, bind}
+use Rattle.cr_runs_rules.proofs.Rules.{halted_owe}
 use Rattle.cr_world.specs.Held.{Held}
-use Rattle.cr_world.specs.Known.{KnownFunction, known_named, Known, frees, Effect, gives, gives_nothing, ends_program, wants_block, fails as effect_fails, effect}
+use Rattle.cr_world.specs.Known.{Known, allocates, frees, Effect, gives, gives_nothing, ends_program, wants_block, fails as effect_fails, effect}
 use Rattle.cr_world.specs.World.{World, Stop, Got, blocks_of, events_of, with_held, granted}
 use Rattle.cx_core.specs.Conversions.{scalar_of as c_scalar_of}
 use Rattle.cx_core.specs.Trees.{CProgram, CTy, COuter, form_of_type}
-use Rattle.cx_mean.specs.Calls.{CCallee, external, CCalled, CCalling, COutcome, returns_value, ends_with, wrong_at, values_of, by_effect, with_block, known_call as c_known_call, opaque_call as c_opaque_call, call_by_table, external_call}
-use Rattle.cx_mean.specs.Leftmost.{CRan, c_returned}
-use Rattle.cx_mean.specs.Operands.{CWhy, CFault, CStop, stops, CValue, scalar, cells, names, designates, designates_bits, missing, COperand, scalar_value}
+use Rattle.cx_mean.specs.Calls.{external, CCalling, COutcome, returns_value, ends_with, values_of, by_effect, with_block, external_call}
+use Rattle.cx_mean.specs.Leftmost.{c_returned}
+use Rattle.cx_mean.specs.Operands.{CWhy, CFault, CStop, CValue, scalar, missing, COperand, scalar_value}
 use Rattle.cx_mean.specs.Settings.{setting_of}
 use Rattle.cx_mean.specs.State.{values_of_args}
 use Rattle.cx_typed_leftmost.proofs.Worlds.{typed_kept}
@@ -21,7 +21,6 @@ use Rattle.cx_typed_runs.proofs.CallsOutside.{LeavesHeld, outside_held}
 use Rattle.cx_typed_work.proofs.ExternalCalls.{external_calls_give_typed}
 use Rattle.cx_typed_work.specs.Calls.{IsTypedCall, IsReturned}
 use Rattle.cx_typed_work.specs.ExternalCalls.{CallLeaves}
-use Rattle.cx_typed_work.specs.Operands.{IsScalarIn}
 use Rattle.lift_calls.specs.Calls.{is_place, type_in as type_of_given, IsOfItsType, GivesBack, IsHanded, AreHanded}
 use Rattle.lift_calls.specs.Programs.{setting_in}
 use Rattle.lift_does.proofs.Around.{Around, scope, At}
@@ -34,13 +33,12 @@ use Rattle.lift_does.proofs.Runs.{same_events}
 use Rattle.lift_does.proofs.Used.{scalar_has}
 use Rattle.lift_exprs.specs.Names.{type_in}
 use Rattle.std.specs.Prelude.{IsSome}
-use Rattle.lift_forms_laws.proofs.Runs.{pure_is, looks_is}
 use Rattle.lift_held.specs.Held.{is_void, is_record}
 use Rattle.lift_stands.specs.Keeps.{KeepsOthers}
 use Rattle.lift_stands.specs.Stands.{Images, ValueBelow}
 use Rattle.lift_stands.specs.Worlds.{WorldsStand}
 use Rattle.lift_stands_known.proofs.Answered.{granted_below}
-use Rattle.lift_stands_known.proofs.Effects.{effect_stands}
+use Rattle.lift_stands_known.proofs.Effects.{effect_stands, zeroed_stands}
 use Rattle.lift_stands_known.specs.Effects.{ValuesBelow, EffectStands}
 use Rattle.lift_stands_lives.proofs.Begun.{worlds_held}
 use Rattle.lift_stands_values.proofs.Ranges.{given_in_range}
@@ -48,12 +46,14 @@ use Rattle.lift_stands_values.specs.Given.{align_in}
 use Rattle.mem_bytes.specs.Coding.{IsValueOf}
 use Rattle.mem_bytes.specs.Memory.{Blocks}
 use Rattle.mem_bytes.specs.declared.value.Value.{Value}
-use Rattle.rs_mean.specs.Calls.{value_in, given, takes_effect, kept_as, known_call, held_now, outer_by, opaque_call}
+use Rattle.mem_bytes.specs.declared.value.Value.TheVariants.{Whole}
+use Rattle.std.specs.Prelude.{pos}
+use Rattle.rs_mean.specs.Calls.{value_in, given, takes_effect, kept_as}
 use Rattle.rs_mean.specs.Scalars.{scalar_of}
 use Rattle.rs_mean.specs.Values.{Typed, typed}
-use Rattle.rs_mean.specs.World.{Run, pure, seq, local, grants, ends, after_got}
+use Rattle.rs_mean.specs.World.{pure, seq, local, grants, ends, after_got}
 use Rattle.rs_mean.specs.declared.cause.Cause.{Cause}
-use Rattle.rs_text.specs.Tree.{Ty, OuterTree}
+use Rattle.rs_text.specs.Tree.{Ty}
 
 -- ---- values
 
@@ -176,29 +176,49 @@ module _ (x : Around) (type : CTy) (images : Images) (c w : World) (here : At x 
   unfolding seq pure grants
   grants_comes is_zero size got left e = ap (λ (found : Result (Got Value) (Stop Cause)). bind (after_got left w found) (λ value. pure (given result value))) e
 
-  module _ (n m : ℕ) (no_bytes : images.in_bytes ≡ false) (does : Known) (frees_void : does ≡ frees → result ≡ None) (list given_list : List Value) (below : ValuesBelow images list given_list) (place : Place) where
+  module _ (n m : ℕ) (does : Known) (frees_void : does ≡ frees → result ≡ None) (zeroes : Bool) (enough : (is_zero : Bool) → does ≡ allocates is_zero → images.in_bytes ≡ true → (zeroes || is_zero) ≡ true) (in_crate : Effect) (place : Place) where
     abbrev pub effect_target : ℕ → Ran (Stop Cause) World (Option Typed)
-    effect_target left = takes_effect result (effect does given_list w.held) w left
+    effect_target left = takes_effect result in_crate w left
 
-    granted_step : (is_zero : Bool) (size : ℕ) (found : Result (Got Value) CStop) → granted is_zero size c ≡ found → Leaves (with_block found) → effect does given_list w.held ≡ wants_block is_zero size → Step n m (with_block found) effect_target
-    granted_step is_zero size (Err stop) e leaves is = bad_step n m stop effect_target
-    granted_step is_zero size (Ok got) e leaves is =
-        let below_it = granted_below CFault Cause images c w is_zero is_zero size got here.worlds (record { zero = λ z. z; bytes = λ b. let clash : true ≡ false = sym b ∙ no_bytes in cc (clash) }) e in
+    zero_still : (is_zero : Bool) → is_zero ≡ true → (zeroes || is_zero) ≡ true
+    zero_still is_zero is = or_true zeroes is_zero is
+      where
+        or_true : (a b : Bool) → b ≡ true → (a || b) ≡ true
+        or_true true b e = refl
+        or_true false b e = e
+
+    granted_step : (is_zero : Bool) (size : ℕ) (found : Result (Got Value) CStop) → does ≡ allocates is_zero → granted is_zero size c ≡ found → Leaves (with_block found) → in_crate ≡ wants_block (zeroes || is_zero) size → Step n m (with_block found) effect_target
+    granted_step is_zero size (Err stop) does_is e leaves is = bad_step n m stop effect_target
+    granted_step is_zero size (Ok got) does_is e leaves is =
+        let below_it = granted_below CFault Cause images c w is_zero (zeroes || is_zero) size got here.worlds (record { zero = zero_still is_zero; bytes = enough is_zero does_is }) e in
         scalar_step n m got.value below_it.given.value got.world below_it.later below_it.given.world effect_target leaves below_it.below (below_it.keeps (length (blocks_of w)) (is_place None) (omega arith)) below_it.stands
-        (λ left. ap (λ (one : Effect). takes_effect result one w left) is ∙ grants_comes is_zero size below_it.given left below_it.is)
+        (λ left. ap (λ (one : Effect). takes_effect result one w left) is ∙ grants_comes (zeroes || is_zero) size below_it.given left below_it.is)
 
-    by_effect_step : (in_c : Effect) → Shape does in_c → EffectStands images c.held w.held false in_c (effect does given_list w.held) → Leaves (by_effect place c in_c) → Step n m (by_effect place c in_c) effect_target
+    by_effect_step : (in_c : Effect) → Shape does in_c → EffectStands images c.held w.held zeroes in_c in_crate → Leaves (by_effect place c in_c) → Step n m (by_effect place c in_c) effect_target
     by_effect_step (gives value after) shape stands leaves =
-        let back = stands in
-        scalar_step n m value back.given (with_held after c) images (with_held back.beyond w) effect_target leaves back.below (back.keeps (length (blocks_of w)) (is_place None)) (worlds_held images images c w after back.beyond here.worlds back.stands)
-        (λ left. ap (λ (one : Effect). takes_effect result one w left) back.is ∙ kept_comes back.beyond (given result back.given) left)
+        scalar_step n m value stands.given (with_held after c) images (with_held stands.beyond w) effect_target leaves stands.below (stands.keeps (length (blocks_of w)) (is_place None)) (worlds_held images images c w after stands.beyond here.worlds stands.stands)
+        (λ left. ap (λ (one : Effect). takes_effect result one w left) stands.is ∙ kept_comes stands.beyond (given result stands.given) left)
     by_effect_step (gives_nothing after) shape stands leaves =
         none_step n m (with_held after c) images (with_held stands.beyond w) effect_target leaves (frees_void shape) (stands.keeps (length (blocks_of w)) (is_place None)) (worlds_held images images c w after stands.beyond here.worlds stands.stands)
         (λ left. ap (λ (one : Effect). takes_effect result one w left) stands.is ∙ kept_comes stands.beyond None left)
     by_effect_step (ends_program status) shape stands leaves =
         end_step n m status c effect_target leaves.held (λ left. ap (λ (one : Effect). takes_effect result one w left) stands ∙ ends_comes status left)
-    by_effect_step (wants_block is_zero size) shape stands leaves = granted_step is_zero size (granted is_zero size c) refl leaves stands
+    by_effect_step (wants_block is_zero size) shape stands leaves = granted_step is_zero size (granted is_zero size c) shape refl leaves stands
     by_effect_step (effect_fails fault) shape stands leaves = bad_step n m _ effect_target
 
-    pub known_step : Leaves (by_effect place c (effect does list c.held)) → Step n m (by_effect place c (effect does list c.held)) effect_target
-    known_step leaves = by_effect_step (effect does list c.held) (effect_shape does list c.held) (effect_stands images c.held w.held here.worlds.held does list given_list below) leaves
+  -- as the same function
+  pub known_step : (n m : ℕ) (does : Known) (no_bytes : does ≡ allocates false → images.in_bytes ≡ false) (frees_void : does ≡ frees → result ≡ None) (list given_list : List Value) → ValuesBelow images list given_list → (place : Place) → Leaves (by_effect place c (effect does list c.held)) →
+      Step n m (by_effect place c (effect does list c.held)) (λ left. takes_effect result (effect does given_list w.held) w left)
+  known_step n m does no_bytes frees_void list given_list below place leaves =
+      by_effect_step n m does frees_void false (zero_there does no_bytes) (effect does given_list w.held) place (effect does list c.held) (effect_shape does list c.held) (effect_stands images c.held w.held here.worlds.held does list given_list below) leaves
+    where
+      zero_there : (one_does : Known) → (one_does ≡ allocates false → images.in_bytes ≡ false) → (is_zero : Bool) → one_does ≡ allocates is_zero → images.in_bytes ≡ true → (false || is_zero) ≡ true
+      zero_there one_does none true is b = refl
+      zero_there one_does none false is b = let clash : true ≡ false = sym b ∙ none is in cc (clash)
+
+  -- `calloc(1, n)` in place of `malloc(n)`, in a program with a bit-field member: its bytes are set
+  pub zeroed_step : (n m : ℕ) (size given_size : Value) → ValueBelow images size given_size → (place : Place) → Leaves (by_effect place c (effect (allocates false) (size ∷ []) c.held)) →
+      Step n m (by_effect place c (effect (allocates false) (size ∷ []) c.held)) (λ left. takes_effect result (effect (allocates true) (Whole (pos 1) ∷ given_size ∷ []) w.held) w left)
+  zeroed_step n m size given_size below place leaves =
+      by_effect_step n m (allocates false) (λ same. cc (same)) true (λ is_zero does b. refl) (effect (allocates true) (Whole (pos 1) ∷ given_size ∷ []) w.held) place (effect (allocates false) (size ∷ []) c.held) (effect_shape (allocates false) (size ∷ []) c.held)
+      (zeroed_stands images c.held w.held here.worlds.held size given_size below) leaves

@@ -1,20 +1,20 @@
 -- Calls of external functions, as nodes of an expression (ISO C99, 6.5.2.2 and 7.1.4; the Rust Reference, "External blocks").
-use Rattle.std.proofs.Common.{◌≡◌, ◌⊎◌, inl, inr, ℕ, pred, zero, Bool, true, false, not, if◌then◌else◌, ◌&&◌, ◌==◌, List, [], ◌∷◌, length, map, Option, Some, None, option_map, Result, Ok, Err, refl, sym, ap, subst, ◌∙◌}
+use Rattle.std.proofs.Common.{◌≡◌, ℕ, pred, Bool, true, false, not, if◌then◌else◌, ◌&&◌, ◌==◌, List, ◌∷◌, Option, Some, None, option_map, Ok, refl, sym, ap, subst, ◌∙◌, ⊎_elim}
 use Rattle.std.specs.List.{Contains}
-use Rattle.std.specs.Prelude.{IsSome, IfSome, bytes_eq, codes}
+use Rattle.std.specs.Prelude.{IfSome, bytes_eq, codes}
 use Rattle.cr_base.specs.declared.refusal.Place.{Place}
 use Rattle.cr_base.specs.declared.scalar.Scalar.{Scalar}
 use Rattle.cr_runs.proofs.Rules.{renamed}
 use Rattle.cr_runs.specs.Owes.{Owes}
 use Rattle.cr_runs.specs.Runs.{Ran, came, tick}
 use Rattle.cr_runs_rules.proofs.Rules.{ticks_by}
-use Rattle.cr_world.specs.Known.{KnownFunction, known_table, known_named, frees}
+use Rattle.cr_world.specs.Known.{KnownFunction, known_named, allocates, frees}
 use Rattle.cr_world.specs.World.{World, Stop, blocks_of, events_of}
 use Rattle.cx_core.specs.Compatible.{AreCompatible}
 use Rattle.cx_core.specs.Conversions.{scalar_of as c_scalar_of}
-use Rattle.cx_core.specs.Externals.{CKnown, known_as, HasSignature, IsOpaque, IsExternalType}
+use Rattle.cx_core.specs.Externals.{CKnown, HasSignature, IsOpaque, IsExternalType}
 use Rattle.cx_core.specs.Linked.{IsLinked, IsTypedOuter}
-use Rattle.cx_core.specs.Trees.{CProgram, CTypes, CTy, ty, CTyForm, void, basic, enum_type, pointer, array, record_type, function, form_of_type, unqualified, CExpr, expr, call, CExprs, no_exprs, more_exprs, CFun, COuter}
+use Rattle.cx_core.specs.Trees.{CProgram, CTypes, CTy, CTyForm, void, basic, enum_type, pointer, array, record_type, function, form_of_type, unqualified, expr, call, CExprs, no_exprs, more_exprs, CFun, COuter}
 use Rattle.cx_core.specs.Typing.{function_with, outer_with, IsTyped, IsCalleeOf, CCallee as CoreCallee}
 use Rattle.cx_mean.specs.Calls.{CCallee, external, CCalling, callee_of, callee_numbered, called_with, node_calling, type_of_callee, external_call}
 use Rattle.cx_mean.specs.Leftmost.{CRan, c_callee, c_returned}
@@ -32,12 +32,13 @@ use Rattle.lift_calls.specs.Programs.{setting_in, c_calls}
 use Rattle.lift_does.proofs.Arguments.{EachOwes, ArgsGiven}
 use Rattle.lift_does.proofs.Around.{Around, At}
 use Rattle.lift_does.proofs.CallEnds.{IsPassed, Came, Served}
-use Rattle.lift_does.proofs.CallNodes.{Serving, Serves}
+use Rattle.lift_does.proofs.CallNodes.{Serves}
 use Rattle.lift_does.proofs.CallRuns.{dropped_runs, stored_runs}
-use Rattle.lift_does.proofs.CalledFunctions.{pointer_is, code_parts, option_same, void_none, record_same, unqualified_record, unqualified_form, passed_record, some_same}
-use Rattle.lift_does.proofs.NamedCalls.{call_typed, operands_are, Visible, IsListed, listed_by}
+use Rattle.lift_does.proofs.CalledFunctions.{pointer_is, option_same, void_none, record_same, unqualified_record, unqualified_form, passed_record, some_same}
+use Rattle.lift_does.proofs.NamedCalls.{call_typed, operands_are, Visible, listed_by}
 use Rattle.lift_does.proofs.Nodes.{and_then_is}
 use Rattle.lift_does.proofs.OuterArguments.{FrontFits, OuterRan, outer_run}
+use Rattle.lift_does.proofs.OuterEffects.{unset_malloc}
 use Rattle.lift_does.proofs.OuterServes.{kinds_by, table_step}
 use Rattle.lift_does.proofs.OuterCalls.{all_leave}
 use Rattle.lift_does.proofs.OuterOpaque.{HaveKinds}
@@ -45,23 +46,22 @@ use Rattle.lift_does.proofs.OuterTypes.{OuterForm, outer_form, outer_fits}
 use Rattle.lift_does.proofs.OwnCalls.{CallsAs, with_parts}
 use Rattle.lift_does.proofs.PointedServes.{void_back, void_type, kind_in}
 use Rattle.lift_does.proofs.Runs.{same_events}
-use Rattle.lift_does.specs.Outers.{is_variadic, TakesAll, OuterItem}
-use Rattle.lift_exprs.specs.Calls.{Argument, count_of, call_of, called_by_name, called_by_symbol, is_bare, outer_called, is_malloc, outer_arguments, one_item, as_params}
+use Rattle.lift_does.specs.Outers.{is_variadic, TakesAll, AsListed, AsBare, OuterItem}
+use Rattle.lift_exprs.specs.Calls.{Argument, count_of, call_of, called_by_name, called_by_symbol, is_bare, outer_called, outer_arguments, one_item, as_params}
 use Rattle.lift_exprs.specs.Lifted.{lifted_args}
 use Rattle.lift_exprs.specs.Names.{Names, KeptFunction, function_or, type_in, params_of, result_of}
 use Rattle.lift_held.specs.Held.{is_void_form, is_void, is_record}
 use Rattle.lift_held.specs.declared.asked.Asked.{Asked}
 use Rattle.lift_stands.specs.Stands.{Images}
-use Rattle.rs_items.specs.Types.{is_record as is_passed, rust_type, rust_params, code_type, result_type}
-use Rattle.rs_mean.specs.Calls.{accepts, outer_by, outer_call}
-use Rattle.rs_mean.specs.Lookups.{outer, callee_at, symbol_of}
+use Rattle.rs_items.specs.Types.{rust_type, rust_params, code_type, result_type}
+use Rattle.rs_mean.specs.Calls.{outer_by}
+use Rattle.rs_mean.specs.Lookups.{outer, callee_at}
 use Rattle.rs_mean.specs.Run.{run_callee, call_found, run_exprs}
-use Rattle.rs_mean.specs.Scalars.{scalar_of}
 use Rattle.rs_mean.specs.Values.{Typed}
 use Rattle.rs_mean.specs.World.{takes_unit, either, fails}
 use Rattle.rs_mean.specs.declared.cause.Cause.{Cause}
 use Rattle.rs_mean.specs.declared.cause.Cause.TheVariants.{WrongCall}
-use Rattle.rs_text.specs.Tree.{Ty, Void, Tys, no_tys, more_tys, tys, OptionTy, no_ty, some_ty, option_ty, Code, Expr, exprs, OuterTree, ModuleTree}
+use Rattle.rs_text.specs.Tree.{Ty, Tys, no_tys, more_tys, tys, no_ty, some_ty, option_ty, Code, Expr, exprs, OuterTree, ModuleTree}
 
 -- ---- `free`, and what is no `malloc`
 
@@ -81,22 +81,6 @@ free_form program name row type operands (pointer to) e does served called = abs
 free_form program name row type operands (array element count) e does served called = absurd called
 free_form program name row type operands (record_type number) e does served called = absurd called
 
-first_missed : {A : Type 0} (test : Bool) (one : A) (rest : Option A) → (if test then Some one else rest) ≡ None → test ≡ false
-first_missed true one rest e = cc (e)
-first_missed false one rest e = refl
-
-no_malloc : (name : List ℕ) → known_named name ≡ None → bytes_eq name (codes "malloc") ≡ false
-unfolding known_table
-no_malloc name e = first_missed (bytes_eq name (codes "malloc")) _ _ e
-
-as_it_is : (names_of : Names) (name : List ℕ) → (names_of.has_bits ≡ false) ⊎ (known_named name ≡ None) → is_malloc names_of name ≡ false
-as_it_is names_of name (inl none) = rw (none) refl
-as_it_is names_of name (inr none) = by names_of.has_bits
-  where
-    by : (bits : Bool) → (bits && bytes_eq name (codes "malloc")) ≡ false
-    by true = no_malloc name none
-    by false = refl
-
 -- it isn't called without the parameters that its item lists
 not_bare : (kept : KeptFunction) (variadic : Bool) (args : CExprs) (names_of : Names) (next : ℕ) → TakesAll (params_of kept.ty) variadic args → is_bare kept (lifted_args names_of args next).list ≡ false
 not_bare kept variadic no_exprs names_of next takes = by (params_of kept.ty) takes
@@ -109,9 +93,6 @@ not_bare kept variadic (more_exprs first others) names_of next takes = refl
 same_item : (kept : KeptFunction) (bare : Option KeptFunction) (list : List Argument) → is_bare kept list ≡ false → outer_called kept bare list ≡ kept
 same_item kept None list is = refl
 same_item kept (Some other) list is = ap (λ (b : Bool). if b then other else kept) is
-
-none_there : {A : Type 0} → IsSome {T = KnownFunction} None → A
-none_there is = cc (is)
 
 -- ---- the type that is visible
 
@@ -133,7 +114,7 @@ module _ (x : Around) (type : CTy) (at : Place) (number : ℕ) (args : CExprs) (
   one = item.one
 
   abbrev kept : KeptFunction
-  kept = item.kept
+  kept = item.called
 
   abbrev tree : OuterTree
   tree = item.means.tree
@@ -180,20 +161,12 @@ module _ (x : Around) (type : CTy) (at : Place) (number : ℕ) (args : CExprs) (
   kind_there : is_void type ≡ false → (kind : Scalar) × (scalar_in_type (setting_in x.s) type ≡ Some kind)
   kind_there some = ((form.gives.kind (back_some some)).0, subst (λ (program : CProgram). c_scalar_of program.types (form_of_type type) ≡ Some (form.gives.kind (back_some some)).0) x.means.program (c_kind some))
 
-  item_is : Code (tys tree.params) (option_ty tree.result) ≡ code_type (is_passed form.back) Back (rust_params x.names.types form.params)
-  item_is = sym item.means.ty_is ∙ item.ty_is ∙ pointer_is x item.one.type form.back form.params form.variadic form.form_is
-
-  plain_is : code_type (is_passed form.back) Back (rust_params x.names.types form.params) ≡ Code (rust_params x.names.types form.params) (result_type false Back)
-  plain_is = ap (λ (b : Bool). code_type b Back (rust_params x.names.types form.params)) (passed_record form.back ∙ form.gives.plain)
-
-  parts : (params others : Tys) (back other : OptionTy) → Code params back ≡ Code others other → (params ≡ others) × (back ≡ other)
-  parts params others back other e = (cc (e), cc (e))
-
-  item_params : tys tree.params ≡ rust_params x.names.types form.params
-  item_params = (parts _ _ _ _ (item_is ∙ plain_is)).0
+  kept_is : item.kept.ty ≡ Code (rust_params x.names.types form.params) (result_type false Back)
+  kept_is =
+      item.ty_is ∙ pointer_is x item.one.type form.back form.params form.variadic form.form_is ∙ ap (λ (b : Bool). code_type b Back (rust_params x.names.types form.params)) (passed_record form.back ∙ form.gives.plain)
 
   item_result : option_ty tree.result ≡ result_type false Back
-  item_result = (parts _ _ _ _ (item_is ∙ plain_is)).1
+  item_result = sym (ap result_of item.means.ty_is) ∙ item.result_is ∙ ap result_of kept_is
 
   passes : is_void type ≡ false → is_record type ≡ false → IsPassed tree.result (type_in x.names type)
   passes some no_record =
@@ -224,16 +197,34 @@ module _ (x : Around) (type : CTy) (at : Place) (number : ℕ) (args : CExprs) (
   kept_params : params_of kept.ty ≡ tys tree.params
   kept_params = ap params_of item.means.ty_is
 
+  -- the item's parameters, where they are those of the function
+  listed_params : AsListed x.s item.kept item.called tree item.one args → tys tree.params ≡ rust_params x.names.types form.params
+  listed_params way = sym kept_params ∙ ap (λ (k : KeptFunction). params_of k.ty) way.same ∙ ap params_of kept_is
+
+  listed_takes : AsListed x.s item.kept item.called tree item.one args → TakesAll (tys tree.params) tree.variadic args
+  listed_takes way = subst (λ (params : Tys). TakesAll params tree.variadic args) (ap (λ (k : KeptFunction). params_of k.ty) (sym way.same) ∙ kept_params) way.takes
+
+  bare_params : AsBare x.names number item.kept item.called args → tys tree.params ≡ no_tys
+  bare_params way = sym kept_params ∙ way.no_params
+
   takes_all : TakesAll (tys tree.params) tree.variadic args
-  takes_all = subst (λ (params : Tys). TakesAll params tree.variadic args) kept_params item.takes
+  takes_all =
+      ⊎_elim (λ (way : AsListed x.s item.kept item.called tree item.one args). listed_takes way)
+      (λ (way : AsBare x.names number item.kept item.called args). subst (λ (params : Tys). TakesAll params tree.variadic args) (sym (bare_params way)) (subst (TakesAll no_tys tree.variadic) (sym way.none) tt)) item.way
+
+  listed_front : AsListed x.s item.kept item.called tree item.one args → FrontFits x args (tys tree.params)
+  listed_front way =
+      let listed = listed_by x type args visible.visible (form_of_type visible.visible) refl visible.call in
+      let variadic : tree.variadic ≡ form.variadic = way.variadic_is ∙ ap is_variadic form.form_is in
+      let params = listed_params way in
+      subst (FrontFits x args) (sym params)
+      (outer_fits x visible.visible item.one.type listed.back form.back listed.params form.params listed.variadic form.variadic args visible.compatible listed.form_is form.form_is listed.typed
+      (subst (λ (v : Bool). TakesAll (rust_params x.names.types form.params) v args) variadic (subst (λ (all : Tys). TakesAll all tree.variadic args) params (listed_takes way))))
 
   front : FrontFits x args (tys tree.params)
   front =
-      let listed = listed_by x type args visible.visible (form_of_type visible.visible) refl visible.call in
-      let variadic : tree.variadic ≡ form.variadic = item.variadic_is ∙ ap is_variadic form.form_is in
-      subst (FrontFits x args) (sym item_params)
-      (outer_fits x visible.visible item.one.type listed.back form.back listed.params form.params listed.variadic form.variadic args visible.compatible listed.form_is form.form_is listed.typed
-      (subst (λ (v : Bool). TakesAll (rust_params x.names.types form.params) v args) variadic (subst (λ (params : Tys). TakesAll params tree.variadic args) item_params takes_all)))
+      ⊎_elim (λ (way : AsListed x.s item.kept item.called tree item.one args). listed_front way)
+      (λ (way : AsBare x.names number item.kept item.called args). subst (FrontFits x args) (sym (bare_params way)) tt) item.way
 
   abbrev list : List Argument
   list = (lifted_args x.names args next).list
@@ -243,15 +234,23 @@ module _ (x : Around) (type : CTy) (at : Place) (number : ℕ) (args : CExprs) (
 
   -- ---- what is written
 
+  called_item : outer_called item.kept (x.names.bare_functions number) list ≡ item.called
+  called_item =
+      ⊎_elim
+      (λ (way : AsListed x.s item.kept item.called tree item.one args). same_item item.kept (x.names.bare_functions number) list (not_bare item.kept tree.variadic args x.names next way.takes) ∙ sym way.same)
+      (λ (way : AsBare x.names number item.kept item.called args).
+      ap (λ (bare : Option KeptFunction). outer_called item.kept bare list) way.bare_is
+      ∙ (ap (λ (all : CExprs). outer_called item.kept (Some item.called) (lifted_args x.names all next).list) way.none ∙ ap (λ (b : Bool). if not b then item.called else item.kept) way.lists)) item.way
+
   call_is : (called_by_name x.names number).call list ≡ call_of kept list
   call_is =
       ap (λ (f : Option KeptFunction). called_by_symbol x.names number (function_or f) (function_or f).symbol list) item.kept_is
-      ∙ ap (λ (s : Option (List ℕ)). called_by_symbol x.names number kept s list) item.means.symbol_is
-      ∙ ap (λ (k : KeptFunction). call_of k (outer_arguments x.names item.one.name list)) (same_item kept (x.names.bare_functions number) list (not_bare kept tree.variadic args x.names next item.takes))
-      ∙ ap (λ (b : Bool). call_of kept (if b then one_item ∷ list else list)) (as_it_is x.names item.one.name item.as_it_is)
+      ∙ ap (λ (s : Option (List ℕ)). called_by_symbol x.names number item.kept s list) item.symbol_is
+      ∙ ap (λ (k : KeptFunction). call_of k (outer_arguments x.names item.one.name list)) called_item
+      ∙ ap (λ (b : Bool). call_of kept (if b then one_item ∷ list else list)) item.as_it_is
 
   result_is : (called_by_name x.names number).result ≡ option_ty tree.result
-  result_is = ap (λ (f : Option KeptFunction). result_of (function_or f).ty) item.kept_is ∙ ap result_of item.means.ty_is
+  result_is = ap (λ (f : Option KeptFunction). result_of (function_or f).ty) item.kept_is ∙ (sym item.result_is ∙ ap result_of item.means.ty_is)
 
   abbrev source : ℕ → CRan COperand
   source = tick c (λ left. c_callee (setting_in x.s) (c_calls x.s) type calling calling.called.callee c left)
@@ -265,12 +264,12 @@ module _ (x : Around) (type : CTy) (at : Place) (number : ℕ) (args : CExprs) (
       ap (λ (name : List ℕ). tick w (λ left. outer_by (known_named name) tree ran.values w left) k) (sym item.means.named)
       ∙ ap (λ (b : Bool). either b (takes_unit (run_callee x.frame.bodies ran.values (outer tree))) (fails WrongCall) w k) (sym ran.accepted)
 
-  no_bytes : (known_named item.one.name ≡ known_named item.one.name) → IsSome (known_named item.one.name) → last.in_bytes ≡ false
-  no_bytes same some = by item.as_it_is some
+  no_bytes : (row : KnownFunction) → known_named item.one.name ≡ Some row → row.does ≡ allocates false → last.in_bytes ≡ false
+  no_bytes row e does = here.program.bytes ∙ (sym x.means.bits ∙ no_bits x.names.has_bits (bytes_eq item.one.name (codes "malloc")) (unset_malloc item.one.name row e does) item.as_it_is)
     where
-      by : (x.names.has_bits ≡ false) ⊎ (known_named item.one.name ≡ None) → IsSome (known_named item.one.name) → last.in_bytes ≡ false
-      by (inl none) is = here.program.bytes ∙ sym x.means.bits ∙ none
-      by (inr none) is = none_there (subst (λ (found : Option KnownFunction). IsSome found) none is)
+      no_bits : (bits test : Bool) → test ≡ true → (bits && test) ≡ false → bits ≡ false
+      no_bits false test is none = refl
+      no_bits true test is none = let clash : true ≡ false = sym is ∙ none in cc (clash)
 
   frees_void : (row : KnownFunction) → known_named item.one.name ≡ Some row → row.does ≡ frees → tree.result ≡ None
   frees_void row e does =
@@ -287,7 +286,7 @@ module _ (x : Around) (type : CTy) (at : Place) (number : ℕ) (args : CExprs) (
       (ticks_by events_of events_of (Came x None tree.result type last c w) x.units x.steps c w (λ left. c_returned type calling.marks c left (external_call (setting_in x.s) calling.called item.one c)) (λ left. outer_by (known_named item.one.name) tree ran.values w left)
       (same_events last c w here.worlds)
       (table_step x type last c w here calling item.one calls.callee_is calls.type_is typed_call tree passes plain nothing kind_there ran.values operands_now kinds item.means.named (pred x.units) (pred x.steps) (known_named item.one.name) refl
-      (no_bytes refl) frees_void (all_leave x type last c w here calling item.one calls.callee_is calls.type_is typed_call tree.result passes plain)))
+      no_bytes frees_void (all_leave x type last c w here calling item.one calls.callee_is calls.type_is typed_call tree.result passes plain)))
 
   pub outer_serves : Served x None type (called_by_name x.names number).result ((called_by_name x.names number).call list) source last c w
   outer_serves =

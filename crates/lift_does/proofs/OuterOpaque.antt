@@ -1,27 +1,23 @@
 -- A call of a function whose effect isn't known is the same event in the crate, and has the same answer (ISO C99, 5.1.2.3p6; the Rust Reference, "External blocks").
-use Rattle.std.proofs.Common.{◌≡◌, ℕ, ℤ, Bool, true, false, List, [], ◌∷◌, length, Option, Some, None, Result, Ok, Err, refl, sym, ap, subst, ◌∙◌}
+use Rattle.std.proofs.Common.{◌≡◌, ℕ, ℤ, Bool, true, false, List, [], ◌∷◌, Option, Some, None, Result, Ok, Err, refl, sym, ap, subst, ◌∙◌}
 use Rattle.cr_base.specs.Scalar.{converted}
 use Rattle.cr_base.specs.declared.scalar.Scalar.{Scalar}
 use Rattle.cr_base.specs.declared.scalar.Scalar.TheVariants as scalars
 use Rattle.cr_runs.specs.Runs.{Ran, came, bind}
 use Rattle.cr_world.specs.Texts.{text_of}
 use Rattle.cr_world.specs.World.{World, Stop, Got, blocks_of, answered}
-use Rattle.cx_core.specs.Conversions.{scalar_of as c_scalar_of}
-use Rattle.cx_core.specs.Trees.{CProgram, CTy, COuter, form_of_type, CExprs, no_exprs, more_exprs, type_of}
-use Rattle.cx_mean.specs.Calls.{CCalling, external, argument_of as c_argument_of, arguments, number_argument, text_argument, answer_as as c_answer_as, with_answer}
-use Rattle.cx_mean.specs.Operands.{CWhy, CFault, CStop, CValue, scalar, missing, COperand, scalar_value}
+use Rattle.cx_mean.specs.Calls.{argument_of as c_argument_of, arguments, number_argument, text_argument}
+use Rattle.cx_mean.specs.Operands.{CWhy, CValue, COperand, scalar_value}
 use Rattle.cx_mean.specs.Settings.{CSetting, scalar_in_type}
 use Rattle.cx_mean.specs.State.{values_of_args}
-use Rattle.cx_mean.specs.Values.{number_in}
 use Rattle.ext_calls.specs.declared.call.Arg.{Arg}
 use Rattle.ext_calls.specs.declared.call.Arg.TheVariants.{Whole as WholeArg, Text as TextArg}
 use Rattle.ext_calls.specs.declared.call.Call.{Call}
 use Rattle.lift_calls.specs.Calls.{IsHanded, AreHanded}
-use Rattle.lift_calls.specs.Programs.{setting_in}
 use Rattle.lift_does.proofs.Nodes.{and_then_is}
 use Rattle.lift_does.proofs.Operands.{scalar_is}
 use Rattle.lift_does.proofs.Types.{IsNumberKind}
-use Rattle.lift_forms_laws.proofs.Runs.{looks_is, pure_is}
+use Rattle.lift_forms_laws.proofs.Runs.{looks_is}
 use Rattle.lift_stands.proofs.Forms.{number_below}
 use Rattle.lift_stands.specs.Stands.{Images, ValueBelow, StandsFor}
 use Rattle.lift_stands_known.proofs.Texts.{value_text}

@@ -1,35 +1,29 @@
 -- A call of an external function is written for what C does (ISO C99, 6.5.2.2; the Rust Reference, "Call expressions" and "External blocks").
-use Rattle.std.proofs.Common.{◌≡◌, inl, inr, ℕ, pred, zero, suc, ℤ, length, Bool, true, false, if◌then◌else◌, List, [], ◌∷◌, map, Option, Some, None, Result, Ok, Err, refl, sym, ap, subst, ◌∙◌}
-use Rattle.std.specs.Prelude.{IsSome, IfSome}
-use Rattle.cr_base.specs.declared.refusal.Place.{Place}
+use Rattle.std.proofs.Common.{◌≡◌, ℕ, ℤ, length, Bool, true, false, List, [], ◌∷◌, map, Option, Some, None, Result, Ok, Err, refl, sym, ap, subst, ◌∙◌}
 use Rattle.cr_base.specs.Scalar.{converted}
 use Rattle.cr_base.specs.declared.scalar.Scalar.{Scalar}
 use Rattle.cr_base.specs.declared.scalar.Scalar.TheVariants as scalars
 use Rattle.ext_calls.specs.declared.call.Arg.{Arg}
 use Rattle.cr_runs.proofs.Rules.{renamed}
-use Rattle.cr_runs.specs.Owes.{Owes}
-use Rattle.cr_runs.specs.Runs.{Ran, came, tick}
-use Rattle.cr_runs_rules.proofs.Rules.{ticks_by}
-use Rattle.cr_world.specs.Known.{KnownFunction, known_named, frees, Effect, effect}
+use Rattle.cr_runs.specs.Runs.{Ran, came}
+use Rattle.cr_world.specs.Known.{KnownFunction, known_named, allocates, frees, effect}
 use Rattle.cr_world.specs.World.{World, Stop, Got, blocks_of, events_of, answered}
 use Rattle.cx_core.specs.Conversions.{scalar_of as c_scalar_of}
-use Rattle.cx_core.specs.Linked.{IsLinked, IsTypedOuter}
-use Rattle.cx_core.specs.Trees.{CProgram, CTy, COuter, CExprs, no_exprs, more_exprs, form_of_type, type_of}
-use Rattle.cx_mean.specs.Calls.{external, CCalling, COutcome, returns_value, wrong_at, values_of, by_effect, arguments, answer_as as c_answer_as, with_answer, known_call as c_known_call, opaque_call as c_opaque_call, call_by_table, external_call}
-use Rattle.cx_mean.specs.Leftmost.{CRan, c_returned}
-use Rattle.cx_mean.specs.Operands.{CWhy, CFault, CStop, stops, CValue, scalar, missing, COperand}
+use Rattle.cx_core.specs.Trees.{CProgram, CTy, COuter, CExprs, no_exprs, more_exprs, form_of_type}
+use Rattle.cx_mean.specs.Calls.{external, CCalling, COutcome, returns_value, wrong_at, values_of, by_effect, arguments, answer_as as c_answer_as, with_answer, known_call as c_known_call, opaque_call as c_opaque_call, call_by_table}
+use Rattle.cx_mean.specs.Leftmost.{c_returned}
+use Rattle.cx_mean.specs.Operands.{CWhy, CFault, CStop, stops, COperand}
 use Rattle.cx_mean.specs.Settings.{scalar_in_type}
 use Rattle.cx_mean.specs.State.{values_of_args}
 use Rattle.cx_typed_leftmost.proofs.Steps.{AreOperandsOf}
-use Rattle.cx_typed_work.specs.Calls.{IsTypedCall, IsReturned}
+use Rattle.cx_typed_work.specs.Calls.{IsTypedCall}
 use Rattle.lift_calls.specs.Calls.{is_place, AreHanded}
 use Rattle.lift_calls.specs.Programs.{setting_in}
 use Rattle.lift_does.proofs.Around.{Around, At}
-use Rattle.lift_does.proofs.CallEnds.{IsPassed, Came}
+use Rattle.lift_does.proofs.CallEnds.{IsPassed}
 use Rattle.lift_does.proofs.OuterArguments.{HaveScalars}
-use Rattle.lift_does.proofs.OuterCalls.{given_value, scalar_passed, values_below, Step, Leaves, all_leave, scalar_step, none_step, bad_step, known_step, effect_target}
+use Rattle.lift_does.proofs.OuterCalls.{given_value, scalar_passed, values_below, Step, Leaves, scalar_step, none_step, bad_step, known_step}
 use Rattle.lift_does.proofs.OuterOpaque.{HaveKinds, arguments_same, answer_comes, none_comes, opaque_comes}
-use Rattle.lift_does.proofs.Runs.{same_events}
 use Rattle.lift_does.proofs.Types.{IsNumberKind}
 use Rattle.lift_exprs.specs.Names.{type_in}
 use Rattle.lift_forms_laws.proofs.Runs.{seq_is, looks_is}
@@ -40,14 +34,10 @@ use Rattle.mem_bytes.specs.Access.{and_then}
 use Rattle.mem_bytes.specs.Coding.{IsValueOf}
 use Rattle.mem_bytes.specs.declared.value.Value.{Value}
 use Rattle.mem_bytes.specs.declared.value.Value.TheVariants.{Whole}
-use Rattle.rs_mean.specs.Calls.{accepts, value_in, takes_effect, known_call, held_now, outer_by, outer_call, opaque_call, arguments_of, answer_as}
-use Rattle.rs_mean.specs.Lookups.{outer, symbol_of}
-use Rattle.rs_mean.specs.Run.{run_callee, call_found}
-use Rattle.rs_mean.specs.Scalars.{scalar_of}
+use Rattle.rs_mean.specs.Calls.{value_in, takes_effect, known_call, held_now, outer_by, opaque_call, arguments_of, answer_as}
+use Rattle.rs_mean.specs.Lookups.{symbol_of}
 use Rattle.rs_mean.specs.Values.{Typed, typed}
-use Rattle.rs_mean.specs.World.{takes_unit, either, fails}
 use Rattle.rs_mean.specs.declared.cause.Cause.{Cause}
-use Rattle.rs_mean.specs.declared.cause.Cause.TheVariants.{WrongCall}
 use Rattle.rs_text.specs.Tree.{Ty, OuterTree}
 
 pub kinds_by : (x : Around) (args : CExprs) (operands : List COperand) (passed : List Typed) → AreOperandsOf x.home args operands → HaveScalars x args passed → HaveKinds (setting_in x.s) operands passed
@@ -129,17 +119,17 @@ module _ (x : Around) (type : CTy) (images : Images) (c w : World) (here : At x 
   known_runs : (row : KnownFunction) (left : ℕ) → known_call row tree.result passed w left ≡ takes_effect tree.result (effect row.does (map value_in passed) w.held) w left
   known_runs row left = seq_is held_now (λ held. takes_effect tree.result (effect row.does (map value_in passed) held)) w left w.held (looks_is (λ held. Ok held) w left w.held refl)
 
-  values_step : (n m : ℕ) (row : KnownFunction) (no_bytes : images.in_bytes ≡ false) (frees_void : row.does ≡ frees → tree.result ≡ None) (outcome : Result (List Value) CWhy) → values_of calling.called.args ≡ outcome →
+  values_step : (n m : ℕ) (row : KnownFunction) (no_bytes : row.does ≡ allocates false → images.in_bytes ≡ false) (frees_void : row.does ≡ frees → tree.result ≡ None) (outcome : Result (List Value) CWhy) → values_of calling.called.args ≡ outcome →
       LeavesSo (and_then (wrong_at calling.called.place outcome) (λ list. by_effect calling.called.place c (effect row.does list c.held))) →
       StepTo n m (and_then (wrong_at calling.called.place outcome) (λ list. by_effect calling.called.place c (effect row.does list c.held))) (λ left. takes_effect tree.result (effect row.does (map value_in passed) w.held) w left)
   values_step n m row no_bytes frees_void (Err why) e leaves = bad_step x type images c w here calling one callee_is type_is typed_call tree.result passes plain n m (stops why calling.called.place) _
   values_step n m row no_bytes frees_void (Ok list) e leaves =
-      known_step x type images c w here calling one callee_is type_is typed_call tree.result passes plain n m no_bytes row.does frees_void list (map value_in passed) (values_below images (blocks_of w) calling.called.args list passed e handed) calling.called.place leaves
+      known_step x type images c w here calling one callee_is type_is typed_call tree.result passes plain n m row.does no_bytes frees_void list (map value_in passed) (values_below images (blocks_of w) calling.called.args list passed e handed) calling.called.place leaves
 
-  pub table_step : (n m : ℕ) (found : Option KnownFunction) → known_named one.name ≡ found → (IsSome found → images.in_bytes ≡ false) → ((row : KnownFunction) → found ≡ Some row → row.does ≡ frees → tree.result ≡ None) → LeavesSo (call_by_table (setting_in x.s) calling.called one c found) →
+  pub table_step : (n m : ℕ) (found : Option KnownFunction) → known_named one.name ≡ found → ((row : KnownFunction) → found ≡ Some row → row.does ≡ allocates false → images.in_bytes ≡ false) → ((row : KnownFunction) → found ≡ Some row → row.does ≡ frees → tree.result ≡ None) → LeavesSo (call_by_table (setting_in x.s) calling.called one c found) →
       StepTo n m (call_by_table (setting_in x.s) calling.called one c found) (λ left. outer_by found tree passed w left)
   table_step n m None e no_bytes frees_void leaves = opaque_step n m leaves
   table_step n m (Some row) e no_bytes frees_void leaves =
       renamed events_of events_of _ n m (λ left. c_returned type calling.marks c left (c_known_call calling.called row.does c)) (λ left. c_returned type calling.marks c left (c_known_call calling.called row.does c))
       (λ left. takes_effect tree.result (effect row.does (map value_in passed) w.held) w left) (λ left. outer_by (Some row) tree passed w left) (λ k. refl) (λ k. sym (known_runs row k))
-      (values_step n m row (no_bytes refl) (frees_void row refl) (values_of calling.called.args) refl leaves)
+      (values_step n m row (no_bytes row refl) (frees_void row refl) (values_of calling.called.args) refl leaves)

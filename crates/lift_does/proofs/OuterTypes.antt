@@ -1,5 +1,5 @@
 -- The types of external functions: what they give is a scalar or nothing, and their items take what is passed (ISO C99, 6.5.2.2p2, 7.20.3, 7.20.4 and 7.21).
-use Rattle.std.proofs.Common.{◌≡◌, inl, inr, ℕ, Bool, true, false, if◌then◌else◌, List, [], ◌∷◌, Option, Some, None, refl, sym, ap, subst, ◌∙◌}
+use Rattle.std.proofs.Common.{◌≡◌, inl, inr, ℕ, Bool, true, false, if◌then◌else◌, List, [], ◌∷◌, Option, Some, None, refl, sym, subst}
 use Rattle.std.proofs.lemmas.Bool.{and_parts}
 use Rattle.std.specs.Bool.{beq}
 use Rattle.std.specs.List.{find}
@@ -7,7 +7,7 @@ use Rattle.cr_base.specs.declared.scalar.Scalar.{Scalar}
 use Rattle.cx_core.specs.Compatible.{AreCompatible, forms_agree, lists_agree, agree, in_pairs}
 use Rattle.cx_core.specs.Conversions.{scalar_of as c_scalar_of}
 use Rattle.cx_core.specs.Externals.{CKnown, known_functions, known_as, HasSignature, IsOpaqueResult, IsOpaque, IsExternalType}
-use Rattle.cx_core.specs.Trees.{CProgram, CTypes, CTy, ty, CTyForm, void, basic, enum_type, pointer, array, record_type, function, form_of_type, unqualified, CParams, unlisted, listed, CTys, no_types, more_types, CExpr, CExprs, no_exprs, more_exprs, type_of}
+use Rattle.cx_core.specs.Trees.{CTypes, CTy, ty, CTyForm, void, basic, enum_type, pointer, array, record_type, function, form_of_type, unqualified, CParams, unlisted, listed, CTys, no_types, more_types, CExprs, no_exprs, more_exprs, type_of}
 use Rattle.cx_core.specs.Typing.{AreArguments, AreArgumentsOf}
 use Rattle.cx_typed_values.proofs.ScalarKinds.{integer_kind}
 use Rattle.cx_typed_work.proofs.AlikeValues.{forms_meet}
@@ -18,7 +18,6 @@ use Rattle.lift_does.proofs.Params.{param_fits}
 use Rattle.lift_does.specs.Outers.{TakesAll}
 use Rattle.lift_held.specs.Held.{is_void, is_record}
 use Rattle.rs_items.specs.Types.{rust_types, rust_params}
-use Rattle.rs_text.specs.Tree.{Tys, no_tys, more_tys}
 
 -- ---- results
 

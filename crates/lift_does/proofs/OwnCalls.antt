@@ -1,5 +1,5 @@
 -- A call of a function that the program defines: C's step and its run beside the call of the crate's function (ISO C99, 6.5.2.2; the Rust Reference, "Call expressions").
-use Rattle.std.proofs.Common.{◌≡◌, inl, inr, ℕ, zero, suc, Bool, true, false, if◌then◌else◌, ◌==◌, List, [], ◌∷◌, ◌++◌, length, map, Option, Some, None, Result, Ok, Err, refl, sym, ap, subst, ◌∙◌, arith}
+use Rattle.std.proofs.Common.{◌≡◌, ℕ, zero, suc, Bool, true, false, if◌then◌else◌, ◌==◌, List, [], ◌∷◌, length, Option, Some, None, Result, Ok, Err, refl, sym, ap, subst, ◌∙◌, arith}
 use Rattle.std.proofs.lemmas.Bool.Decides.{nat_tests}
 use Rattle.std.specs.List.{Contains}
 use Rattle.cr_base.specs.declared.refusal.Place.{Place}
@@ -12,7 +12,7 @@ use Rattle.cx_core.specs.Compatible.{AreCompatible}
 use Rattle.cx_core.specs.Linked.{IsLinked, home_of}
 use Rattle.cx_core.specs.Trees.{CProgram, CTy, CFun, function, unqualified, form_of_type}
 use Rattle.cx_core.specs.Typing.{function_with}
-use Rattle.cx_mean.specs.Calls.{CCallee, defined, external, CCalled, CCalling, is_missing, all_given, counted, called_with, type_of_callee}
+use Rattle.cx_mean.specs.Calls.{CCallee, defined, external, CCalling, is_missing, all_given, counted, called_with, type_of_callee}
 use Rattle.cx_mean.specs.Leftmost.{CRan, gives_operand, c_callee}
 use Rattle.cx_mean.specs.Marks.{Marks}
 use Rattle.cx_mean.specs.Operands.{breaks, CWhy, CValue, scalar, cells, names, designates, designates_bits, missing, COperand}
@@ -29,7 +29,7 @@ use Rattle.cx_typed_work.specs.Calls.{IsCalleeIn, IsTypedCall, IsReturned}
 use Rattle.cx_typed_work.specs.Scenes.{IsTypedMemory}
 use Rattle.lift_calls.proofs.Nodes.{call_node_owes}
 use Rattle.lift_calls.specs.Calls.{is_place, GivesBack, AreHanded, ResultHanded, CallMeets, CallStands, result_laid}
-use Rattle.lift_calls.specs.Programs.{setting_in, c_calls, crate_bodies}
+use Rattle.lift_calls.specs.Programs.{setting_in, c_calls}
 use Rattle.lift_does.proofs.Around.{Around, scope, At}
 use Rattle.lift_does.proofs.CallEnds.{Came}
 use Rattle.lift_does.proofs.Nodes.{and_then_is}
@@ -38,7 +38,6 @@ use Rattle.lift_does.specs.Agree.{FunctionMeans}
 use Rattle.lift_exprs.specs.Names.{KeptFunction}
 use Rattle.lift_stands.specs.Stands.{Images}
 use Rattle.lift_stands_values.specs.Given.{align_or, align_in}
-use Rattle.mem_bytes.specs.Access.{and_then}
 use Rattle.mem_bytes.specs.Memory.{Blocks}
 use Rattle.mem_bytes.specs.declared.value.Ptr.{Ptr}
 use Rattle.rs_mean.specs.Calls.{accepts}

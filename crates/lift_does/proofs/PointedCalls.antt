@@ -1,38 +1,32 @@
 -- Calls by a pointer to a function (ISO C99, 6.5.2.2; the Rust Reference, "Call expressions").
-use Rattle.std.proofs.Common.{◌≡◌, inl, inr, ℕ, suc, Bool, true, false, if◌then◌else◌, ◌&&◌, ◌==◌, List, [], ◌∷◌, ◌++◌, length, map, Option, Some, None, Result, Ok, Err, refl, sym, ap, subst, ◌∙◌}
+use Rattle.std.proofs.Common.{◌≡◌, inl, ℕ, Bool, true, false, if◌then◌else◌, List, ◌∷◌, length, Option, Some, None, Result, Ok, Err, refl, sym, ap, subst, ◌∙◌}
 use Rattle.std.proofs.lemmas.Bool.{and_parts}
 use Rattle.std.specs.Bool.{beq}
 use Rattle.std.specs.Prelude.{IsSome}
-use Rattle.cr_base.specs.declared.layout.Laid.{Laid}
 use Rattle.cr_base.specs.declared.refusal.Place.{Place}
 use Rattle.cr_base.specs.declared.rule.URule.TheVariants.{U13}
 use Rattle.cr_base.specs.declared.scalar.Scalar.{Scalar}
 use Rattle.cr_base.specs.declared.scalar.Scalar.TheVariants as scalars
-use Rattle.cr_runs.proofs.Rules.{pieces, values, renamed, bind_came}
-use Rattle.cr_runs.specs.Owes.{Owes}
-use Rattle.cr_runs.specs.Runs.{Ran, came, bind, tick}
-use Rattle.cr_world.specs.World.{World, Stop, blocks_of, events_of}
+use Rattle.cr_world.specs.World.{World, blocks_of}
 use Rattle.cx_core.specs.Compatible.{AreCompatible, forms_agree, lists_agree, agree, in_pairs}
 use Rattle.cx_core.specs.Conversions.{scalar_of as c_scalar_of}
-use Rattle.cx_core.specs.Linked.{IsLinked, home_of}
 use Rattle.cx_core.specs.Statements.{AreParamsOf}
-use Rattle.cx_core.specs.Trees.{CProgram, CTypes, CTy, ty, CTyForm, void, basic, enum_type, pointer, array, record_type, function, form_of_type, unqualified, CParams, unlisted, listed, CTys, no_types, more_types, CExpr, expr, call_by, CExprs, no_exprs, more_exprs, CFun, COuter, type_of}
+use Rattle.cx_core.specs.Trees.{CProgram, CTypes, CTy, ty, CTyForm, void, basic, enum_type, pointer, array, record_type, function, form_of_type, CParams, unlisted, listed, CTys, no_types, more_types, CExpr, expr, call_by, CExprs, no_exprs, more_exprs, CFun, type_of}
 use Rattle.cx_core.specs.Typing.{CHome, function_with as c_function_with, outer_with, IsTyped, AreArgumentsOf, AreArguments, IsCallOf, IsCallBy}
 use Rattle.cx_mean.proofs.GoodPairs.{has_good_set}
 use Rattle.cx_mean.proofs.KeptNodes.{IfGiven}
-use Rattle.cx_mean.specs.Calls.{CCallee, defined, external, CCalling, callee_of, callee_numbered, callee_by, by_type, called_with, node_calling}
-use Rattle.cx_mean.specs.Leftmost.{CRan, c_callee}
-use Rattle.cx_mean.specs.Operands.{breaks, CWhy, CValue, scalar, cells, names, designates, designates_bits, missing, COperand, scalar_value, united_operands}
-use Rattle.cx_mean.specs.Settings.{setting_of, are_compatible, extent_in}
-use Rattle.cx_typed_leftmost.proofs.Steps.{AreOperandsOf, needs_typed, needs_asks, IsCallAs, call_leaves}
+use Rattle.cx_mean.specs.Calls.{CCallee, defined, CCalling, callee_of, callee_numbered, callee_by, by_type, called_with, node_calling}
+use Rattle.cx_mean.specs.Operands.{breaks, CWhy, scalar, COperand, scalar_value, united_operands}
+use Rattle.cx_mean.specs.Settings.{setting_of, are_compatible}
+use Rattle.cx_typed_leftmost.proofs.Steps.{needs_typed, needs_asks, IsCallAs, call_leaves}
 use Rattle.cx_typed_work.specs.Operands.{IsOperandOf}
 use Rattle.cx_typed_work.specs.Scenes.{IsLeading}
-use Rattle.lift_calls.specs.Programs.{setting_in, c_calls}
+use Rattle.lift_calls.specs.Programs.{setting_in}
 use Rattle.lift_does.proofs.Arguments.{ArgsGiven}
 use Rattle.lift_does.proofs.ArgumentsRun.{ParamsFit}
 use Rattle.lift_does.proofs.Around.{Around, scope, At}
 use Rattle.lift_does.proofs.CalledFunctions.{args_count, none_left, empty_is, none_held}
-use Rattle.lift_does.proofs.NamedCalls.{operands_are, operands_count, IsListed, listed_by}
+use Rattle.lift_does.proofs.NamedCalls.{operands_are}
 use Rattle.lift_does.proofs.Nodes.{and_then_is}
 use Rattle.lift_does.proofs.Operands.{scalar_is, scalar_in}
 use Rattle.lift_does.proofs.OwnCalls.{CallsAs, with_parts}

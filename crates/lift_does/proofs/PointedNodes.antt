@@ -1,5 +1,5 @@
 -- Calls by a pointer, as nodes of an expression: the pointer is evaluated in front of the arguments, and is what it was behind them (ISO C99, 6.5.2.2p10).
-use Rattle.std.proofs.Common.{◌≡◌, inl, ℕ, ◌≤◌, Bool, true, false, ◌||◌, List, [], ◌∷◌, ◌++◌, map, Option, Some, None, Result, Ok, Err, refl, sym, ap, subst, ◌∙◌, append_assoc, arith}
+use Rattle.std.proofs.Common.{◌≡◌, inl, ℕ, ◌≤◌, Bool, true, ◌||◌, List, ◌∷◌, ◌++◌, map, Some, Result, Ok, Err, refl, sym, subst, append_assoc, arith}
 use Rattle.cr_base.specs.declared.refusal.Place.{Place}
 use Rattle.cr_runs.specs.Runs.{bind, tick}
 use Rattle.cr_world.specs.World.{World}
@@ -9,18 +9,18 @@ use Rattle.cx_mean.specs.Calls.{CCalling, node_calling}
 use Rattle.cx_mean.specs.Leftmost.{CRan, c_callee, c_call, c_values}
 use Rattle.cx_mean.specs.Operands.{CWhy, COperand, united_operands}
 use Rattle.lift_calls.specs.Programs.{setting_in, c_calls}
-use Rattle.lift_does.proofs.Arguments.{EachOwes, ArgsGiven, ArgsDid, args_owe}
+use Rattle.lift_does.proofs.Arguments.{EachOwes, ArgsDid, args_owe}
 use Rattle.lift_does.proofs.Around.{Around, scope, At, DidOf, OweAs, value_in}
 use Rattle.lift_does.proofs.CallEnds.{NodeCame}
 use Rattle.lift_does.proofs.CallNodes.{Serving, Reaches, node_did, call_owes}
 use Rattle.lift_does.proofs.Lasting.{no_either, no_conflict}
-use Rattle.lift_does.proofs.Nodes.{and_then_is, united_more, GivesUsed, OneDid, one_owes}
+use Rattle.lift_does.proofs.Nodes.{and_then_is, united_more, OneDid, one_owes}
 use Rattle.lift_does.proofs.PointedServes.{pointed_serves, pointed_serves_at}
 use Rattle.lift_does.proofs.Reaching.{reached_then, temporaries_stay}
 use Rattle.lift_does.proofs.Runs.{step_owes, same_events}
 use Rattle.lift_does.proofs.Unary.{ExprOwes}
 use Rattle.lift_does.specs.Does.{is_fixed, IsAsked}
-use Rattle.lift_exprs.specs.Calls.{Argument, Called, Arguments, called_by_pointer}
+use Rattle.lift_exprs.specs.Calls.{Called, Arguments, called_by_pointer}
 use Rattle.lift_exprs.specs.Lifted.{lifted, lifted_args, operand_of, joined_to}
 use Rattle.lift_exprs.specs.Names.{type_in}
 use Rattle.lift_exprs.specs.Written.{Written}

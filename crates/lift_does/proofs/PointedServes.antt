@@ -1,18 +1,17 @@
 -- A call by a pointer is written for what C does, with the types of the pointer (ISO C99, 6.5.2.2; the Rust Reference, "Call expressions").
-use Rattle.std.proofs.Common.{◌≡◌, inl, inr, ℕ, suc, Bool, true, false, if◌then◌else◌, ◌&&◌, ◌==◌, List, [], ◌∷◌, length, map, Option, Some, None, Ok, refl, sym, ap, subst, ◌∙◌}
+use Rattle.std.proofs.Common.{◌≡◌, ℕ, Bool, true, false, if◌then◌else◌, ◌&&◌, List, ◌∷◌, length, map, Option, Some, None, Ok, refl, sym, ap, subst, ◌∙◌}
 use Rattle.cr_base.specs.declared.layout.Laid.{Laid}
 use Rattle.cr_base.specs.declared.refusal.Place.{Place}
 use Rattle.cr_base.specs.declared.scalar.Scalar.{Scalar}
 use Rattle.cr_runs.proofs.Rules.{pieces, values, renamed, bind_came}
-use Rattle.cr_runs.specs.Owes.{Owes}
-use Rattle.cr_runs.specs.Runs.{Ran, came, bind, tick}
-use Rattle.cr_world.specs.World.{World, Stop, blocks_of, events_of}
-use Rattle.cx_core.specs.Compatible.{AreCompatible, forms_agree, in_pairs}
+use Rattle.cr_runs.specs.Runs.{came, bind, tick}
+use Rattle.cr_world.specs.World.{World, blocks_of, events_of}
+use Rattle.cx_core.specs.Compatible.{AreCompatible, in_pairs}
 use Rattle.cx_core.specs.Conversions.{scalar_of as c_scalar_of}
 use Rattle.cx_core.specs.Linked.{IsLinked, home_of}
-use Rattle.cx_core.specs.Trees.{CProgram, CTy, ty, CTyForm, void, basic, enum_type, pointer, array, record_type, function, form_of_type, unqualified, CExpr, expr, call_by, CExprs, CFun, type_of}
+use Rattle.cx_core.specs.Trees.{CProgram, CTy, ty, void, basic, enum_type, pointer, array, record_type, function, form_of_type, unqualified, CExpr, expr, call_by, CExprs, CFun, type_of}
 use Rattle.cx_core.specs.ValidTypes.{IsTypeIn, IsResultForm, AreTypes}
-use Rattle.cx_core.specs.Typing.{function_with as c_function_with, IsTyped}
+use Rattle.cx_core.specs.Typing.{IsTyped}
 use Rattle.cx_mean.specs.Calls.{defined, CCalling, node_calling}
 use Rattle.cx_mean.specs.Leftmost.{CRan, c_callee}
 use Rattle.cx_mean.specs.Operands.{CValue, scalar, cells, names, designates, designates_bits, missing, COperand}
@@ -27,19 +26,18 @@ use Rattle.cx_typed_work.specs.Operands.{IsOperandOf}
 use Rattle.lift_calls.specs.Calls.{ResultPlace, type_in as type_of_given, IsOfItsType, GivesBack, AreHanded, ResultHanded, result_laid}
 use Rattle.lift_calls.specs.Programs.{setting_in, c_calls}
 use Rattle.lift_does.proofs.Arguments.{ArgsGiven}
-use Rattle.lift_does.proofs.ArgumentsRun.{ParamsFit, ArgsRun, args_run}
-use Rattle.lift_does.proofs.Around.{Around, scope, At}
+use Rattle.lift_does.proofs.ArgumentsRun.{ArgsRun, args_run}
+use Rattle.lift_does.proofs.Around.{Around, At}
 use Rattle.lift_does.proofs.CallEnds.{IsPassed, Came, Served}
 use Rattle.lift_does.proofs.CallRuns.{pointed_run, dropped_by_runs, stored_by_runs}
-use Rattle.lift_does.proofs.CalledFunctions.{args_count, fits_enough, fits_one_more, pointer_is, item_params, item_passed, item_is, code_parts, function_typed, no_result_laid, of_record, result_laid_is, result_kind, void_none, record_same, unqualified_record, unqualified_form, passed_record, some_same, option_same}
+use Rattle.lift_does.proofs.CalledFunctions.{fits_enough, fits_one_more, pointer_is, item_params, item_passed, item_is, code_parts, function_typed, no_result_laid, of_record, result_laid_is, result_kind, void_none, record_same, passed_record, some_same, option_same}
 use Rattle.lift_does.proofs.NamedCalls.{operands_are, operands_count, IsListed, listed_by}
 use Rattle.lift_does.proofs.Nodes.{GivesUsed}
 use Rattle.lift_does.proofs.OwnCalls.{CallsAs, params_count, any_align, gives_result, runs_function, result_alike, stands, crate_run, node_owes}
 use Rattle.lift_does.proofs.PointedCalls.{call_typed, pointed, PointerCalls, pointer_calls, PointerFits, pointer_fits}
 use Rattle.lift_does.proofs.PointedTypes.{tys_alike, lists_alike, all_accepted, have_kinds, forms_alike}
 use Rattle.lift_does.specs.Agree.{FunctionMeans}
-use Rattle.lift_does.specs.Gives.{GivesOperand}
-use Rattle.lift_exprs.specs.Calls.{Argument, Called, called_by_pointer, call_through, call_as, as_params, are_enough, result_argument}
+use Rattle.lift_exprs.specs.Calls.{Argument, Called, called_by_pointer, call_as, as_params, are_enough, result_argument}
 use Rattle.lift_exprs.specs.Lifted.{lifted_args, operand_of}
 use Rattle.lift_exprs.specs.Names.{KeptFunction, type_in, params_of, result_of}
 use Rattle.lift_forms.specs.Given.{Given}
@@ -52,20 +50,18 @@ use Rattle.lift_held.specs.Held.{is_void, is_record}
 use Rattle.lift_stands.proofs.Forms.{function_below}
 use Rattle.lift_stands.specs.Stands.{Images, ValueBelow}
 use Rattle.lift_stands_values.specs.Given.{align_or, align_in}
-use Rattle.mem_bytes.specs.Coding.{IsValueOf}
 use Rattle.mem_bytes.specs.Memory.{Blocks}
 use Rattle.mem_bytes.specs.declared.value.Ptr.{Ptr}
 use Rattle.mem_bytes.specs.declared.value.Value.{Value}
 use Rattle.mem_bytes.specs.declared.value.Value.TheVariants.{Object, Code as Function}
-use Rattle.rs_items.specs.Types.{is_record as is_passed, rust_type, rust_params, with_result, result_type, code_type}
+use Rattle.rs_items.specs.Types.{is_record as is_passed, rust_type, rust_params, with_result, result_type}
 use Rattle.rs_mean.specs.Calls.{accepts}
 use Rattle.rs_mean.specs.Lookups.{own as own_callee, own_signature, callee_at, function_with}
 use Rattle.rs_mean.specs.Run.{run_expr, run_exprs, called_as, params_alike, results_alike, retyped}
 use Rattle.rs_mean.specs.Scalars.{integer_scalar, scalar_of, alike}
 use Rattle.rs_mean.specs.Values.{Typed, typed}
 use Rattle.rs_mean.specs.World.{seq, pure}
-use Rattle.rs_mean.specs.declared.cause.Cause.{Cause}
-use Rattle.rs_text.specs.Tree.{Ty, Integer, Boolean, Void, Pointer, Array, Code, Record, Tys, no_tys, more_tys, tys, OptionTy, no_ty, some_ty, option_ty, Expr, CallBy, exprs, FunctionTree, LocalTree, ModuleTree}
+use Rattle.rs_text.specs.Tree.{Ty, Integer, Boolean, Void, Pointer, Code, Tys, more_tys, tys, OptionTy, no_ty, some_ty, option_ty, Expr, CallBy, exprs, FunctionTree, LocalTree, ModuleTree}
 use Rattle.rs_tree.specs.declared.ty.RPath.{RPath}
 
 -- ---- a result in the type of the pointer

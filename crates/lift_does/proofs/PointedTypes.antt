@@ -1,36 +1,35 @@
 -- A function is called by a pointer whose type is compatible with its own: the crate's types of both are alike (ISO C99, 6.2.7, 6.5.2.2p6; the Rust Reference, "Call expressions").
-use Rattle.std.proofs.Common.{◌≡◌, ◌⊎◌, inl, inr, ℕ, Bool, true, false, if◌then◌else◌, ◌&&◌, List, [], ◌∷◌, map, Option, Some, None, option_map, Ok, refl, sym, ap, subst, ◌∙◌}
+use Rattle.std.proofs.Common.{◌≡◌, inl, inr, ℕ, Bool, true, false, ◌&&◌, List, [], ◌∷◌, map, Option, Some, None, option_map, Ok, refl, sym, ap, subst, ◌∙◌}
 use Rattle.std.proofs.lemmas.Bool.{and_parts}
 use Rattle.std.specs.Prelude.{slice_get}
 use Rattle.cr_base.specs.declared.scalar.Scalar.{Scalar}
 use Rattle.cr_base.specs.declared.scalar.Scalar.TheVariants as scalars
 use Rattle.cx_core.specs.Compatible.{AreCompatible, forms_agree, lists_agree, agree, in_pairs}
 use Rattle.cx_core.specs.Conversions.{scalar_of_basic, basic_of_enum, scalar_of as c_scalar_of}
-use Rattle.cx_core.specs.Trees.{CProgram, CTypes, CTy, ty, CTyForm, void, basic, enum_type, pointer, array, record_type, function, form_of_type, unqualified, CParams, unlisted, listed, CTys, no_types, more_types, CExpr, CExprs, no_exprs, more_exprs, type_of}
+use Rattle.cx_core.specs.Trees.{CProgram, CTypes, CTy, ty, CTyForm, void, basic, enum_type, pointer, array, record_type, function, form_of_type, CTys, no_types, more_types, CExpr, CExprs, no_exprs, more_exprs, type_of}
 use Rattle.cx_core.specs.Typing.{AreTyped, AreArguments}
 use Rattle.cx_core.specs.declared.ty.Basic.{Basic}
 use Rattle.cx_core.specs.declared.ty.Basic.TheVariants as basics
 use Rattle.cx_mean.specs.Calls.{is_missing, all_given}
 use Rattle.cx_mean.specs.Operands.{CValue, scalar, cells, names, designates, designates_bits, missing, COperand}
 use Rattle.cx_typed_work.proofs.AlikeSizes.{basic_is}
-use Rattle.cx_typed_work.proofs.AlikeValues.{forms_meet, alike_kind}
+use Rattle.cx_typed_work.proofs.AlikeValues.{alike_kind}
 use Rattle.cx_typed_work.proofs.Given.{value_given}
 use Rattle.cx_typed_work.specs.Operands.{IsGiven, IsRecordForm}
 use Rattle.lift_does.proofs.Arguments.{ArgsGiven}
 use Rattle.lift_does.proofs.ArgumentsRun.{ParamFits, ParamsFit, all_there}
 use Rattle.lift_does.proofs.Around.{Around}
 use Rattle.lift_does.proofs.Params.{records_alike}
-use Rattle.lift_exprs.specs.Names.{type_in}
 use Rattle.lift_forms.proofs.SameTypes.{same_integer_itself}
 use Rattle.lift_held.specs.Held.{is_record}
 use Rattle.lift_stands.specs.Stands.{Images}
 use Rattle.cr_world.specs.World.{World}
-use Rattle.rs_items.specs.Types.{is_record as is_passed, passed, basic_type, rust_type, rust_form, rust_pointer, rust_pointer_form, rust_types}
+use Rattle.rs_items.specs.Types.{is_record as is_passed, passed, basic_type, rust_form, rust_pointer_form, rust_types}
 use Rattle.rs_mean.specs.Calls.{accepts}
 use Rattle.rs_mean.specs.Run.{params_alike}
 use Rattle.rs_mean.specs.Scalars.{integer_scalar, scalar_of, alike}
 use Rattle.rs_mean.specs.Values.{Typed}
-use Rattle.rs_text.specs.Tree.{Ty, Integer, Boolean, Void, Pointer, Array, Code, Record, Tys, no_tys, more_tys, tys}
+use Rattle.rs_text.specs.Tree.{Ty, Integer, Pointer, Code, Tys, no_tys, more_tys, tys}
 use Rattle.rs_text.specs.declared.integer.IntegerTy.{IntegerTy}
 use Rattle.rs_text.specs.declared.integer.IntegerTy.TheVariants.{I8, I16, I32, I64, U8, U16, U32, U64, Isize, Usize}
 

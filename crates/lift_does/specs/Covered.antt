@@ -1,5 +1,4 @@
--- The part of the law that is proved: the expressions without compound literals. Of calls of functions that no unit defines two kinds are left: those without arguments of a function whose type lists some, which have an
--- item of their own, and, in a program with a bit-field member, those of functions whose meaning is known (`OuterItem`).
+-- The part of the law that is proved: the expressions without compound literals, and without calls of `malloc` in a program with a bit-field member, which are written as calls of `calloc` (`OuterItem`).
 use Rattle.std.specs.Prelude.{◌≡◌, ◌⊎◌, ℕ, false, IsSome}
 use Rattle.cx_core.specs.Trees.{CExpr, expr, CForm, whole, null, object, code, load, deref, member, address, convert, unary, binary, and, or, cond, assign, assign_by, step, call, call_by, comma, CExprs, no_exprs, more_exprs, type_of}
 use Rattle.cx_core.specs.Typing.{CHome, IsTyped, IsLvalue, function_with}
