@@ -6,7 +6,7 @@ use Rattle.std.specs.Str.{bytes_eq}
 use Rattle.cx_core.specs.Conversions.{IsIntegerType}
 use Rattle.cx_core.specs.Externals.{CKnown, HasSignature, IsExternalType, IsOpaque, known_as, known_functions}
 use Rattle.cx_core.specs.Linked.{IsTypedOuter}
-use Rattle.cr_world.specs.Known.{known_named, known_table}
+use Rattle.lift_exprs.specs.Calls.{is_malloc}
 use Rattle.cx_core.specs.BitFields.{has_bit_fields}
 use Rattle.cx_core.specs.Trees.{CExprs, COuter, CProgram, CTy, ty, CTyForm, void, basic, enum_type, pointer, array, record_type, function, CParams, CTypes, form_of_type, unqualified}
 use Rattle.cx_core.specs.Trees as core
@@ -14,7 +14,7 @@ use Rattle.cx_core.specs.Typing.{function_with, outer_with}
 use Rattle.cx_mean.specs.Operands.{Frame as CFrame}
 use Rattle.lift_calls.specs.Programs.{Setting}
 use Rattle.lift_does.specs.Agree.{OuterMeans}
-use Rattle.lift_does.specs.Outers.{OuterItem, TakesAll, is_variadic}
+use Rattle.lift_does.specs.Outers.{AsListed, OuterItem, TakesAll, is_variadic}
 use Rattle.lift_exprs.specs.Names.{Names, params_of}
 use Rattle.rs_items.specs.Types.{rust_params, rust_type}
 use Rattle.rs_items.specs.Types as types
@@ -104,13 +104,6 @@ external_by types_in form None there external = opaque_plain types_in form exter
 pub external_plain : (types_in : CTypes) (name : List ℕ) (form : CTyForm) → IsExternalType types_in name form → IsPlainFunction form
 external_plain types_in name form external =
     external_by types_in form (known_as name) (λ one found. (find_there (λ (k : CKnown). bytes_eq name k.name) known_functions one found).0) external
-
-malloc_there : IsSome (known_named (codes "malloc"))
-unfolding known_table
-malloc_there = refl
-
-malloc_known : known_named (codes "malloc") ≡ None → ⊥
-malloc_known is = let h : false ≡ true = sym (ap is_some is) ∙ malloc_there in cc
 
 -- ---- their items
 
@@ -204,31 +197,23 @@ module _ (whole : NamedProgram) (is : IsNamed whole) (bodies : WrittenBodies) (u
     variadic_same : plain.variadic ≡ is_variadic (form_of_type one.type)
     variadic_same = sym (ap is_variadic plain.form_is)
 
-    replaced_not : (names.has_bits ≡ false) ⊎ (known_named one.name ≡ None) → is_replaced whole one ≡ false
-    replaced_not (inl none) = ap (λ t. t && is_outer_named (codes "malloc") one) none
-    replaced_not (inr unknown) = by_name (is_outer_named (codes "malloc") one) refl
-      where
-        both_false : (t : Bool) → (t && false) ≡ false
-        both_false true = refl
-        both_false false = refl
-
-        by_name : (t : Bool) → is_outer_named (codes "malloc") one ≡ t → is_replaced whole one ≡ false
-        by_name true e = absurd (let h : known_named (codes "malloc") ≡ None = ap known_named (sym (texts_equal one.name (codes "malloc") e)) ∙ unknown in malloc_known h)
-        by_name false e = ap (λ t. has_bit_fields program.types && t) e ∙ both_false (has_bit_fields program.types)
-
     -- what a call of it has to know
-    pub outer_item : (args : CExprs) → TakesAll (params_of (code_type whole one.type)) (is_variadic (form_of_type one.type)) args → (names.has_bits ≡ false) ⊎ (known_named one.name ≡ None) →
-        OuterItem s names number args
-    outer_item args takes itself =
-        record {
-          one = one;
-          undefined = undefined;
-          outer_is = found;
-          kept = kept_function (outer_item_of whole unit one);
-          kept_is = kept_is (replaced_not itself);
-          means = outer_means;
-          ty_is = refl;
-          variadic_is = variadic_same;
-          takes = subst (λ v. TakesAll (params_of (code_type whole one.type)) v args) (sym variadic_same) takes;
-          as_it_is = itself;
-        }
+    pub outer_item : (args : CExprs) → TakesAll (params_of (code_type whole one.type)) (is_variadic (form_of_type one.type)) args → is_malloc names one.name ≡ false → OuterItem s names number args
+    outer_item args takes itself = record {
+      one = one;
+      undefined = undefined;
+      outer_is = found;
+      kept = kept_function (outer_item_of whole unit one);
+      kept_is = kept_is itself;
+      symbol_is = refl;
+      ty_is = refl;
+      called = kept_function (outer_item_of whole unit one);
+      means = outer_means;
+      result_is = refl;
+      way = inl (record {
+        same = refl;
+        variadic_is = variadic_same;
+        takes = subst (λ v. TakesAll (params_of (code_type whole one.type)) v args) (sym variadic_same) takes;
+      });
+      as_it_is = itself;
+    }

@@ -1,7 +1,7 @@
 -- Laws of what the names of a written crate mean (ISO C99, 6.2.1 and 6.2.5; the Rust Reference, "Paths" and "Type layout").
 use Rattle.std.specs.Prelude.{◌≡◌, ◌⊎◌, ℕ, ◌<◌, true, false, List, ◌++◌, length, Some, None}
 use Rattle.std.specs.List.{Contains}
-use Rattle.cr_world.specs.Known.{known_named}
+use Rattle.lift_exprs.specs.Calls.{is_malloc}
 use Rattle.cx_core.specs.Trees.{CExprs, CFun, COuter, form_of_type}
 use Rattle.cx_core.specs.Trees as core
 use Rattle.cx_core.specs.Typing.{CHome, function_with, outer_with}
@@ -79,7 +79,7 @@ OutersMean =
     (whole : NamedProgram) (shape : ShapeOf) (statics : CFrame) (unit : ℕ) (own : LocalNames) (number : ℕ) (one : COuter) (args : CExprs) → IsNamed whole → unit < length whole.module_names →
     outer_with number whole.program.externals ≡ Some one → function_with number whole.program.functions ≡ None → Contains (order_of whole.program unit).things (core.a_function number) →
     is_declared whole unit one ≡ true → TakesAll (params_of (code_type whole one.type)) (is_variadic (form_of_type one.type)) args →
-    ((names_in whole unit own).has_bits ≡ false) ⊎ (known_named one.name ≡ None) → OuterItem (setting_of whole shape statics) (names_in whole unit own) number args
+    is_malloc (names_in whole unit own) one.name ≡ false → OuterItem (setting_of whole shape statics) (names_in whole unit own) number args
 
 -- a unit that calls an external function without arguments, though it has parameters elsewhere, declares it once more without parameters
 pub record BareMeans (whole : NamedProgram) (shape : ShapeOf) (statics : CFrame) (unit : ℕ) (own : LocalNames) (number : ℕ) (one : COuter) : Type 0 where
