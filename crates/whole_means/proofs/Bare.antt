@@ -1,7 +1,18 @@
 -- An external function that a unit calls without arguments, though it has parameters elsewhere, is declared once more without parameters (ISO C99, 6.5.2.2p6).
-use Rattle.std.proofs.Common.{◌≡◌, ◌<◌, ℕ, ◌==◌, Bool, true, false, if◌then◌else◌, List, [], ◌∷◌, ◌++◌, map, filter, length, Some, None, option_map, refl, sym, ap, subst, ◌∙◌, inl, inr}
+use Rattle.std.proofs.Common.{suc, arith, ◌≡◌, ◌<◌, ℕ, ◌==◌, Bool, true, false, if◌then◌else◌, List, [], ◌∷◌, ◌++◌, map, filter, length, Some, None, option_map, refl, sym, ap, subst, ◌∙◌, inl, inr}
 use Rattle.std.proofs.lemmas.List.Elements.{All-contains}
+use Rattle.std.proofs.lemmas.Bool.{and_parts}
 use Rattle.cx_core.specs.Linked.{IsTypedOuter}
+use Rattle.cx_core.specs.Trees.{CTy, ty, function, no_exprs, void, basic, enum_type, pointer, array, record_type, unlisted, listed, no_types, more_types}
+use Rattle.lift_does.specs.Outers.{OuterItem}
+use Rattle.lift_exprs.specs.Calls.{count_of, is_malloc}
+use Rattle.lift_exprs.specs.Names.{params_of, result_of}
+use Rattle.rs_items.specs.Types as types
+use Rattle.rs_text.specs.Tree.{Ty, Code, no_tys, Integer, Boolean, Void, Pointer, Array, Record, Tys, more_tys}
+use Rattle.rs_items.specs.Types.{rust_type}
+use Rattle.whole_names.specs.Keys.{has_params, is_called_bare}
+use Rattle.whole_names.specs.Kept.{calloc_item, code_type, function_thing, outer_item, outer_thing}
+use Rattle.cx_core.specs.Typing.{function_with}
 use Rattle.cx_core.specs.Trees.{COuter, CProgram, CTyForm, form_of_type}
 use Rattle.cx_core.specs.Typing.{outer_with}
 use Rattle.cx_mean.specs.Operands.{Frame as CFrame}
@@ -31,6 +42,48 @@ key_among (one ∷ keys) key (inr there) = by_test (same_key key one) (key_among
     by_test : (t : Bool) → is_key_among key keys ≡ true → (if t then true else is_key_among key keys) ≡ true
     by_test true e = refl
     by_test false e = e
+
+same_result : (t : Ty) → result_of (without_params t) ≡ result_of t
+same_result (Integer which) = refl
+same_result Boolean = refl
+same_result Void = refl
+same_result (Pointer target) = refl
+same_result (Array element size) = refl
+same_result (Code params result) = refl
+same_result (Record m x) = refl
+
+nothing_left : (t : Ty) → params_of (without_params t) ≡ no_tys
+nothing_left (Integer which) = refl
+nothing_left Boolean = refl
+nothing_left Void = refl
+nothing_left (Pointer target) = refl
+nothing_left (Array element size) = refl
+nothing_left (Code params result) = refl
+nothing_left (Record m x) = refl
+
+not_zero : (n : ℕ) → (suc n == 0) ≡ false
+not_zero n = by_test (suc n == 0) refl
+  where
+    by_test : (t : Bool) → (suc n == 0) ≡ t → (suc n == 0) ≡ false
+    by_test true e = absurd (let same = number_same (suc n) 0 e in omega (arith, same))
+    by_test false e = e
+
+some_param : (t : Bool) (target first : Ty) (others : Tys) → (count_of (types.with_result t target (more_tys first others)) == 0) ≡ false
+some_param true target first others = not_zero (suc (count_of others))
+some_param false target first others = not_zero (count_of others)
+
+-- a type that lists parameters is one of a function with parameters
+has_some : (whole : NamedProgram) (type : CTy) → has_params (form_of_type type) ≡ true → (count_of (params_of (code_type whole type)) == 0) ≡ false
+has_some whole (ty (function result (listed (more_types first others)) variadic) is_const) has =
+    some_param (types.is_record result) (rust_type (types_of whole) result) (types.passed (types.is_record first) (rust_type (types_of whole) first)) (types.rust_types (types_of whole) others)
+has_some whole (ty (function result (listed no_types) variadic) is_const) has = absurd cc
+has_some whole (ty (function result unlisted variadic) is_const) has = absurd cc
+has_some whole (ty void is_const) has = absurd cc
+has_some whole (ty (basic which) is_const) has = absurd cc
+has_some whole (ty (enum_type number) is_const) has = absurd cc
+has_some whole (ty (pointer to) is_const) has = absurd cc
+has_some whole (ty (array element size) is_const) has = absurd cc
+has_some whole (ty (record_type number) is_const) has = absurd cc
 
 module _ (whole : NamedProgram) (is : IsNamed whole) (bodies : WrittenBodies) (unit : ℕ) (low : unit < length whole.module_names) (own : LocalNames) (statics : CFrame) where
   abbrev program : CProgram
@@ -106,4 +159,28 @@ module _ (whole : NamedProgram) (is : IsNamed whole) (bodies : WrittenBodies) (u
       tree_is = tree_found;
       named = linked_as one.name (name_in whole unit (a_bare_function number));
       ty_is = ap without_params (code_form whole one.type plain.result plain.params plain.variadic plain.form_is plain.plain);
+    }
+
+    -- what a call of it without arguments has to know
+    pub bare_item_means : function_with number program.functions ≡ None → is_malloc names one.name ≡ false → OuterItem s names number no_exprs
+    bare_item_means undefined itself = record {
+      one = one;
+      undefined = undefined;
+      outer_is = found;
+      kept = kept_function (outer_item whole unit one);
+      kept_is =
+          ap (option_map kept_function) (ap (λ f. function_thing whole unit f (outer_with number program.externals)) undefined ∙ ap (outer_thing whole unit) found
+          ∙ ap (λ t. Some (if t then calloc_item whole unit one else outer_item whole unit one)) itself);
+      symbol_is = refl;
+      ty_is = refl;
+      called = kept_function (bare_item whole unit one);
+      means = bare_means;
+      result_is = same_result (code_type whole one.type);
+      way = inr (record {
+        none = refl;
+        bare_is = bare_kept;
+        lists = has_some whole one.type (and_parts (has_params (form_of_type one.type)) (is_called_bare (calls_of program unit) one.function) is_bare).0;
+        no_params = nothing_left (code_type whole one.type);
+      });
+      as_it_is = itself;
     }

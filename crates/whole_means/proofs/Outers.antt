@@ -1,5 +1,5 @@
 -- External functions that a unit calls are declared in its module, with their types and symbols (the Rust Reference, "External blocks").
-use Rattle.std.proofs.Common.{◌≡◌, ◌<◌, ℕ, ◌==◌, Bool, true, false, ◌&&◌, if◌then◌else◌, List, [], filter, length, codes, Option, Some, None, is_some, IsSome, option_map, refl, sym, ap, subst, ◌∙◌, ◌⊎◌, inl, inr}
+use Rattle.std.proofs.Common.{◌≡◌, ◌<◌, ℕ, ◌==◌, Bool, true, false, if◌then◌else◌, List, [], filter, length, Option, Some, None, is_some, option_map, refl, sym, ap, subst, ◌∙◌, inl, inr}
 use Rattle.std.proofs.lemmas.List.Elements.{All-contains}
 use Rattle.std.specs.List.{Contains}
 use Rattle.std.specs.Str.{bytes_eq}
@@ -7,14 +7,13 @@ use Rattle.cx_core.specs.Conversions.{IsIntegerType}
 use Rattle.cx_core.specs.Externals.{CKnown, HasSignature, IsExternalType, IsOpaque, known_as, known_functions}
 use Rattle.cx_core.specs.Linked.{IsTypedOuter}
 use Rattle.lift_exprs.specs.Calls.{is_malloc}
-use Rattle.cx_core.specs.BitFields.{has_bit_fields}
 use Rattle.cx_core.specs.Trees.{CExprs, COuter, CProgram, CTy, ty, CTyForm, void, basic, enum_type, pointer, array, record_type, function, CParams, CTypes, form_of_type, unqualified}
 use Rattle.cx_core.specs.Trees as core
 use Rattle.cx_core.specs.Typing.{function_with, outer_with}
 use Rattle.cx_mean.specs.Operands.{Frame as CFrame}
 use Rattle.lift_calls.specs.Programs.{Setting}
 use Rattle.lift_does.specs.Agree.{OuterMeans}
-use Rattle.lift_does.specs.Outers.{AsListed, OuterItem, TakesAll, is_variadic}
+use Rattle.lift_does.specs.Outers.{OuterItem, TakesAll, is_variadic}
 use Rattle.lift_exprs.specs.Names.{Names, params_of}
 use Rattle.rs_items.specs.Types.{rust_params, rust_type}
 use Rattle.rs_items.specs.Types as types
@@ -32,7 +31,7 @@ use Rattle.whole_means.proofs.Params.{same_record, same_void}
 use Rattle.whole_means.specs.Settings.{setting_with}
 use Rattle.whole_means.specs.Written.{IsNamed}
 use Rattle.whole_names.specs.FunctionNames.{is_record}
-use Rattle.whole_names.specs.Keys.{a_function, is_defined_in, is_named_in, is_outer_named, key_of, module_keys, order_of}
+use Rattle.whole_names.specs.Keys.{a_function, is_defined_in, is_named_in, key_of, module_keys, order_of}
 use Rattle.whole_names.specs.Kept.{LocalNames, NamedProgram, calloc_item, code_type, function_thing, is_replaced, module_of, name_in, outer_item as outer_item_of, outer_thing, types_of}
 
 -- ---- results of external functions

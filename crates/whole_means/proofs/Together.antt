@@ -7,13 +7,11 @@ use Rattle.whole_means.proofs.Agrees.{crate_agrees, crate_images_apart}
 use Rattle.whole_means.proofs.Locals.{names_apart}
 use Rattle.whole_means.proofs.Whole.{modules_are, objects_are, stretch_kept}
 use Rattle.whole_means.specs.Laws.{BaresMean, EntriesMeanInCrate, NamesOfBodies, OutersMean, ProgramsAgree, tree_of}
-use Rattle.lift_does.specs.Agree.{OuterMeans}
-use Rattle.whole_bodies.specs.Names.{kept_function}
-use Rattle.whole_means.proofs.Bare.{bare_kept, bare_means}
-use Rattle.whole_names.specs.Kept.{bare_item}
+use Rattle.whole_means.proofs.Bare.{bare_item_means}
 use Rattle.whole_means.proofs.Differ.{locals_differ}
 use Rattle.whole_means.proofs.Entries.{kept_there, params_differ, temporaries_there, zeros_there}
 use Rattle.whole_means.proofs.Lists.{contains_among}
+use Rattle.cx_core.specs.Trees.{no_exprs}
 use Rattle.lift_does.specs.Outers.{OuterItem}
 use Rattle.whole_bodies.specs.Names.{locals_of, names_in}
 use Rattle.whole_means.proofs.HeldTypes.{same_stmt}
@@ -64,9 +62,6 @@ outers_mean whole shape statics unit own number one args is low found undefined 
     (outer_item whole is (written_bodies whole shape) unit low own statics number one found undefined ordered declares args takes itself)
 
 pub bares_mean : BaresMean
-bares_mean whole shape statics unit own number one is low found is_bare = record {
-  kept = kept_function (bare_item whole unit one);
-  kept_is = bare_kept whole is (written_bodies whole shape) unit low own statics number one found is_bare;
-  means = subst (λ (modules : List ModuleTree). OuterMeans (setting_with whole modules statics) one.name one.name (kept_function (bare_item whole unit one))) (sym (modules_are whole shape))
-      (bare_means whole is (written_bodies whole shape) unit low own statics number one found is_bare);
-}
+bares_mean whole shape statics unit own number one is low found undefined is_bare itself =
+    subst (λ (modules : List ModuleTree). OuterItem (setting_with whole modules statics) (names_in whole unit own) number no_exprs) (sym (modules_are whole shape))
+    (bare_item_means whole is (written_bodies whole shape) unit low own statics number one found is_bare undefined itself)

@@ -2,16 +2,16 @@
 use Rattle.std.specs.Prelude.{◌≡◌, ◌⊎◌, ℕ, ◌<◌, true, false, List, ◌++◌, length, Some, None}
 use Rattle.std.specs.List.{Contains}
 use Rattle.lift_exprs.specs.Calls.{is_malloc}
-use Rattle.cx_core.specs.Trees.{CExprs, CFun, COuter, form_of_type}
+use Rattle.cx_core.specs.Trees.{CExprs, no_exprs, CFun, COuter, form_of_type}
 use Rattle.cx_core.specs.Trees as core
 use Rattle.cx_core.specs.Typing.{CHome, function_with, outer_with}
 use Rattle.cx_mean.specs.Operands.{Frame as CFrame}
 use Rattle.lift_calls.specs.Frames.{FunctionNames, KeptTemporary, NamesApart}
 use Rattle.lift_calls.specs.Programs.{ProgramAgrees}
 use Rattle.lift_calls_entry.specs.Entry.{AllDiffer, IsLocalKept, IsStaticKept, NamesDiffer, all_locals}
-use Rattle.lift_does.specs.Agree.{AreKeptFrom, NamesMean, OuterMeans}
+use Rattle.lift_does.specs.Agree.{AreKeptFrom, NamesMean}
 use Rattle.lift_does.specs.Outers.{OuterItem, TakesAll, is_variadic}
-use Rattle.lift_exprs.specs.Names.{KeptFunction, params_of}
+use Rattle.lift_exprs.specs.Names.{params_of}
 use Rattle.lift_forms.specs.Places.{Kept}
 use Rattle.rs_text.specs.Tree.{Ty, Static, FunctionTree}
 use Rattle.rs_tree.specs.declared.ty.RPath.{RPath}
@@ -82,12 +82,8 @@ OutersMean =
     is_malloc (names_in whole unit own) one.name ≡ false → OuterItem (setting_of whole shape statics) (names_in whole unit own) number args
 
 -- a unit that calls an external function without arguments, though it has parameters elsewhere, declares it once more without parameters
-pub record BareMeans (whole : NamedProgram) (shape : ShapeOf) (statics : CFrame) (unit : ℕ) (own : LocalNames) (number : ℕ) (one : COuter) : Type 0 where
-  pub kept : KeptFunction
-  pub kept_is : (names_in whole unit own).bare_functions number ≡ Some kept
-  pub means : OuterMeans (setting_of whole shape statics) one.name one.name kept
-
 abbrev pub BaresMean : Type 0
 BaresMean =
     (whole : NamedProgram) (shape : ShapeOf) (statics : CFrame) (unit : ℕ) (own : LocalNames) (number : ℕ) (one : COuter) → IsNamed whole → unit < length whole.module_names →
-    outer_with number whole.program.externals ≡ Some one → is_bare_too (calls_of whole.program unit) one ≡ true → BareMeans whole shape statics unit own number one
+    outer_with number whole.program.externals ≡ Some one → function_with number whole.program.functions ≡ None → is_bare_too (calls_of whole.program unit) one ≡ true →
+    is_malloc (names_in whole unit own) one.name ≡ false → OuterItem (setting_of whole shape statics) (names_in whole unit own) number no_exprs
