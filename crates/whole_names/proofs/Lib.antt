@@ -1,2 +1,2 @@
-mod Named
+pub mod Named
 mod Worked

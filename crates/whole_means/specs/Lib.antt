@@ -1,0 +1,5 @@
+pub mod Beginning
+pub mod FunctionNames
+pub mod Laws
+pub mod Settings
+pub mod Written
