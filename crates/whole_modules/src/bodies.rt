@@ -20,6 +20,7 @@ use rs_items::NameMap;
 use rs_tree::RTy;
 use std::alloc::Global;
 use whole_given::Whole;
+use whole_lifted_names::{kept_names_are_lifted, temporaries_are_few};
 use whole_locals::{LocalKey, LocalName};
 use whole_temporaries::{held_in_body, temporaries_of, zeroed_objects};
 use whole_texts::{BodyText, written_body};
@@ -46,6 +47,7 @@ pub(crate) fn temporaries_in(
     requires fields { HasFields (named whole.now) (view_names names.now) }
     ensures { IfOk result (λ made. map ty_view made ≡ temporaries_of (named whole.now) (view_function fun.now)) }
 {
+    kept_names_are_lifted();
     temporaries_of(alloc, names, whole.parts().objects.as_slice(), &fun.body)
 }
 
@@ -71,6 +73,7 @@ pub(crate) fn zeros_in(
     ensures first { IfOk result (λ zeros. zeros.first ≡ length (held_in_body (named whole.now) (view_function fun.now))) }
     ensures objects { IfOk result (λ zeros. zeros.objects ≡ zeroed_objects (named whole.now) (view_function fun.now)) }
 {
+    kept_names_are_lifted();
     let held = held_in_body(alloc, names, &fun.body)?;
     let objects = zeroed_objects(
         alloc,
@@ -98,6 +101,8 @@ pub(crate) fn body_in(
     requires fits { StmtFits (view_stmt fun.now.body) }
     ensures { IfOk result (λ made. IsWritten (named whole.now) (view_function fun.now) made) }
 {
+    kept_names_are_lifted();
+    temporaries_are_few();
     let void = Ty {
         form: TyForm::Void,
         is_const: false,

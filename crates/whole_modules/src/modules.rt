@@ -1,6 +1,6 @@
 //! The modules of a crate. They are refused only for want of memory.
 
-ghost use Rattle.std.specs.Prelude.{◌≡◌, IfOk, OnOk};
+ghost use Rattle.std.specs.Prelude.{◌≡◌, map, IfOk, OnOk};
 ghost use Rattle.cx_core.specs.Linked.{IsLinked};
 ghost use Rattle.rs_items.specs.Known.{view_names};
 ghost use Rattle.rs_tree.specs.Views.{item_view, module_view};
@@ -10,7 +10,7 @@ ghost use Rattle.whole_given.specs.Whole.{named};
 ghost use Rattle.whole_items.specs.Items.{initialiser_tree};
 ghost use Rattle.whole_known.specs.Modules.{IsModule};
 ghost use Rattle.whole_known.specs.Stages.{IsBase};
-ghost use Rattle.whole_modules.specs.Shaped.{IsWrittenModule};
+ghost use Rattle.whole_modules.specs.Shaped.{AreItems, IsWrittenModule};
 ghost use Rattle.whole_records.specs.Fields.{HasFields};
 
 use crate::functions::written_functions;
@@ -22,6 +22,7 @@ use whole_fits::programs_fit;
 use whole_functions::{initialiser_item, module_with};
 use whole_given::Whole;
 use whole_known::enter_module;
+use whole_lifted_names::kept_names_are_lifted;
 use whole_records::record_items;
 use whole_statics::{extern_item, outers_of, static_items};
 use whole_texts::initialiser;
@@ -39,6 +40,7 @@ fn written_initialiser(
     ensures { IfOk result (λ item. item_view item ≡ tree.FunctionItem (initialiser_tree (initialiser (named whole.now) unit))) }
 {
     programs_fit();
+    kept_names_are_lifted();
     let statements = initialiser(alloc, names, unit, whole.parts().objects.as_slice())?;
     initialiser_item(alloc, statements)
 }
