@@ -333,6 +333,11 @@ random_bodies() {
   compared 'bodies with jumps' random_bodies.py --rows "$program_rows"
 }
 
+# Random expressions with side effects: where one has a meaning, the crate has it, as it runs and as rustc builds it.
+random_effects() {
+  compared 'expressions with side effects' random_effects.py --rows "$program_rows" rustc
+}
+
 # Small programs of csmith.
 csmith_programs() {
   compared 'programs of csmith' csmith_programs.py --rows "$program_rows" csmith gcc rustc
@@ -447,6 +452,7 @@ relooper_graphs
 random_flows
 program_crates
 random_bodies
+random_effects
 csmith_programs
 random_records
 record_items
