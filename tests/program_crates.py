@@ -3,7 +3,7 @@
 
     program_crates.py --rows PROGRAM [--count N] [--seed N] [--rustc N]
 
-The programs are the random ones of random_programs.py and, before them, those of the folder programs, which gcc builds too. `--rustc` says of how many of the random ones
+The programs are the random ones of random_programs.py and, before them, those of the folder programs, which gcc builds too, and those of the rows of programs that make no call. `--rustc` says of how many of the random ones
 rustc builds the crate. Where the run of a program is undefined, the crate is written all the same and is well typed. Ends with 1 if anything differs.
 """
 
@@ -140,6 +140,20 @@ def kept_differences(rows, folder):
             yield f"{unit.name}: {why}"
 
 
+def row_differences(rows, folder):
+    """How the crates of programs of rows, as rustc builds them, differ from what the rows say."""
+    import program_rows
+
+    for row, answer in program_rows.ROWS:
+        told = answer.split(" || ")[0]
+        if not re.fullmatch(r"ended \d+", told):
+            continue
+        crate = answers(rows, [row.replace(row.split("| ", 1)[0] + "| ", "translate ", 1)])[0]
+        _, status = crate_runs(files_of(crate), folder, SECONDS)
+        if status != int(told.split()[1]) % 256:
+            yield f"{row}: {status}"
+
+
 def main():
     parser = argparse.ArgumentParser(description=__doc__)
     parser.add_argument("--rows", required=True, help="the program of the rows of programs")
@@ -149,7 +163,7 @@ def main():
     asked = parser.parse_args()
     with tempfile.TemporaryDirectory() as name:
         folder = Path(name)
-        differences = list(kept_differences(asked.rows, folder))
+        differences = [*kept_differences(asked.rows, folder), *row_differences(asked.rows, folder)]
         found, counts = random_differences(asked.rows, range(asked.seed, asked.seed + asked.count), asked.rustc, folder)
     for one in differences + found:
         print(one)
