@@ -3,9 +3,9 @@ use Rattle.std.proofs.Common.{arith, ◌≡◌, ◌⊎◌, inl, inr, ℕ, zero, 
 use Rattle.std.proofs.lemmas.Bool.Decides.{nat_tests}
 use Rattle.cx_core.specs.Trees.{CFun}
 use Rattle.reloop.specs.Shapes.{ShapeTree, blocks, no_shapes}
-use Rattle.rs_text.specs.Tree.{ItemTree, ModuleTree}
+use Rattle.rs_text.specs.Tree.{ItemTree, FunctionItem, ModuleTree}
 use Rattle.whole.specs.Written.{AreModules}
-use Rattle.whole_bodies.specs.Bodies.{ShapeOf, written_bodies}
+use Rattle.whole_bodies.specs.Bodies.{ShapeOf, initialiser, written_bodies}
 use Rattle.whole_bodies.specs.Crates.{modules_from}
 use Rattle.whole_items.specs.Items.{function_of_unit, module_tree, record_items, static_items, extern_items, outers_of, initialiser_tree}
 use Rattle.whole_modules.specs.Shaped.{FitsFlow, IsWrittenModule, ShapesFit}
@@ -44,7 +44,7 @@ module _ (program : NamedProgram) where
   }
 
   module_as : (unit : ℕ) (one other : ShapeOf) → SameIn unit one other → module_tree program (written_bodies program one) unit ≡ module_tree program (written_bodies program other) unit
-  module_as unit one other same = ap (λ (list : List ItemTree). module_by unit list _) (items_by unit one other same program.program.functions)
+  module_as unit one other same = ap (λ (list : List ItemTree). module_by unit list (FunctionItem (initialiser_tree (initialiser program unit)))) (items_by unit one other same program.program.functions)
 
   modules_as : (one other : ShapeOf) (unit left : ℕ) → ((at : ℕ) → at < unit + left → SameIn at one other) → modules_from program one unit left ≡ modules_from program other unit left
   modules_as one other unit zero same = refl
@@ -68,9 +68,13 @@ module _ (program : NamedProgram) where
     modules_are =
         ap (λ (list : List ModuleTree). list ++ one ∷ []) (are.modules_are ∙ sym (modules_as shape are.shape 0 unit same_before))
         ∙ ap (λ (last : ModuleTree). modules_from program shape 0 unit ++ last ∷ []) (is.module_is ∙ sym (module_as unit shape is.shape same_here))
+        ∙ ap (λ (at : ℕ). modules_from program shape 0 unit ++ module_tree program (written_bodies program shape) at ∷ []) (sym first)
         ∙ sym (modules_behind shape 0 unit);
   }
     where
+      first : 0 + unit ≡ unit
+      first = omega (arith)
+
       shape : ShapeOf
       shape = with_unit unit is.shape are.shape
 
@@ -85,7 +89,7 @@ module _ (program : NamedProgram) where
 
       fit_at : (at : ℕ) → at < suc unit → (t : Bool) → (at == unit) ≡ t → ShapesFit program shape at program.program.functions
       fit_at at less true same =
-          let here : at ≡ unit = grind (nat_tests, same) in
+          let here : at ≡ unit = grind (arith, nat_tests, same) in
           subst (λ (u : ℕ). ShapesFit program shape u program.program.functions) (sym here) (fit_as unit shape is.shape same_here program.program.functions is.fit)
       fit_at at less false apart =
           let before : at < unit = grind (nat_tests, arith, less, apart) in

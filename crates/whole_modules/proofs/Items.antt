@@ -1,5 +1,5 @@
 -- One function more of a unit.
-use Rattle.std.proofs.Common.{◌≡◌, ℕ, ◌==◌, Bool, true, false, if◌then◌else◌, List, [], ◌∷◌, ◌++◌, flat_map, refl, sym, ap, subst, ◌∙◌, append-nil, append_assoc}
+use Rattle.std.proofs.Common.{arith, ◌≡◌, ℕ, ◌==◌, Bool, true, false, if◌then◌else◌, List, [], ◌∷◌, ◌++◌, flat_map, refl, sym, ap, subst, ◌∙◌, append-nil, append_assoc}
 use Rattle.std.proofs.lemmas.Bool.Decides.{nat_tests}
 use Rattle.cx_core.specs.Trees.{CFun}
 use Rattle.reloop.specs.Shapes.{ShapeTree, blocks, no_shapes}
@@ -12,7 +12,7 @@ use Rattle.whole_names.specs.Kept.{NamedProgram}
 -- ---- numbers
 
 other_way : (one other : ℕ) → (one == other) ≡ false → (other == one) ≡ false
-other_way one other apart = grind (nat_tests, apart)
+other_way one other apart = grind (arith, nat_tests, apart)
 
 none_inside : (number : ℕ) (front : List CFun) (fun : CFun) (others : List CFun) → NoneHas number (front ++ fun ∷ others) → (fun.function == number) ≡ false
 none_inside number [] fun others none = none.0
@@ -49,7 +49,7 @@ module _ (program : NamedProgram) (unit : ℕ) where
     other_shape one apart = ap (λ (t : Bool). if t then shape else others one) apart
 
     own_shape : more fun ≡ shape
-    own_shape = let same : (fun.function == fun.function) ≡ true = grind (nat_tests) in ap (λ (t : Bool). if t then shape else others fun) same
+    own_shape = let same : (fun.function == fun.function) ≡ true = grind (arith, nat_tests) in ap (λ (t : Bool). if t then shape else others fun) same
 
     fit_front : (front : List CFun) → NoneHas fun.function front → ShapesFit program others unit front → ShapesFit program more unit front
     fit_front [] none fit = tt

@@ -7,8 +7,8 @@ use cx_units::Source;
 use row_words::{Answer, Asked, RowFault};
 use std::alloc::Global;
 
-// The most units of a row: files have one letter each.
-const MOST_UNITS: usize = 26;
+// Files have one letter each.
+const LETTERS: [u8; 26] = *b"abcdefghijklmnopqrstuvwxyz";
 
 /// A program, and the names of the files of its units.
 #[derive(Drop)]
@@ -28,8 +28,7 @@ fn sources<'a>(alloc: Global, text: &'a str, asked: &mut Asked<'a>) -> Items<Sou
     sources
 }
 
-fn file_name(alloc: Global, unit: usize) -> Result<Name, Memory> {
-    let letter = b'a'.wrapping_add(unit as u8);
+fn file_name(alloc: Global, letter: u8) -> Result<Name, Memory> {
     let bytes = Vec::from_slice(alloc, &[letter, b'.', b'c'])?;
     Ok(Name::of(bytes))
 }
@@ -37,8 +36,8 @@ fn file_name(alloc: Global, unit: usize) -> Result<Name, Memory> {
 // The names of the files of so many units.
 fn file_names(alloc: Global, count: usize) -> Result<Items<Name>, Memory> {
     let mut files = Items::new(alloc);
-    for unit in 0..count {
-        files.push(file_name(alloc, unit)?)?;
+    for letter in LETTERS.iter().take(count) {
+        files.push(file_name(alloc, *letter)?)?;
     }
     Ok(files)
 }
@@ -77,7 +76,7 @@ fn program_of(alloc: Global, sources: &[Source], asked: &mut Asked, out: &mut An
 pub(crate) fn asked_program<'a>(alloc: Global, asked: &mut Asked<'a>, out: &mut Answer) -> Option<Named> {
     let text = asked.rest();
     let sources = sources(alloc, text, asked);
-    if sources.len() > MOST_UNITS {
+    if sources.len() > LETTERS.len() {
         asked.refuse();
         return None;
     }
