@@ -26,6 +26,8 @@ pub mod Held
 pub mod HeldPlaces
 pub mod Lasting
 pub mod Leaves
+pub mod LiteralLeaves
+pub mod LiteralZeros
 pub mod Loads
 pub mod Lvalues
 pub mod Members
@@ -36,6 +38,10 @@ pub mod Operands
 pub mod Params
 pub mod Passed
 pub mod Places
+pub mod PutsOwed
+pub mod PutsPlaces
+pub mod PutsSizes
+pub mod PutsStores
 pub mod Quiet
 pub mod Reaching
 pub mod RecordAssignments
