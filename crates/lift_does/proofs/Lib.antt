@@ -26,6 +26,7 @@ pub mod Held
 pub mod HeldPlaces
 pub mod Lasting
 pub mod Leaves
+pub mod LiteralClears
 pub mod LiteralLeaves
 pub mod LiteralZeros
 pub mod Loads

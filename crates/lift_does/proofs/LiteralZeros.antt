@@ -1,6 +1,7 @@
 -- What is written where an object becomes zero fills its block with zero bytes: a scalar is stored, and of anything else one byte, and then as many as are zero already, again and again (ISO C99, 6.5.2.5 and 6.7.8p21;
 -- `core::ptr::copy`).
 use Rattle.std.proofs.Common.{◌≡◌, ℕ, zero, suc, ◌+◌, ◌-◌, ◌*◌, ◌%◌, ◌^◌, ◌==◌, ◌<◌, ◌≤◌, nat_le, min, pos, cond, Bool, true, false, ◌&&◌, List, [], ◌∷◌, ◌++◌, length, take, drop, replicate, slice_set, slice_index_or, Option, Some, Result, Ok, Err, if◌then◌else◌, rules, refl, sym, ap, subst, ◌∙◌, arith}
+use Rattle.std.proofs.Math.Nat.{mul_assoc, mul_comm, mul-add, pow-suc}
 use Rattle.std.proofs.lemmas.Bool.{le-leb}
 use Rattle.std.proofs.lemmas.Bool.Decides.{nat_tests}
 use Rattle.std.proofs.lemmas.List.{set-set, same_lists, places, append-nil, drop_all, length-replicate}
@@ -74,6 +75,15 @@ copied_zero : (done more : ℕ) (cells : List Cell) → AreZero done cells → m
 copied_zero done more cells are few less k d small inside =
     let first = are k d in let second = are (k - done) d in
     grind (arith, places, few, less, small, inside, first, second)
+
+twice_as_many : (left done : ℕ) → done * 2 ^ suc left ≡ (done + done) * 2 ^ left
+twice_as_many left done =
+    let power : done * 2 ^ suc left ≡ done * (2 ^ left * 2) = ap (λ (n : ℕ). done * n) (pow-suc 2 left) in
+    let first : done * (2 ^ left * 2) ≡ done * 2 ^ left * 2 = sym (mul_assoc done (2 ^ left) 2) in
+    let turned : (done + done) * 2 ^ left ≡ 2 ^ left * (done + done) = mul_comm (done + done) (2 ^ left) in
+    let both : 2 ^ left * (done + done) ≡ 2 ^ left * done + 2 ^ left * done = mul-add (2 ^ left) done done in
+    let one : 2 ^ left * done ≡ done * 2 ^ left = mul_comm (2 ^ left) done in
+    omega (arith, power, first, turned, both, one)
 
 whole_filled : (block : Block) (cells : List Cell) → length cells ≡ size_of block → with_part block 0 cells ≡ record block { cells = cells }
 whole_filled block cells many =
@@ -222,7 +232,7 @@ module _ (x : Around) where
     doubled_runs : (left done : ℕ) (cells : List Cell) → length cells ≡ size → AreZero done cells → 0 < done → size ≤ done * 2 ^ left → (units : ℕ) → runs x (doubled e size done left) (world_at cells) units ≡ came normal zero_world units
     doubled_runs zero done cells many are some reach units = let single : done * 2 ^ 0 ≡ done = omega arith in ended cells done many are (omega (arith, reach, single)) units
     doubled_runs (suc left) done cells many are some reach units =
-        let twice : done * 2 ^ suc left ≡ (done + done) * 2 ^ left = omega arith in
+        let twice = twice_as_many left done in
         doubled_more left done cells many are some (λ next length_is zeros_are more. doubled_runs left (done + done) next length_is zeros_are (omega (arith, some)) (omega (arith, reach, twice)) more) units
 
     pub zeroed_runs : 0 < size → size ≤ most_bytes → (units : ℕ) → runs x (zeroed_bytes e size) world units ≡ came normal zero_world units
@@ -235,3 +245,54 @@ module _ (x : Around) where
         (assign_at world (Deref (as_bytes e)) (Literal (pos 0) U8) (Integer U8) (Integer U8) (Whole (pos 0)) (spot (Integer U8) (Object (record { block = number; offset = 0 }))) (scalars.Whole 8 false) (record { block = number; offset = 0 })
         (with_cells_at (blocks_of world) number block first) units (literal_gives x.frame world (pos 0) U8) (target_gives x.frame world (as_bytes e) (Integer U8) (Object (record { block = number; offset = 0 })) (bytes_at world) refl) refl refl refl refl put))
         ∙ doubled_runs most_doublings 1 first (first_length block.cells fits ∙ same) (first_zero block.cells fits) (omega arith) (omega (arith, most)) units
+
+-- ---- a scalar becomes zero
+
+pub zero_cells : (ty : Ty) (kind : Scalar) → scalar_of ty ≡ Some kind → cells_of kind (if is_bits ty then Whole (pos 0) else Null) ≡ replicate (scalar_size kind) (byte_cell 0)
+zero_cells (Integer I8) kind e = let k : scalars.Whole 8 true ≡ kind = cc (e) in subst (λ (one : Scalar). cells_of one (Whole (pos 0)) ≡ replicate (scalar_size one) (byte_cell 0)) k refl
+zero_cells (Integer I16) kind e = let k : scalars.Whole 16 true ≡ kind = cc (e) in subst (λ (one : Scalar). cells_of one (Whole (pos 0)) ≡ replicate (scalar_size one) (byte_cell 0)) k refl
+zero_cells (Integer I32) kind e = let k : scalars.Whole 32 true ≡ kind = cc (e) in subst (λ (one : Scalar). cells_of one (Whole (pos 0)) ≡ replicate (scalar_size one) (byte_cell 0)) k refl
+zero_cells (Integer I64) kind e = let k : scalars.Whole 64 true ≡ kind = cc (e) in subst (λ (one : Scalar). cells_of one (Whole (pos 0)) ≡ replicate (scalar_size one) (byte_cell 0)) k refl
+zero_cells (Integer Isize) kind e = let k : scalars.Whole 64 true ≡ kind = cc (e) in subst (λ (one : Scalar). cells_of one (Whole (pos 0)) ≡ replicate (scalar_size one) (byte_cell 0)) k refl
+zero_cells (Integer U8) kind e = let k : scalars.Whole 8 false ≡ kind = cc (e) in subst (λ (one : Scalar). cells_of one (Whole (pos 0)) ≡ replicate (scalar_size one) (byte_cell 0)) k refl
+zero_cells (Integer U16) kind e = let k : scalars.Whole 16 false ≡ kind = cc (e) in subst (λ (one : Scalar). cells_of one (Whole (pos 0)) ≡ replicate (scalar_size one) (byte_cell 0)) k refl
+zero_cells (Integer U32) kind e = let k : scalars.Whole 32 false ≡ kind = cc (e) in subst (λ (one : Scalar). cells_of one (Whole (pos 0)) ≡ replicate (scalar_size one) (byte_cell 0)) k refl
+zero_cells (Integer U64) kind e = let k : scalars.Whole 64 false ≡ kind = cc (e) in subst (λ (one : Scalar). cells_of one (Whole (pos 0)) ≡ replicate (scalar_size one) (byte_cell 0)) k refl
+zero_cells (Integer Usize) kind e = let k : scalars.Whole 64 false ≡ kind = cc (e) in subst (λ (one : Scalar). cells_of one (Whole (pos 0)) ≡ replicate (scalar_size one) (byte_cell 0)) k refl
+zero_cells Boolean kind e = let k : scalars.Truth ≡ kind = cc (e) in subst (λ (one : Scalar). cells_of one (Whole (pos 0)) ≡ replicate (scalar_size one) (byte_cell 0)) k refl
+zero_cells (Pointer target) kind e = let k : scalars.Object ≡ kind = cc (e) in subst (λ (one : Scalar). cells_of one Null ≡ replicate (scalar_size one) (byte_cell 0)) k refl
+zero_cells (Code params result) kind e = let k : scalars.Code ≡ kind = cc (e) in subst (λ (one : Scalar). cells_of one Null ≡ replicate (scalar_size one) (byte_cell 0)) k refl
+zero_cells Void kind e = cc (e)
+zero_cells (Array element size) kind e = cc (e)
+zero_cells (Record m y) kind e = cc (e)
+
+pub has_kind : (ty : Ty) → is_scalar ty ≡ true → (kind : Scalar) × (scalar_of ty ≡ Some kind)
+has_kind Void e = cc (e)
+has_kind (Array element size) e = cc (e)
+has_kind (Record m y) e = cc (e)
+has_kind (Integer I8) e = (scalars.Whole 8 true, refl)
+has_kind (Integer I16) e = (scalars.Whole 16 true, refl)
+has_kind (Integer I32) e = (scalars.Whole 32 true, refl)
+has_kind (Integer I64) e = (scalars.Whole 64 true, refl)
+has_kind (Integer Isize) e = (scalars.Whole 64 true, refl)
+has_kind (Integer U8) e = (scalars.Whole 8 false, refl)
+has_kind (Integer U16) e = (scalars.Whole 16 false, refl)
+has_kind (Integer U32) e = (scalars.Whole 32 false, refl)
+has_kind (Integer U64) e = (scalars.Whole 64 false, refl)
+has_kind (Integer Usize) e = (scalars.Whole 64 false, refl)
+has_kind Boolean e = (scalars.Truth, refl)
+has_kind (Pointer target) e = (scalars.Object, refl)
+has_kind (Code params result) e = (scalars.Code, refl)
+
+module _ (x : Around) where
+  pub scalar_zeroed : (world : World) (p : RustPlace) (one : Ty) (spot_at : Spot) (number : ℕ) (block : Block) (size : ℕ) → is_scalar one ≡ true → (kind : Scalar) → scalar_of one ≡ Some kind → scalar_size kind ≡ size → GivesPlace x.frame world p spot_at →
+      spot_at.ty ≡ one → spot_at.at ≡ Object (record { block = number; offset = 0 }) → spot_at.is_based ≡ true → live_block (blocks_of world) number ≡ Some block → size_of block ≡ size → size ≤ block.align → (units : ℕ) →
+      runs x (Assign p (zero_of one) ∷ []) world units ≡ came normal (world_with x world (with_cells_at (blocks_of world) number block (replicate size (byte_cell 0)))) units
+  scalar_zeroed world p one spot_at number block size scalar kind kind_is same gives ty_is at_is based_is live size_is enough units =
+      let zero_value : Value = if is_bits one then Whole (pos 0) else Null in
+      let cells = zero_cells one kind kind_is ∙ ap (λ (n : ℕ). replicate n (byte_cell 0)) same in
+      let put = put_at (blocks_of world) number block live kind zero_value (omega (arith, same, enough)) (omega (arith, same, size_is))
+      ∙ ap (λ (list : List Cell). Ok (slice_set (blocks_of world) number (Some (with_part block 0 list)))) cells
+      ∙ ap (λ (b : Block). Ok (slice_set (blocks_of world) number (Some b))) (whole_filled block (replicate size (byte_cell 0)) (length-replicate size (byte_cell 0) ∙ sym size_is)) in
+      run_one x.frame (Assign p (zero_of one)) world (world_with x world (with_cells_at (blocks_of world) number block (replicate size (byte_cell 0)))) units
+      (assign_at x world p (zero_of one) one one zero_value spot_at kind (record { block = number; offset = 0 }) (with_cells_at (blocks_of world) number block (replicate size (byte_cell 0))) units (zeros x.frame world one scalar) gives ty_is at_is based_is kind_is put)
