@@ -27,6 +27,7 @@ pub mod HeldPlaces
 pub mod Lasting
 pub mod Leaves
 pub mod LiteralClears
+pub mod LiteralFills
 pub mod LiteralLeaves
 pub mod LiteralZeros
 pub mod Loads

@@ -7,6 +7,7 @@ use Rattle.cr_runs.specs.Runs.{came}
 use Rattle.cr_world.specs.Held.{with_blocks}
 use Rattle.cr_world.specs.World.{World, blocks_of, with_held, with_memory}
 use Rattle.cx_core.specs.BitFields.{has_bit_fields}
+use Rattle.cx_core.specs.Layouts.{layouts_of}
 use Rattle.cx_core.specs.Trees.{CTy, CPuts, CObject, CProgram}
 use Rattle.cx_core.specs.Typing.{ArePuts}
 use Rattle.cx_mean.specs.Accesses.{sized}
@@ -41,6 +42,8 @@ use Rattle.lift_forms.specs.Places.{Kept, object_place}
 use Rattle.lift_forms_laws.proofs.Constants.{addresses}
 use Rattle.lift_forms_laws.proofs.Runs.{pure_is, cast_gives}
 use Rattle.lift_forms_laws.specs.Gives.{GivesAt, GivesPlace}
+use Rattle.lift_stands.proofs.Cells.{length_below}
+use Rattle.lift_stands.proofs.Loads.{BlockThere, block_there}
 use Rattle.lift_stands.specs.Keeps.{KeepsOthers}
 use Rattle.lift_stands.specs.Stands.{Images, PlaceBelow}
 use Rattle.lift_stands.specs.Worlds.{HeldStands, WorldsStand}
@@ -126,3 +129,160 @@ module _ (x : Around) where
       by w kept home ty_is gives false same =
           cast_gives x.frame w (address_of kept.place) (Pointer kept.ty) (Pointer (type_in x.names type)) (Object (record { block = home.block; offset = 0 })) (Object (record { block = home.block; offset = 0 }))
           (addresses x.frame w kept.ty kept.place (spot home.ty (Object (record { block = home.block; offset = 0 }))) gives ty_is) refl
+
+  -- ---- both have cleared
+
+  -- statements have come to their end where C has made an object anew, and both stand there
+  pub record ClearedBoth (images : Images) (c_world world : World) (list : List Stmt) (made : Blocks) : Type 0 where
+    pub after : World
+    pub comes : (units : ℕ) → runs x list world units ≡ came normal after units
+    pub worlds : WorldsStand images (with_memory made c_world) after
+    pub keeps : KeepsOthers (length (blocks_of world)) (λ _. false) images images c_world.held (with_blocks made c_world.held) world.held after.held
+
+  module _ (images : Images) (c_world world : World) (type : CTy) (number : ℕ) (puts : CPuts) (made : CCleared) (here : At x images c_world world) (lives : IsLiteralAlive x.home (scope x) (blocks_of c_world) type number)
+      (e : object_cleared (setting_in x.s) (scope x) number (Some puts) (blocks_of c_world) ≡ Ok made) where
+    abbrev at : Ptr
+    at = lives.alive.at
+
+    abbrev laid : Laid
+    laid = lives.alive.laid
+
+    anew : IsMade (setting_in x.s) (blocks_of c_world) at puts made
+    anew = is_made (setting_in x.s) (scope x) (blocks_of c_world) number puts at made lives.at_is e
+
+    made_size : made.size ≡ laid.size
+    made_size =
+        let blocks : Some anew.block ≡ Some lives.alive.block = sym anew.live ∙ lives.alive.live in
+        let same : anew.block ≡ lives.alive.block = cc (blocks) in
+        anew.size ∙ ap size_of same ∙ lives.alive.size
+
+    extent_there : extent_in (setting_in x.s) type ≡ Some laid
+    extent_there = ap (λ (program : CProgram). extent_in (setting_of program) type) (sym x.means.program) ∙ lives.laid_is
+
+    size_is : x.names.size_of type ≡ laid.size
+    size_is = x.means.sizes type laid extent_there
+
+    -- ---- zero bytes are written
+
+    address : HasAddress images type number at
+    address = has_address images c_world world type number at here lives.at_is lives.begins
+
+    beside : BlockThere images (blocks_of world) (record { block = address.block; offset = 0 }) lives.alive.block
+    beside = block_there images (blocks_of c_world) (blocks_of world) at (record { block = address.block; offset = 0 }) lives.alive.block here.worlds.held.memories address.below lives.alive.live
+
+    block_size : size_of beside.other ≡ laid.size
+    block_size = length_below images lives.alive.block.cells beside.other.cells beside.below.cells ∙ lives.alive.size
+
+    aligned : laid.align ≤ beside.other.align
+    aligned = let less = beside.below.align in let same = lives.alive.align in omega (arith, less, same)
+
+    abbrev zeros_there : Blocks
+    zeros_there = with_cells_at (blocks_of world) address.block beside.other (replicate laid.size (byte_cell 0))
+
+    scalar_runs : is_scalar (type_in x.names type) ≡ true → (units : ℕ) → runs x (Assign (object_at x.names type number) (zero_of (type_in x.names type)) ∷ []) world units ≡ came normal (world_with x world zeros_there) units
+    scalar_runs scalar units =
+        let one = type_in x.names type in
+        let kind = has_kind one scalar in
+        let has = scalar_laid x.s.modules one laid kind.0 kind.1 (x.means.laid type laid extent_there) in
+        let object = object_placed x images c_world world type number here lives in
+        let blocks : Some object.to.block ≡ Some address.block = sym object.below.block ∙ address.below.block in
+        let block : object.to.block ≡ address.block = cc (blocks) in
+        let offset : object.to.offset ≡ 0 = object.below.offset ∙ lives.begins in
+        let same : object.to ≡ record { block = address.block; offset = 0 } = ap (λ (b : ℕ). record { block = b; offset = object.to.offset }) block ∙ ap (λ (o : ℕ). record { block = address.block; offset = o }) offset in
+        let enough : laid.size ≤ beside.other.align = let first = has.size in let second = has.align in omega (arith, first, second, aligned) in
+        scalar_zeroed x world (object_at x.names type number) one object.placed.spot address.block beside.other laid.size scalar kind.0 kind.1 (sym has.size) object.placed.gives object.placed.ty_is (object.placed.at_is ∙ ap Object same)
+        (either_true object.placed.spot.is_based (is_base x.frame.modules (blocks_of world) one object.placed.spot.at) object.placed.based (scalar_based x (blocks_of world) one kind.0 object.placed.spot.at kind.1)) beside.live block_size enough units
+      where
+        either_true : (b c : Bool) → (b ≡ true) ⊎ (b ≡ c) → c ≡ true → b ≡ true
+        either_true b c (inl is) other = is
+        either_true b c (inr is) other = is ∙ other
+
+    bytes_runs : (units : ℕ) → runs x (zeroed_bytes (address_of (object_at x.names type number)) (x.names.size_of type)) world units ≡ came normal (world_with x world zeros_there) units
+    bytes_runs units =
+        let types = here.typed.scene.linked.types in
+        let some : 0 < laid.size = complete_has_byte x.home.program.types type laid types lives.laid_is in
+        let some_align : 0 < laid.align = extent_align x.home.program.types type laid types (extent_whole (layouts_of x.home.program.types) type laid lives.laid_is) in
+        let most : laid.size ≤ most_bytes = let sizes = here.typed.scene.memory.objects.sizes at.block lives.alive.block lives.alive.live in let size = lives.alive.size in omega (arith, sizes, size) in
+        subst (λ (n : ℕ). runs x (zeroed_bytes (address_of (object_at x.names type number)) n) world units ≡ came normal (world_with x world zeros_there) units) (sym size_is)
+        (zeroed_runs x world (address_of (object_at x.names type number)) (type_in x.names type) address.block beside.other laid.size address.gives beside.live block_size (omega (arith, some_align, aligned)) some most units)
+
+    zeroed_comes : (units : ℕ) → runs x (zeroed x.names type (object_at x.names type number)) world units ≡ came normal (world_with x world zeros_there) units
+    zeroed_comes units = by (is_scalar (type_in x.names type)) refl
+      where
+        by : (scalar : Bool) → is_scalar (type_in x.names type) ≡ scalar →
+            runs x (if scalar then Assign (object_at x.names type number) (zero_of (type_in x.names type)) ∷ [] else zeroed_bytes (address_of (object_at x.names type number)) (x.names.size_of type)) world units ≡ came normal (world_with x world zeros_there) units
+        by true scalar = scalar_runs scalar units
+        by false scalar = bytes_runs units
+
+    zeros_both : ClearedBoth images c_world world (zeroed x.names type (object_at x.names type number)) made.blocks
+    zeros_both =
+        let leaves = zeros_leave (setting_in x.s) (scope x) number (Some puts) images c_world.held world.held at (record { block = address.block; offset = 0 }) made here.worlds.held lives.at_is address.below e in
+        let filled : after_fill (blocks_of world) (record { block = address.block; offset = 0 }) 0 made.size ≡ Ok zeros_there =
+        ap (λ (n : ℕ). after_fill (blocks_of world) (record { block = address.block; offset = 0 }) 0 n) made_size ∙ fill_zero (blocks_of world) address.block beside.other beside.live laid.size block_size in
+        let same = as_blocks (after_fill (blocks_of world) (record { block = address.block; offset = 0 }) 0 made.size) leaves.beyond zeros_there leaves.done filled in
+        record {
+          after = world_with x world zeros_there;
+          comes = zeroed_comes;
+          worlds = worlds_held images images c_world world (with_blocks made.blocks c_world.held) (with_blocks zeros_there world.held) here.worlds
+              (subst (λ (m : Blocks). HeldStands images (with_blocks made.blocks c_world.held) (with_blocks m world.held)) same leaves.stands);
+          keeps = subst (λ (m : Blocks). KeepsOthers (length (blocks_of world)) (λ _. false) images images c_world.held (with_blocks made.blocks c_world.held) world.held (with_blocks m world.held)) same
+              (leaves.keeps (length (blocks_of world)) (λ _. false));
+        }
+      where
+        as_blocks : (found : Result Blocks Fault) (one other : Blocks) → found ≡ Ok one → found ≡ Ok other → one ≡ other
+        as_blocks found one other is also = let both = sym is ∙ also in cc (both)
+
+    -- ---- or nothing is
+
+    nothing_both : ArePuts x.home type puts → x.names.has_bits ≡ false → leave_bits x.names puts 0 (8 * x.names.size_of type) ≡ false → ClearedBoth images c_world world [] made.blocks
+    nothing_both are no_bits leaves =
+        let none : has_bit_fields x.home.program.types ≡ false = ap (λ (program : CProgram). has_bit_fields program.types) x.means.program ∙ sym x.means.bits ∙ no_bits in
+        let no_bytes : images.in_bytes ≡ false = here.program.bytes ∙ sym x.means.bits ∙ no_bits in
+        let size : made.size ≡ x.names.size_of type = made_size ∙ sym size_is in
+        let unset = first_unset x.s x.names x.means.sizes made.size puts anew.given (are_plain x.home type puts none are) (subst (λ (n : ℕ). leave_bits x.names puts 0 (8 * n) ≡ false) (sym size) leaves)
+        (subst (λ (n : ℕ). first_cells (setting_in x.s) n (Some puts) ≡ Ok anew.given) (sym anew.size) anew.given_is) (anew.many ∙ sym anew.size) in
+        let alone = nothing_left (setting_in x.s) (scope x) number (Some puts) images c_world.held world.held at (record { block = address.block; offset = 0 }) made here.worlds.held lives.at_is address.below e no_bytes unset in
+        record {
+          after = world;
+          comes = λ units. pure_is normal world units;
+          worlds = worlds_held images images c_world world (with_blocks made.blocks c_world.held) world.held here.worlds alone.stands;
+          keeps = alone.keeps (length (blocks_of world)) (λ _. false);
+        }
+
+    pub literal_clears : ArePuts x.home type puts → ClearedBoth images c_world world (zeroed_where (is_zeroed x.names type puts) x.names type (object_at x.names type number)) made.blocks
+    literal_clears are = by x.names.has_bits (leave_bits x.names puts 0 (8 * x.names.size_of type)) refl refl
+      where
+        by : (bits leaves : Bool) → x.names.has_bits ≡ bits → leave_bits x.names puts 0 (8 * x.names.size_of type) ≡ leaves →
+            ClearedBoth images c_world world (if (bits || leaves) then zeroed x.names type (object_at x.names type number) else []) made.blocks
+        by true leaves has left = zeros_both
+        by false true has left = zeros_both
+        by false false has left = nothing_both are has left
+
+    -- what C has then is typed
+    pub cleared_typed : ArePuts x.home type puts → IsTypedAt x.home (scope x) (with_memory made.blocks c_world)
+    cleared_typed are =
+        let one : CObject = record lives.one { object = number; type = type } in
+        let own : IsAlive x.home.program (scope x) (blocks_of c_world) one = record {
+          at = at;
+          at_is = lives.at_is;
+          laid = laid;
+          laid_is = lives.laid_is;
+          block = lives.alive.block;
+          live = lives.alive.live;
+          size = lives.alive.size;
+          align = lives.alive.align;
+        } in
+        let stored : object_cleared (setting_of x.home.program) (scope x) number (Some puts) (blocks_of c_world) ≡ Ok made = ap (λ (program : CProgram). object_cleared (setting_of program) (scope x) number (Some puts) (blocks_of c_world)) x.means.program ∙ e in
+        let good = subst (Surely (λ (c : CCleared). IsClearedOf x.home.program (blocks_of c_world) c.blocks)) stored
+        (object_made x.home (scope x) (blocks_of c_world) one (Some puts) here.typed.scene.linked.types here.typed.scene.memory own are) in
+        typed_stepped x.home (scope x) c_world made.blocks good.shapes good.memory here.typed
+
+    pub cleared_reached : (from : ℕ) (are : ArePuts x.home type puts) → Reached x from from images images c_world world (with_memory made.blocks c_world) (literal_clears are).after
+    cleared_reached from are =
+        let cleared = literal_clears are in
+        record {
+          own = λ _. false;
+          are_own = λ block is. cc (is);
+          keeps = cleared.keeps;
+          at = at_after x images images (λ _. false) c_world world (with_memory made.blocks c_world) cleared.after here cleared.keeps cleared.worlds (cleared_typed are);
+        }
