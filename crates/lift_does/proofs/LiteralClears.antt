@@ -2,10 +2,9 @@
 use Rattle.std.proofs.Common.{◌≡◌, ◌⊎◌, inl, inr, ℕ, ◌*◌, ◌<◌, ◌≤◌, ◌==◌, ◌||◌, Bool, true, false, List, [], ◌∷◌, length, replicate, Option, Some, Result, Ok, Err, if◌then◌else◌, refl, sym, ap, subst, ◌∙◌, arith}
 use Rattle.std.proofs.lemmas.Bool.Decides.{nat_tests}
 use Rattle.cr_base.specs.declared.layout.Laid.{Laid}
-use Rattle.cr_base.specs.declared.scalar.Scalar.{Scalar}
 use Rattle.cr_runs.specs.Runs.{came}
 use Rattle.cr_world.specs.Held.{with_blocks}
-use Rattle.cr_world.specs.World.{World, blocks_of, with_held, with_memory}
+use Rattle.cr_world.specs.World.{World, blocks_of, with_memory}
 use Rattle.cx_core.specs.BitFields.{has_bit_fields}
 use Rattle.cx_core.specs.Layouts.{layouts_of}
 use Rattle.cx_core.specs.Trees.{CTy, CPuts, CObject, CProgram}
@@ -26,10 +25,10 @@ use Rattle.lift_calls.specs.Programs.{setting_in}
 use Rattle.lift_does.proofs.Alignments.{extent_align}
 use Rattle.lift_does.proofs.Around.{Around, scope, At, Reached, runs}
 use Rattle.lift_does.proofs.LiteralLeaves.{are_plain, first_unset}
-use Rattle.lift_does.proofs.LiteralZeros.{with_cells_at, fill_zero, world_with, zero_world, zeroed_runs, has_kind, scalar_zeroed}
+use Rattle.lift_does.proofs.LiteralZeros.{with_cells_at, fill_zero, world_with, zeroed_runs, has_kind, scalar_zeroed}
 use Rattle.lift_does.proofs.Nodes.{and_then_is}
 use Rattle.lift_does.proofs.Places.{scalar_based}
-use Rattle.lift_does.proofs.PutsStores.{ObjectPlaced, object_placed, needed_is}
+use Rattle.lift_does.proofs.PutsStores.{object_placed, needed_is}
 use Rattle.lift_does.proofs.Reaching.{at_after}
 use Rattle.lift_does.proofs.Temporaries.{scalar_laid}
 use Rattle.cx_typed_work.proofs.Rows.{extent_whole}
@@ -50,16 +49,16 @@ use Rattle.lift_stands.specs.Worlds.{HeldStands, WorldsStand}
 use Rattle.lift_stands_lives.proofs.Begun.{worlds_held}
 use Rattle.lift_stands_values.proofs.Literals.{zeros_leave, nothing_left}
 use Rattle.mem_bytes.specs.Access.{after_fill}
-use Rattle.mem_bytes.specs.Memory.{Block, Blocks, live_block, size_of, byte_cell, unset_cell}
+use Rattle.mem_bytes.specs.Memory.{Block, Blocks, live_block, size_of, byte_cell}
 use Rattle.mem_bytes.specs.declared.cell.Cell.{Cell}
 use Rattle.mem_bytes.specs.declared.fault.Fault.{Fault}
 use Rattle.mem_bytes.specs.declared.value.Ptr.{Ptr}
 use Rattle.mem_bytes.specs.declared.value.Value.TheVariants.{Object}
-use Rattle.rs_mean.specs.Calls.{Spot, spot}
+use Rattle.rs_mean.specs.Calls.{spot}
 use Rattle.rs_mean.specs.Lookups.{Home}
 use Rattle.rs_mean.specs.Run.{normal, is_base}
-use Rattle.rs_mean.specs.Scalars.{is_scalar, scalar_of, same_type}
-use Rattle.rs_text.specs.Tree.{Ty, Pointer, Place as RustPlace, Local, Static, Deref, Field, Cast, Stmt, Assign}
+use Rattle.rs_mean.specs.Scalars.{is_scalar, same_type}
+use Rattle.rs_text.specs.Tree.{Pointer, Place as RustPlace, Local, Static, Deref, Field, Cast, Stmt, Assign}
 
 -- ---- what C has made
 

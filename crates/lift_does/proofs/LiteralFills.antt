@@ -1,13 +1,11 @@
 -- Compound literals: each value is stored before the next one is reached, and then the object is given (ISO C99, 6.5.2.5).
-use Rattle.std.proofs.Common.{◌≡◌, inr, ℕ, ◌<◌, ◌≤◌, Bool, true, List, [], ◌∷◌, ◌++◌, Some, Ok, refl, sym, ap, subst, ◌∙◌, arith}
-use Rattle.std.proofs.lemmas.List.{append-nil}
+use Rattle.std.proofs.Common.{◌≡◌, ℕ, ◌<◌, true, [], ◌++◌, Some, Ok, refl, sym, subst, arith}
 use Rattle.cr_base.specs.declared.refusal.Place.{Place}
-use Rattle.cr_runs.specs.Runs.{came}
 use Rattle.cr_world.specs.World.{World, blocks_of, with_memory}
-use Rattle.cx_core.specs.Trees.{CTy, CExpr, expr, literal, CPut, put, CPuts, no_puts, more_puts}
+use Rattle.cx_core.specs.Trees.{CTy, expr, literal, put, CPuts, no_puts, more_puts}
 use Rattle.cx_core.specs.Typing.{IsLvalue, ArePuts}
 use Rattle.cx_mean.specs.Initialisers.{CCleared, object_cleared}
-use Rattle.cx_mean.specs.Leftmost.{CRan, c_fill}
+use Rattle.cx_mean.specs.Leftmost.{c_fill}
 use Rattle.cx_mean.specs.Marks.{Marks, no_marks, bits_of_bytes, with_write, at_sequence_point}
 use Rattle.cx_mean.specs.Nodes.{CDone, done, literal_cleared, marks_after_put}
 use Rattle.cx_mean.specs.Operands.{CValue, names, COperand}
@@ -19,7 +17,7 @@ use Rattle.lift_does.proofs.LiteralClears.{literal_clears, cleared_reached}
 use Rattle.lift_does.proofs.Nodes.{and_then_is}
 use Rattle.lift_does.proofs.Numbers.{rises, numbered, puts_numbered}
 use Rattle.lift_does.proofs.Operands.{where_used}
-use Rattle.lift_does.proofs.PutsOwed.{front_owes, put_owes}
+use Rattle.lift_does.proofs.PutsOwed.{asked_of_put, front_owes, put_owes}
 use Rattle.lift_does.proofs.Reaching.{reached_none, reached_then}
 use Rattle.lift_does.proofs.Runs.{step_owes, end_owes, weaker_owes, same_events}
 use Rattle.lift_does.proofs.Unary.{form_fixed, ExprOwes, FormOwes}
@@ -29,11 +27,9 @@ use Rattle.lift_exprs.specs.Lifted.{lifted, lifted_puts}
 use Rattle.lift_exprs.specs.Objects.{object_at, is_zeroed, zeroed_where}
 use Rattle.lift_forms.specs.Given as given_form
 use Rattle.lift_forms_laws.proofs.Runs.{pure_is}
-use Rattle.lift_held.specs.Held.{operand}
 use Rattle.lift_held.specs.declared.asked.Asked.{Asked}
 use Rattle.lift_stands.specs.Stands.{Images}
 use Rattle.rs_mean.specs.Run.{Flow, normal}
-use Rattle.rs_text.specs.Tree.{Stmt}
 
 -- C's first write is to the whole object
 abbrev marks_of : CCleared → Marks
@@ -44,7 +40,7 @@ module _ (x : Around) where
   abbrev pub EachPutOwes : CPuts → ℕ → Type 0
   EachPutOwes no_puts next = Unit {0}
   EachPutOwes (more_puts (put spot part value) others) next =
-      ((images : Images) (c w : World) → At x images c w → ExprOwes x operand value next images c w) × (0 < spot.width → is_fixed operand value ≡ true) × EachPutOwes others (lifted x.names operand value next).next
+      ((images : Images) (c w : World) → At x images c w → ExprOwes x (asked_of_put spot) value next images c w) × (0 < spot.width → is_fixed (asked_of_put spot) value ≡ true) × EachPutOwes others (lifted x.names (asked_of_put spot) value next).next
 
   -- all values have been stored
   pub record Filled (number from to : ℕ) (images : Images) (c0 w0 : World) (one : COperand) (c1 : World) (flow : Flow) (w1 : World) : Type 0 where
@@ -61,16 +57,17 @@ module _ (x : Around) where
       end_owes x (Filled number from from images c0 w0) (record { type = type; value = names number; marks = marks }) [] c0 w0 w0 (λ units. pure_is normal w0 units)
       (record { flow_is = refl; value_is = refl; later = images; reached = reached_none x from images c0 w0 here })
   fill_owes type number lives (more_puts (put spot part value) others) marks from images c0 w0 here are owes =
-      let written = lifted x.names operand value from in
+      let asked = asked_of_put spot in
+      let written = lifted x.names asked value from in
       let rest = lifted_puts x.names type (object_at x.names type number) others written.next in
       put_owes x type number lives spot part value are.0.0 are.0.1 (Filled number from rest.next images c0 w0) (λ one. one) (λ made after. c_fill (setting_in x.s) (c_calls x.s) (scope x) type number others (marks_after_put marks made.marks) after) rest.body
-      (is_fixed operand value) written from images c0 w0 (λ one. refl) (λ one. refl) here (rises written from (numbered x.names operand value from)) owes.1 (owes.0 images c0 w0 here) (λ made later c1 w1 reached.
+      (is_fixed asked value) written from images c0 w0 (λ one. refl) (λ one. refl) here (rises written from (numbered x.names asked value from)) owes.1 (owes.0 images c0 w0 here) (λ made later c1 w1 reached.
       weaker_owes x (Filled number written.next rest.next later c1 w1) (Filled number from rest.next images c0 w0) (λ k. c_fill (setting_in x.s) (c_calls x.s) (scope x) type number others (marks_after_put marks made.marks) c1 k) rest.body w1
       (λ one c2 flow w2 filled. record {
         flow_is = filled.flow_is;
         value_is = filled.value_is;
         later = filled.later;
-        reached = reached_then x from written.next rest.next images later filled.later c0 w0 c1 w1 c2 w2 (rises written from (numbered x.names operand value from))
+        reached = reached_then x from written.next rest.next images later filled.later c0 w0 c1 w1 c2 w2 (rises written from (numbered x.names asked value from))
             (rises rest written.next (puts_numbered x.names type (object_at x.names type number) others written.next)) here reached filled.reached;
       })
       (fill_owes type number lives others (marks_after_put marks made.marks) written.next later c1 w1 reached.at are.1 owes.2))

@@ -1,5 +1,5 @@
 -- Values that leave no bit of their object: C unsets all of its cells before they are stored (ISO C99, 6.7.8).
-use Rattle.std.proofs.Common.{◌≡◌, ℕ, zero, suc, ◌+◌, ◌*◌, ◌<◌, ◌≤◌, ◌||◌, nat_lt, max, Bool, true, false, List, length, replicate, slice_index_or, Option, Some, None, Ok, rules, refl, sym, ap, subst, ◌∙◌, arith}
+use Rattle.std.proofs.Common.{◌≡◌, ℕ, zero, suc, ◌+◌, ◌*◌, ◌<◌, ◌≤◌, ◌||◌, nat_lt, max, Bool, true, false, List, length, replicate, slice_index_or, Some, Ok, rules, refl, sym, ap, subst, ◌∙◌, arith}
 use Rattle.std.proofs.lemmas.Bool.Decides.{nat_tests}
 use Rattle.std.proofs.lemmas.List.{same_lists, places}
 use Rattle.cr_base.specs.declared.layout.Laid.{Laid}

@@ -5,12 +5,11 @@ use Rattle.std.proofs.Math.Nat.{mul_assoc, mul_comm, mul-add, pow-suc}
 use Rattle.std.proofs.lemmas.Bool.{le-leb}
 use Rattle.std.proofs.lemmas.Bool.Decides.{nat_tests}
 use Rattle.std.proofs.lemmas.List.{set-set, same_lists, places, append-nil, drop_all, length-replicate}
-use Rattle.cr_base.specs.declared.layout.Laid.{Laid}
 use Rattle.cr_base.specs.declared.scalar.Scalar.{Scalar}
 use Rattle.cr_base.specs.declared.scalar.Scalar.TheVariants as scalars
-use Rattle.cr_runs.specs.Runs.{Ran, came}
+use Rattle.cr_runs.specs.Runs.{came}
 use Rattle.cr_world.specs.Held.{Held, with_blocks}
-use Rattle.cr_world.specs.World.{World, Stop, blocks_of, with_held}
+use Rattle.cr_world.specs.World.{World, blocks_of, with_held}
 use Rattle.cx_typed_values.specs.Values.{most_bytes}
 use Rattle.lift_does.proofs.Around.{Around, runs}
 use Rattle.lift_does.proofs.Copies.{copy_changes, bytes_copied}
@@ -35,14 +34,14 @@ use Rattle.mem_bytes.specs.declared.value.Ptr.{Ptr}
 use Rattle.mem_bytes.specs.declared.value.Value.{Value}
 use Rattle.mem_bytes.specs.declared.value.Value.TheVariants.{Whole, Null, Object}
 use Rattle.rs_mean.specs.Calls.{Spot, spot, store, in_memory, stored_as, copies, copy_of}
-use Rattle.rs_mean.specs.Run.{Flow, normal, run_expr, run_place, run_stmt, goes_on}
+use Rattle.rs_mean.specs.Run.{normal, run_expr, run_place, run_stmt, goes_on}
 use Rattle.rs_mean.specs.Scalars.{is_scalar, scalar_of}
 use Rattle.rs_mean.specs.Typing.{is_bits}
 use Rattle.rs_mean.specs.Values.{Typed, typed}
 use Rattle.rs_mean.specs.World.{Did, pure, local, after_step, or_cause, cause_of}
 use Rattle.rs_mean.specs.declared.cause.Cause.{Cause}
 use Rattle.rs_text.specs.declared.integer.IntegerTy.TheVariants.{I8, I16, I32, I64, Isize, U8, U16, U32, U64, Usize}
-use Rattle.rs_text.specs.Tree.{Ty, Integer, Boolean, Void, Pointer, Array, Code, Record, Place as RustPlace, Deref, Expr, Literal, Offset, Stmt, Assign, CopyBytes, stmts}
+use Rattle.rs_text.specs.Tree.{Ty, Integer, Boolean, Void, Pointer, Array, Code, Record, Place as RustPlace, Deref, Expr, Literal, Offset, Stmt, Assign, CopyBytes}
 
 -- ---- cells
 

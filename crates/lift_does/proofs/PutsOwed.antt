@@ -1,5 +1,5 @@
 -- A value of an initialiser or a compound literal is evaluated, and stored in a part of its object before the next one is reached (ISO C99, 6.5.2.5 and 6.7.8).
-use Rattle.std.proofs.Common.{◌≡◌, inl, ℕ, ◌<◌, ◌≤◌, Bool, true, false, List, [], ◌∷◌, ◌++◌, length, Ok, refl, sym, ap, subst, ◌∙◌, arith}
+use Rattle.std.proofs.Common.{◌≡◌, inl, ℕ, ◌<◌, ◌≤◌, Bool, true, false, List, ◌++◌, length, Ok, refl, sym, ap, subst, ◌∙◌, arith}
 use Rattle.std.proofs.lemmas.List.{append_assoc}
 use Rattle.cr_base.specs.declared.layout.Spot.{Spot}
 use Rattle.cr_runs.proofs.Rules.{renamed}
@@ -22,20 +22,26 @@ use Rattle.cx_typed_work.specs.Operands.{IsOperandOf, IsGivenBy}
 use Rattle.lift_calls.specs.Programs.{setting_in}
 use Rattle.lift_does.proofs.Around.{Around, scope, At, OweAs, Reached, runs, value_in}
 use Rattle.lift_does.proofs.Nodes.{PartOwes, OneDid, one_owes}
-use Rattle.lift_does.proofs.PutsStores.{PutBoth, IsGivenMeanwhile, put_both}
+use Rattle.lift_does.proofs.PutsStores.{IsGivenMeanwhile, put_both}
 use Rattle.lift_does.proofs.Reaching.{at_after, reached_then, later_itself}
 use Rattle.lift_does.proofs.RecordAssignments.{temporaries_beside}
 use Rattle.lift_does.proofs.Runs.{run_behind, step_owes, same_events}
-use Rattle.lift_does.specs.Gives.{GivesOperand, GivesWhere}
+use Rattle.lift_does.specs.Gives.{GivesOperand}
 use Rattle.lift_exprs.specs.Objects.{object_at, part_target}
 use Rattle.lift_exprs.specs.Stores.{Target, stored_value, stores}
 use Rattle.lift_exprs.specs.Written.{Written}
+use Rattle.lift_held.specs.Held.{operand}
+use Rattle.lift_held.specs.declared.asked.Asked.{Asked}
 use Rattle.lift_stands.specs.Stands.{Images}
 use Rattle.lift_stands_accesses.specs.Objects.{LeftStanding}
 use Rattle.lift_stands_lives.proofs.Begun.{worlds_held}
 use Rattle.mem_bytes.specs.Memory.{Blocks}
 use Rattle.rs_mean.specs.Run.{Flow, normal}
 use Rattle.rs_text.specs.Tree.{Stmt}
+
+-- how the value of a put is asked for
+abbrev pub asked_of_put : Spot → Asked
+asked_of_put spot = operand
 
 module _ (x : Around) where
   -- statements that come to their end, in front of others, where C is already behind what they do

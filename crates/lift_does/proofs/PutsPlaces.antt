@@ -3,7 +3,7 @@
 use Rattle.std.proofs.Common.{◌≡◌, ◌⊎◌, inl, inr, ℕ, zero, suc, ◌+◌, ◌*◌, ◌/◌, ◌%◌, ◌==◌, ◌<◌, ◌≤◌, nat_le, Bool, true, false, ◌&&◌, if◌then◌else◌, ℤ, pos, List, Option, Some, None, Result, Ok, Err, refl, sym, ap, subst, ◌∙◌, arith}
 use Rattle.std.proofs.Math.IntN.{pos-*ℤ-pos}
 use Rattle.std.proofs.Math.Nat.{mod-lt}
-use Rattle.std.proofs.lemmas.Bool.{and_parts, and_from, eqb-true, leb-true, le-leb}
+use Rattle.std.proofs.lemmas.Bool.{and_parts, and_from, eqb-true, le-leb}
 use Rattle.std.proofs.lemmas.Bool.Decides.{nat_tests}
 use Rattle.cr_base.specs.declared.layout.Laid.{Laid}
 use Rattle.cr_world.specs.World.{World, blocks_of}
@@ -14,7 +14,7 @@ use Rattle.lift_does.proofs.Around.{Around}
 use Rattle.lift_does.proofs.Operands.{one_spot, points_at, other_based}
 use Rattle.lift_does.proofs.PutsSizes.{aligned_behind, byte_of_element, index_below, elements_fit, IsElement, element_laid}
 use Rattle.lift_does.specs.Agree.{FieldMeans}
-use Rattle.lift_does.specs.Gives.{IsNoDeref, AddressesBased, GivesLvalue}
+use Rattle.lift_does.specs.Gives.{IsNoDeref, AddressesBased}
 use Rattle.lift_exprs.specs.Names.{type_in, field_in}
 use Rattle.lift_exprs.specs.Objects.{behind as behind_place, part_by_bytes, element_place, member_or_bytes, part_place, part_of_element}
 use Rattle.lift_exprs.specs.Written.{as_bytes, place_at}
@@ -24,7 +24,7 @@ use Rattle.lift_forms.specs.Given as given_form
 use Rattle.lift_forms_laws.proofs.Constants.{addresses}
 use Rattle.lift_forms_laws.proofs.Runs.{seq_is, looks_is, literal_gives, cast_gives, offset_gives}
 use Rattle.lift_forms_laws.specs.Gives.{GivesAt, GivesPlace}
-use Rattle.lift_stands.specs.Stands.{Images, PlaceBelow, ValueBelow}
+use Rattle.lift_stands.specs.Stands.{Images}
 use Rattle.mem_bytes.specs.Access.{and_then, is_record_aligned}
 use Rattle.mem_bytes.specs.Laws.{behind}
 use Rattle.mem_bytes.specs.Memory.{Block, Blocks, live_block, size_of}
@@ -38,7 +38,7 @@ use Rattle.rs_mean.specs.Calls.{Spot, based, in_block, may_stand}
 use Rattle.rs_mean.specs.Layout.{laid_of, laid_at, field_at}
 use Rattle.rs_mean.specs.Run.{is_base, run_place, spot_of_field, field_by_type, field_spot, moved_to}
 use Rattle.rs_mean.specs.Scalars.{same_type}
-use Rattle.rs_mean.specs.Values.{typed, pointing, offset_by}
+use Rattle.rs_mean.specs.Values.{pointing, offset_by}
 use Rattle.rs_mean.specs.World.{or_cause, cause_of_pointer}
 use Rattle.rs_text.specs.Tree.{Ty, Integer, Pointer, Record, Place as RustPlace, Deref, Field, Expr, Literal, Offset, Cast}
 use Rattle.rs_text.specs.declared.integer.IntegerTy.TheVariants.{U8, Isize}

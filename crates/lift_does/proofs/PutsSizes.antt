@@ -11,7 +11,7 @@ use Rattle.cr_base.specs.declared.layout.Piece.{Piece}
 use Rattle.cx_core.specs.Conversions.{width_of_basic}
 use Rattle.cx_core.specs.declared.ty.Basic.{Basic}
 use Rattle.cx_core.specs.declared.ty.Basic.TheVariants as basics
-use Rattle.cx_core.specs.Layouts.{CLayouts, CRow, row_at, bytes, array_extent, elements, whole_extent, extent, within_most, row_of_pieces, pieces_of, layouts_of}
+use Rattle.cx_core.specs.Layouts.{CRow, row_at, array_extent, whole_extent, extent, within_most, row_of_pieces, pieces_of, layouts_of}
 use Rattle.cx_core.specs.Trees.{CTy, ty, void, basic, enum_type, pointer, array, record_type, function, CTypes}
 use Rattle.cx_typed_work.proofs.Rows.{then_found, map_found, some_same, extent_whole, row_here}
 

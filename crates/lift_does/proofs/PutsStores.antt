@@ -1,23 +1,18 @@
 -- A value is stored in a part of an object: a scalar, a structure or union, or a number in a bit-field (ISO C99, 6.5.16.1 and 6.7.8).
-use Rattle.std.proofs.Common.{◌≡◌, ◌⊎◌, inl, inr, ℕ, zero, suc, ◌+◌, ◌*◌, ◌%◌, ◌^◌, ◌==◌, ◌<◌, ◌≤◌, nat_le, nat_lt, ℤ, Bool, true, false, if◌then◌else◌, List, [], ◌∷◌, ◌++◌, Option, Some, None, option_map, IsSome, Result, Ok, refl, sym, ap, subst, ◌∙◌, arith}
-use Rattle.std.proofs.lemmas.Bool.{and_parts, and_from, eqb-true, le-leb}
+use Rattle.std.proofs.Common.{◌≡◌, ℕ, zero, suc, ◌+◌, ◌*◌, ◌%◌, ◌==◌, ◌<◌, ◌≤◌, nat_le, nat_lt, ℤ, Bool, true, false, if◌then◌else◌, List, [], ◌∷◌, Option, Some, None, option_map, Ok, refl, sym, ap, subst, ◌∙◌, arith}
+use Rattle.std.proofs.lemmas.Bool.{and_parts, and_from, le-leb}
 use Rattle.std.proofs.lemmas.Bool.Decides.{nat_tests}
-use Rattle.std.proofs.lemmas.Nat.{pow_pos}
-use Rattle.cr_base.proofs.Residues.{residue_below}
-use Rattle.cr_base.specs.Scalar.{residue}
 use Rattle.cr_base.specs.declared.layout.Laid.{Laid}
 use Rattle.cr_base.specs.declared.layout.Spot.{Spot as CSpot}
-use Rattle.cr_base.specs.declared.scalar.Scalar.{Scalar}
-use Rattle.cr_base.specs.declared.scalar.Scalar.TheVariants as scalars
 use Rattle.cr_runs.specs.Runs.{came}
 use Rattle.cr_world.specs.Held.{with_blocks}
 use Rattle.cr_world.specs.World.{World, blocks_of, with_held, with_memory}
 use Rattle.cx_core.specs.BitFields.{has_bit_fields}
-use Rattle.cx_core.specs.Trees.{CTy, ty, CTyForm, void, basic, enum_type, pointer, array, record_type, function, unqualified, CExpr, type_of, CTypes, CProgram, CMember, is_const_type}
+use Rattle.cx_core.specs.Trees.{CTy, ty, CTyForm, void, basic, enum_type, pointer, array, record_type, function, unqualified, CExpr, type_of, CTypes, CProgram, CMember}
 use Rattle.cx_core.specs.Layouts.{extent, layouts_of}
 use Rattle.cx_core.specs.Typing.{IsPutOf}
 use Rattle.cx_core.specs.ValidTypes.{CPart, direct_part, part_at, within, member_of, spot_of, has_name, is_named_path, with_const}
-use Rattle.cx_mean.specs.Accesses.{CKind, of_scalar, of_record, kind_of, CStored, stored, stored_kind, stored_record, stored_bits, cells_in, field_value}
+use Rattle.cx_mean.specs.Accesses.{CKind, of_scalar, of_record, kind_of, CStored, stored, stored_kind, stored_record, stored_bits, cells_in}
 use Rattle.cx_mean.specs.Initialisers.{part_with, part_place as c_part_place, put_stored}
 use Rattle.cx_mean.specs.Marks.{Marks}
 use Rattle.cx_mean.specs.Operands.{needed, CValue, scalar, cells, names, designates, designates_bits, missing, COperand, place_in, slot_of}
@@ -25,9 +20,7 @@ use Rattle.cx_mean.specs.Settings.{setting_of, extent_in, scalar_in_type}
 use Rattle.cx_mean.specs.Values.{value_of_kind}
 use Rattle.cx_mean.specs.Operands.{scalar_value}
 use Rattle.cx_typed_sizes.proofs.Bytes.{complete_has_byte}
-use Rattle.cx_typed_values.specs.Outcomes.{Comes}
 use Rattle.cx_typed_values.specs.Values.{most_bytes}
-use Rattle.cx_typed_work.proofs.Inside.{IsInside}
 use Rattle.cx_typed_work.proofs.Parts.{IsPlaced, placed_inside}
 use Rattle.cx_typed_work.proofs.Puts.{IsLiteralAlive}
 use Rattle.cx_typed_work.proofs.Rows.{then_found, map_found, some_same, extent_whole}
@@ -46,7 +39,7 @@ use Rattle.lift_does.proofs.PutsPlaces.{PlacedAt, RoomAt, address_placed, part_p
 use Rattle.lift_does.proofs.RecordAssignments.{copies_both}
 use Rattle.lift_does.proofs.Runs.{run_one}
 use Rattle.lift_does.specs.Gives.{GivesLvalue, GivesBase, GivesRecord, GivesOperand}
-use Rattle.lift_exprs.specs.Names.{Names, type_in}
+use Rattle.lift_exprs.specs.Names.{type_in}
 use Rattle.lift_exprs.specs.Objects.{object_at, part_place, part_target}
 use Rattle.lift_exprs.specs.Stores.{Target, a_scalar, a_structure, a_field, whole_target, stored_value, stores}
 use Rattle.lift_exprs.specs.Written.{address_of_given, copied}
@@ -63,15 +56,13 @@ use Rattle.lift_stands.proofs.Loads.{block_there}
 use Rattle.lift_stands.specs.Stands.{Images, PlaceBelow, ValueBelow}
 use Rattle.lift_stands_accesses.specs.Objects.{LeftStanding}
 use Rattle.lift_stands_values.specs.Given.{align_in}
-use Rattle.mem_bytes.specs.Access.{is_record_aligned}
 use Rattle.mem_bytes.specs.Laws.{behind}
-use Rattle.mem_bytes.specs.Memory.{Block, Blocks, size_of}
+use Rattle.mem_bytes.specs.Memory.{Blocks, size_of}
 use Rattle.mem_bytes.specs.declared.cell.Cell.{Cell}
 use Rattle.mem_bytes.specs.declared.value.Ptr.{Ptr}
-use Rattle.mem_bytes.specs.declared.value.Value.{Value}
 use Rattle.mem_bytes.specs.declared.value.Value.TheVariants.{Whole, Object}
 use Rattle.rs_mean.specs.Run.{normal, run_stmt}
-use Rattle.rs_text.specs.Tree.{Ty, Pointer, Place as RustPlace, Expr, Stmt, Assign}
+use Rattle.rs_text.specs.Tree.{Ty, Place as RustPlace, Expr, Stmt, Assign}
 
 -- ---- the object
 
