@@ -14,6 +14,7 @@ use Rattle.lift_calls.specs.Bodies.{HoldsZeros}
 use Rattle.lift_calls.specs.Frames.{KeptTemporary}
 use Rattle.lift_does.proofs.Around.{Around}
 use Rattle.lift_does.proofs.Copies.{copy_fits, copy_comes, bytes_copied, temporary_address}
+use Rattle.lift_does.proofs.LiteralZeros.{zero_cells, has_kind}
 use Rattle.lift_does.proofs.Runs.{run_one}
 use Rattle.lift_does.proofs.Temporaries.{scalar_laid, zero_aligned, assign_comes}
 use Rattle.lift_exprs.specs.Names.{kept_or, type_in}
@@ -46,42 +47,6 @@ use Rattle.build_flow_parts.proofs.Objects.{ItsLocal, its_local}
 use Rattle.build_flow_parts.proofs.Values.{around_of}
 
 -- ---- zero bytes
-
-zero_cells : (ty : Ty) (kind : Scalar) → scalar_of ty ≡ Some kind → cells_of kind (if is_bits ty then Whole (pos 0) else Null) ≡ replicate (scalar_size kind) (byte_cell 0)
-zero_cells (Integer I8) kind e = let k : scalars.Whole 8 true ≡ kind = cc (e) in subst (λ (one : Scalar). cells_of one (Whole (pos 0)) ≡ replicate (scalar_size one) (byte_cell 0)) k refl
-zero_cells (Integer I16) kind e = let k : scalars.Whole 16 true ≡ kind = cc (e) in subst (λ (one : Scalar). cells_of one (Whole (pos 0)) ≡ replicate (scalar_size one) (byte_cell 0)) k refl
-zero_cells (Integer I32) kind e = let k : scalars.Whole 32 true ≡ kind = cc (e) in subst (λ (one : Scalar). cells_of one (Whole (pos 0)) ≡ replicate (scalar_size one) (byte_cell 0)) k refl
-zero_cells (Integer I64) kind e = let k : scalars.Whole 64 true ≡ kind = cc (e) in subst (λ (one : Scalar). cells_of one (Whole (pos 0)) ≡ replicate (scalar_size one) (byte_cell 0)) k refl
-zero_cells (Integer Isize) kind e = let k : scalars.Whole 64 true ≡ kind = cc (e) in subst (λ (one : Scalar). cells_of one (Whole (pos 0)) ≡ replicate (scalar_size one) (byte_cell 0)) k refl
-zero_cells (Integer U8) kind e = let k : scalars.Whole 8 false ≡ kind = cc (e) in subst (λ (one : Scalar). cells_of one (Whole (pos 0)) ≡ replicate (scalar_size one) (byte_cell 0)) k refl
-zero_cells (Integer U16) kind e = let k : scalars.Whole 16 false ≡ kind = cc (e) in subst (λ (one : Scalar). cells_of one (Whole (pos 0)) ≡ replicate (scalar_size one) (byte_cell 0)) k refl
-zero_cells (Integer U32) kind e = let k : scalars.Whole 32 false ≡ kind = cc (e) in subst (λ (one : Scalar). cells_of one (Whole (pos 0)) ≡ replicate (scalar_size one) (byte_cell 0)) k refl
-zero_cells (Integer U64) kind e = let k : scalars.Whole 64 false ≡ kind = cc (e) in subst (λ (one : Scalar). cells_of one (Whole (pos 0)) ≡ replicate (scalar_size one) (byte_cell 0)) k refl
-zero_cells (Integer Usize) kind e = let k : scalars.Whole 64 false ≡ kind = cc (e) in subst (λ (one : Scalar). cells_of one (Whole (pos 0)) ≡ replicate (scalar_size one) (byte_cell 0)) k refl
-zero_cells Boolean kind e = let k : scalars.Truth ≡ kind = cc (e) in subst (λ (one : Scalar). cells_of one (Whole (pos 0)) ≡ replicate (scalar_size one) (byte_cell 0)) k refl
-zero_cells (Pointer target) kind e = let k : scalars.Object ≡ kind = cc (e) in subst (λ (one : Scalar). cells_of one Null ≡ replicate (scalar_size one) (byte_cell 0)) k refl
-zero_cells (Code params result) kind e = let k : scalars.Code ≡ kind = cc (e) in subst (λ (one : Scalar). cells_of one Null ≡ replicate (scalar_size one) (byte_cell 0)) k refl
-zero_cells Void kind e = cc (e)
-zero_cells (Array element size) kind e = cc (e)
-zero_cells (Record m x) kind e = cc (e)
-
-has_kind : (ty : Ty) → is_scalar ty ≡ true → (kind : Scalar) × (scalar_of ty ≡ Some kind)
-has_kind Void e = cc (e)
-has_kind (Array element size) e = cc (e)
-has_kind (Record m x) e = cc (e)
-has_kind (Integer I8) e = (scalars.Whole 8 true, refl)
-has_kind (Integer I16) e = (scalars.Whole 16 true, refl)
-has_kind (Integer I32) e = (scalars.Whole 32 true, refl)
-has_kind (Integer I64) e = (scalars.Whole 64 true, refl)
-has_kind (Integer Isize) e = (scalars.Whole 64 true, refl)
-has_kind (Integer U8) e = (scalars.Whole 8 false, refl)
-has_kind (Integer U16) e = (scalars.Whole 16 false, refl)
-has_kind (Integer U32) e = (scalars.Whole 32 false, refl)
-has_kind (Integer U64) e = (scalars.Whole 64 false, refl)
-has_kind (Integer Usize) e = (scalars.Whole 64 false, refl)
-has_kind Boolean e = (scalars.Truth, refl)
-has_kind (Pointer target) e = (scalars.Object, refl)
-has_kind (Code params result) e = (scalars.Code, refl)
 
 -- a block whose first bytes are zero
 abbrev pub zeroed : Block → ℕ → Block

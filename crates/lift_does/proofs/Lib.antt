@@ -29,6 +29,7 @@ pub mod Leaves
 pub mod LiteralClears
 pub mod LiteralFills
 pub mod LiteralLeaves
+pub mod LiteralNodes
 pub mod LiteralZeros
 pub mod Loads
 pub mod Lvalues
