@@ -1,5 +1,5 @@
 -- Initialisers that leave no bit of their object: C unsets all of its cells before their values are stored (ISO C99, 6.7.8).
-use Rattle.std.proofs.Common.{◌≡◌, ℕ, false, List, length, replicate, Option, Some, None, IfSome, Ok, refl}
+use Rattle.std.proofs.Common.{◌≡◌, ℕ, ◌*◌, false, List, length, replicate, Option, Some, None, IfSome, Ok, refl}
 use Rattle.cr_base.specs.declared.layout.Laid.{Laid}
 use Rattle.cx_core.specs.BitFields.{has_bit_fields}
 use Rattle.cx_core.specs.Trees.{CTy, CPuts}

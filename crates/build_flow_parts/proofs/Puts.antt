@@ -1,5 +1,5 @@
 -- Values of initialisers that are stored in parts of their objects, in declarations that are reached (ISO C99, 6.7.8p11 to p21).
-use Rattle.std.proofs.Common.{◌≡◌, ◌∙◌, ℕ, ◌<◌, ◌≤◌, Bool, true, false, List, [], ◌∷◌, ◌++◌, map, Option, Some, None, IfSome, Ok, refl, sym, ap, subst}
+use Rattle.std.proofs.Common.{◌≡◌, ◌∙◌, ℕ, ◌≤◌, true, false, List, [], ◌++◌, map, Option, Some, None, IfSome, Ok, refl, sym, ap, subst}
 use Rattle.std.proofs.lemmas.List.{append-nil}
 use Rattle.cr_base.specs.declared.layout.Spot.{Spot}
 use Rattle.cr_runs.specs.Runs.{came}
@@ -8,12 +8,12 @@ use Rattle.cx_core.specs.Trees.{CTy, CExpr, type_of, put, CObject}
 use Rattle.cx_core.specs.Typing.{CHome}
 use Rattle.cx_mean.specs.Accesses.{CStored}
 use Rattle.cx_mean.specs.Marks.{no_marks}
-use Rattle.cx_mean.specs.Operands.{needed, COperand, with_marks, Slot, Frame as CFrame, slot_of}
+use Rattle.cx_mean.specs.Operands.{needed, with_marks, Slot, Frame as CFrame, slot_of}
 use Rattle.cx_typed_runs.proofs.Owned.{object_number}
 use Rattle.cx_typed_work.proofs.Puts.{IsLiteralAlive, slot_begins}
 use Rattle.cx_typed_work.specs.Scenes.{IsAlive}
-use Rattle.build_flow_lives.specs.Standing.{Calling, own_slots, Standing, stage_of}
-use Rattle.build_flow_moves.specs.Parts.{Stage, objects_in, put_piece, put_written, PutDone}
+use Rattle.build_flow_lives.specs.Standing.{Calling, Standing, stage_of}
+use Rattle.build_flow_moves.specs.Parts.{Stage, objects_in, put_piece, PutDone}
 use Rattle.lift_does.proofs.Around.{Around, scope as scope_of, At, OweAs, Reached}
 use Rattle.lift_does.proofs.LiteralNodes.{put_has}
 use Rattle.lift_does.proofs.Nodes.{PartOwes}
@@ -23,13 +23,12 @@ use Rattle.lift_does.proofs.Runs.{end_owes}
 use Rattle.lift_does.specs.Does.{is_fixed}
 use Rattle.lift_exprs.specs.Lifted.{lifted}
 use Rattle.lift_exprs.specs.Objects.{object_at, part_target}
-use Rattle.lift_exprs.specs.Stores.{Target, stored_value, stores}
+use Rattle.lift_exprs.specs.Stores.{stored_value, stores}
 use Rattle.lift_exprs.specs.Written.{Written}
 use Rattle.lift_forms_laws.proofs.Runs.{pure_is}
 use Rattle.lift_held.specs.Held.{is_void, operand}
 use Rattle.lift_stands.specs.Stands.{Images}
 use Rattle.lift_stands.specs.Worlds.{WorldsStand}
-use Rattle.mem_bytes.specs.declared.value.Ptr.{Ptr}
 use Rattle.rs_mean.specs.Run.{Flow, normal}
 use Rattle.rs_text.specs.Tree.{Stmt}
 use Rattle.build_flow_parts.specs.Bodies.{ValuePut}

@@ -117,7 +117,7 @@ module _ (a : Calling) (units steps : ℕ) (mean : PartsMean a.s a.names a.of un
       (known events_of events_of (Did a.s (home scope) a.of.names a.names asked e number here.later (own_slots a slots) a.frame c_world world) (IsTypedEnd (home scope) (own_slots a slots ++ a.s.statics) e c_world) n m
       (value_in (stage_of a units steps) slots e c_world) (run_stmts a.frame (stmts (lifted a.of.names asked e number).body) world)
       (λ bound. leftmost_stays_typed (home scope) (c_calls a.s) (own_slots a slots) a.s.statics e c_world bound calls_typed (inl typed) begins.typed)
-      (part_owes asked e number scope is_asked typed kept slots c_world world n m few little known_are here)
+      (part_owes asked e number scope is_asked typed kept slots c_world world n m few little known_are here))
 
   -- ---- an expression whose value is dropped
 

@@ -2,7 +2,6 @@
 use Rattle.std.proofs.Common.{◌≡◌, ◌∙◌, ℕ, zero, suc, pos, ◌<◌, ◌≤◌, cond, Bool, true, false, List, [], ◌∷◌, map, replicate, slice_set, take, drop, Option, Some, Result, Ok, Err, if◌then◌else◌, refl, sym, ap, subst, arith}
 use Rattle.cr_base.specs.declared.layout.Laid.{Laid}
 use Rattle.cr_base.specs.declared.scalar.Scalar.{Scalar}
-use Rattle.cr_base.specs.declared.scalar.Scalar.TheVariants as scalars
 use Rattle.cr_runs.specs.Runs.{came}
 use Rattle.cr_world.specs.Held.{with_blocks}
 use Rattle.cr_world.specs.World.{World, blocks_of, with_held}
@@ -40,8 +39,7 @@ use Rattle.rs_mean.specs.Layout.{laid_of}
 use Rattle.rs_mean.specs.Run.{normal, run_stmts}
 use Rattle.rs_mean.specs.Scalars.{is_scalar, scalar_of, same_type}
 use Rattle.rs_mean.specs.Typing.{is_bits}
-use Rattle.rs_text.specs.Tree.{Ty, Integer, Boolean, Void, Pointer, Array, Code, Record, Place, Local, Cast, AddressOf, Stmt, Assign, stmts}
-use Rattle.rs_text.specs.declared.integer.IntegerTy.TheVariants.{I8, I16, I32, I64, Isize, U8, U16, U32, U64, Usize}
+use Rattle.rs_text.specs.Tree.{Ty, Pointer, Place, Local, Cast, AddressOf, Stmt, Assign, stmts}
 use Rattle.build_flow_parts.specs.Means.{home_in, PartsMean, ObjectMeans, ZerosMean, ZeroMeans}
 use Rattle.build_flow_parts.proofs.Objects.{ItsLocal, its_local}
 use Rattle.build_flow_parts.proofs.Values.{around_of}

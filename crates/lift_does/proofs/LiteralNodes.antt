@@ -1,5 +1,5 @@
 -- What is known of the values of a compound literal where the law of expressions is proved by their depth: each has a value, and its temporaries are kept (ISO C99, 6.5.2.5).
-use Rattle.std.proofs.Common.{◌≡◌, ℕ, false, ◌++◌, Some, refl, sym, ap, subst, ◌∙◌}
+use Rattle.std.proofs.Common.{◌≡◌, ℕ, false, Some, refl, sym, ap, subst, ◌∙◌}
 use Rattle.cr_base.specs.declared.layout.Laid.{Laid}
 use Rattle.cr_base.specs.declared.layout.Spot.{Spot}
 use Rattle.cr_world.specs.World.{World, blocks_of}
