@@ -45,6 +45,7 @@ pub mod PutsOwed
 pub mod PutsPlaces
 pub mod PutsSizes
 pub mod PutsStores
+pub mod PutsWorked
 pub mod Quiet
 pub mod Reaching
 pub mod RecordAssignments
