@@ -15,6 +15,7 @@ use Rattle.cx_typed_work.specs.Scenes.{IsAlive}
 use Rattle.build_flow_lives.specs.Standing.{Calling, Standing, stage_of}
 use Rattle.build_flow_moves.specs.Parts.{Stage, objects_in, put_piece, PutDone}
 use Rattle.lift_does.proofs.Around.{Around, scope as scope_of, At, OweAs, Reached}
+use Rattle.lift_does.proofs.LiteralFills.{stored_fixed}
 use Rattle.lift_does.proofs.LiteralNodes.{put_has}
 use Rattle.lift_does.proofs.Nodes.{PartOwes}
 use Rattle.lift_does.proofs.Numbers.{rises, numbered}
@@ -26,7 +27,7 @@ use Rattle.lift_exprs.specs.Objects.{object_at, part_target}
 use Rattle.lift_exprs.specs.Stores.{stored_value, stores}
 use Rattle.lift_exprs.specs.Written.{Written}
 use Rattle.lift_forms_laws.proofs.Runs.{pure_is}
-use Rattle.lift_held.specs.Held.{is_void, operand}
+use Rattle.lift_held.specs.Held.{is_void, stored_operand}
 use Rattle.lift_stands.specs.Stands.{Images}
 use Rattle.lift_stands.specs.Worlds.{WorldsStand}
 use Rattle.rs_mean.specs.Run.{Flow, normal}
@@ -34,7 +35,7 @@ use Rattle.rs_text.specs.Tree.{Stmt}
 use Rattle.build_flow_parts.specs.Bodies.{ValuePut}
 use Rattle.build_flow_parts.specs.Means.{home_in, PartsMean}
 use Rattle.build_flow_parts.proofs.After.{stands_behind}
-use Rattle.build_flow_parts.proofs.Values.{around_of, here_of, operand_asked, part_owes}
+use Rattle.build_flow_parts.proofs.Values.{around_of, here_of, part_owes}
 
 pub needed_is : {A : Type 0} (found : Option A) (at : A) → needed found ≡ Ok at → found ≡ Some at
 needed_is (Some one) at is = let same : one ≡ at = cc in ap Some same
@@ -49,7 +50,7 @@ module _ (a : Calling) (units steps : ℕ) (mean : PartsMean a.s a.names a.of un
   home = home_in a.s a.one (scope ++ a.one.params)
 
   abbrev written : Written
-  written = lifted a.of.names operand value number
+  written = lifted a.of.names (stored_operand spot) value number
 
   abbrev Good : CFrame → Unit {0} → World → Flow → World → Type 0
   Good slots nothing c_after flow after = (flow ≡ normal) × Standing a slots c_after after
@@ -76,8 +77,8 @@ module _ (a : Calling) (units steps : ℕ) (mean : PartsMean a.s a.names a.of un
     some : is_void (type_of value) ≡ false
     some = put_has around here.later c_world world is_put.one.type object spot type value begins (lives here.later c_world world begins) is_put.is
 
-    value_owes : PartOwes around true (is_fixed operand value) value written number here.later c_world world
-    value_owes = part_owes a units steps mean started params_are operand value number scope (operand_asked value some) is_put.value.typed is_put.value.kept slots c_world world n m few little known_are here
+    value_owes : PartOwes around true (is_fixed (stored_operand spot) value) value written number here.later c_world world
+    value_owes = part_owes a units steps mean started params_are (stored_operand spot) value number scope (record { used = λ _. some; base = λ _. refl }) is_put.value.typed is_put.value.kept slots c_world world n m few little known_are here
 
     ends : (made : CStored) (later : Images) (c_end end : World) → Reached around number written.next here.later later c_world world c_end end → OweAs around (Good slots) (came tt c_end) [] end
     ends made later c_end end reached =
@@ -90,8 +91,8 @@ module _ (a : Calling) (units steps : ℕ) (mean : PartsMean a.s a.names a.of un
     put_done : OweAs around (Good slots) (put_piece stage object (put spot type value) slots c_world) (stored_as is_put.one.type) world
     put_done =
         subst (λ (list : List Stmt). OweAs around (Good slots) (put_piece stage object (put spot type value) slots c_world) list world) (append-nil (stored_as is_put.one.type))
-        (put_owes around is_put.one.type object lives spot type value is_put.value.typed is_put.is (Good slots) (with_marks no_marks) (λ made. came tt) [] (is_fixed operand value) written number here.later c_world world (λ one. refl) (λ one. refl) begins
-        (rises written number (numbered a.of.names operand value number)) is_put.steady value_owes ends)
+        (put_owes around is_put.one.type object lives spot type value is_put.value.typed is_put.is (Good slots) (with_marks no_marks) (λ made. came tt) [] (is_fixed (stored_operand spot) value) written number here.later c_world world (λ one. refl) (λ one. refl) begins
+        (rises written number (numbered a.of.names (stored_operand spot) value number)) (stored_fixed spot value) value_owes ends)
 
   pub value_put_done : PutDone stage scope object (put spot type value) number
   value_put_done slots c_world world n m few little known_are here =

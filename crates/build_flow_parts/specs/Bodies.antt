@@ -1,5 +1,5 @@
 -- What is known of the parts of a body where each is written: expressions are typed and their temporaries kept, and objects are new to their scope (ISO C99, 6.2.4 and 6.8).
-use Rattle.std.specs.Prelude.{◌≡◌, ◌⊎◌, ℕ, ◌<◌, true, ◌||◌, ◌+◌, false, List, [], ◌∷◌, ◌++◌, map, Option, Some, None, IfSome}
+use Rattle.std.specs.Prelude.{◌≡◌, ◌⊎◌, ℕ, true, ◌||◌, ◌+◌, false, List, [], ◌∷◌, ◌++◌, map, Option, Some, None, IfSome}
 use Rattle.cx_core.specs.Trees.{CTy, CExpr, type_of, CPut, put, CPuts, no_puts, more_puts, CObject, CStmt, stmt, CStmtForm, label, case, default, block, expression, if_then, switch, while, do_while, for_loop, goto, continue, break, returns, begin, COtherwise, no_else, else_do, CStmts, no_stmts, more_stmts}
 use Rattle.std.specs.List.{Contains}
 use Rattle.cr_base.specs.declared.layout.Laid.{Laid}
@@ -19,7 +19,7 @@ use Rattle.lift_calls.specs.Programs.{setting_in}
 use Rattle.lift_does.specs.Agree.{AreKeptFrom}
 use Rattle.lift_exprs.specs.Lifted.{lifted}
 use Rattle.lift_exprs.specs.Names.{type_in}
-use Rattle.lift_held.specs.Held.{is_void, is_record, is_steady, operand, full}
+use Rattle.lift_held.specs.Held.{is_void, is_record, operand, stored_operand, full}
 use Rattle.lift_held.specs.declared.asked.Asked.{Asked}
 use Rattle.lift_stands.specs.Worlds.{WorldsStand}
 use Rattle.rs_mean.specs.Scalars.{is_scalar}
@@ -80,14 +80,12 @@ module _ (a : Calling) (units steps : ℕ) where
 
   -- a value is stored in a part of an object in scope: a scalar, a structure or union, or a bit-field
   pub record ValuePut (scope : List ℕ) (object : ℕ) (spot : Spot) (type : CTy) (e : CExpr) (number : ℕ) : Type 0 where
-    pub value : ValueMeans operand scope e number
+    pub value : ValueMeans (stored_operand spot) scope e number
     pub one : CObject
     pub object_is : object_with object a.s.program.objects ≡ Some one
     pub among : Contains (scope ++ a.one.params) object
     pub type_is : a.of.type_of_object object ≡ one.type
     pub is : IsPutOf a.s.program.types one.type spot type (type_of e)
-    -- the bytes of a bit-field are stored one by one, and what is stored is computed anew for each: so it is the same whatever has been stored
-    pub steady : 0 < spot.width → is_steady e ≡ true
 
   abbrev pub PutMeans : List ℕ → ℕ → CPut → ℕ → Type 0
   PutMeans scope object (put spot type value) number = ValuePut scope object spot type value number

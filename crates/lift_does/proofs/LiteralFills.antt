@@ -1,8 +1,10 @@
 -- Compound literals: each value is stored before the next one is reached, and then the object is given (ISO C99, 6.5.2.5).
-use Rattle.std.proofs.Common.{◌≡◌, ℕ, ◌<◌, true, [], ◌++◌, Some, Ok, refl, sym, subst, arith}
+use Rattle.std.proofs.Common.{◌≡◌, ℕ, ◌<◌, nat_lt, true, [], ◌++◌, Some, Ok, refl, sym, subst, arith}
+use Rattle.std.proofs.lemmas.Bool.Decides.{nat_tests}
+use Rattle.cr_base.specs.declared.layout.Spot.{Spot}
 use Rattle.cr_base.specs.declared.refusal.Place.{Place}
 use Rattle.cr_world.specs.World.{World, blocks_of, with_memory}
-use Rattle.cx_core.specs.Trees.{CTy, expr, literal, put, CPuts, no_puts, more_puts}
+use Rattle.cx_core.specs.Trees.{CTy, CExpr, expr, literal, put, CPuts, no_puts, more_puts}
 use Rattle.cx_core.specs.Typing.{IsLvalue, ArePuts}
 use Rattle.cx_mean.specs.Initialisers.{CCleared, object_cleared}
 use Rattle.cx_mean.specs.Leftmost.{c_fill}
@@ -17,7 +19,7 @@ use Rattle.lift_does.proofs.LiteralClears.{literal_clears, cleared_reached}
 use Rattle.lift_does.proofs.Nodes.{and_then_is}
 use Rattle.lift_does.proofs.Numbers.{rises, numbered, puts_numbered}
 use Rattle.lift_does.proofs.Operands.{where_used}
-use Rattle.lift_does.proofs.PutsOwed.{asked_of_put, front_owes, put_owes}
+use Rattle.lift_does.proofs.PutsOwed.{front_owes, put_owes}
 use Rattle.lift_does.proofs.Reaching.{reached_none, reached_then}
 use Rattle.lift_does.proofs.Runs.{step_owes, end_owes, weaker_owes, same_events}
 use Rattle.lift_does.proofs.Unary.{form_fixed, ExprOwes, FormOwes}
@@ -27,6 +29,7 @@ use Rattle.lift_exprs.specs.Lifted.{lifted, lifted_puts}
 use Rattle.lift_exprs.specs.Objects.{object_at, is_zeroed, zeroed_where}
 use Rattle.lift_forms.specs.Given as given_form
 use Rattle.lift_forms_laws.proofs.Runs.{pure_is}
+use Rattle.lift_held.specs.Held.{stored_operand}
 use Rattle.lift_held.specs.declared.asked.Asked.{Asked}
 use Rattle.lift_stands.specs.Stands.{Images}
 use Rattle.rs_mean.specs.Run.{Flow, normal}
@@ -35,12 +38,16 @@ use Rattle.rs_mean.specs.Run.{Flow, normal}
 abbrev marks_of : CCleared → Marks
 marks_of made = at_sequence_point (with_write (bits_of_bytes made.at made.size) no_marks)
 
+-- what is stored in a bit-field is the same whatever is stored
+pub stored_fixed : (spot : Spot) (value : CExpr) → 0 < spot.width → is_fixed (stored_operand spot) value ≡ true
+stored_fixed spot value some = let wide : nat_lt 0 spot.width ≡ true = grind (arith, nat_tests, some) in rw wide refl
+
 module _ (x : Around) where
-  -- what each value owes; one that is stored in a bit-field is the same whatever is stored, since it is read for each byte
+  -- what each value owes
   abbrev pub EachPutOwes : CPuts → ℕ → Type 0
   EachPutOwes no_puts next = Unit {0}
   EachPutOwes (more_puts (put spot part value) others) next =
-      ((images : Images) (c w : World) → At x images c w → ExprOwes x (asked_of_put spot) value next images c w) × (0 < spot.width → is_fixed (asked_of_put spot) value ≡ true) × EachPutOwes others (lifted x.names (asked_of_put spot) value next).next
+      ((images : Images) (c w : World) → At x images c w → ExprOwes x (stored_operand spot) value next images c w) × EachPutOwes others (lifted x.names (stored_operand spot) value next).next
 
   -- all values have been stored
   pub record Filled (number from to : ℕ) (images : Images) (c0 w0 : World) (one : COperand) (c1 : World) (flow : Flow) (w1 : World) : Type 0 where
@@ -57,11 +64,11 @@ module _ (x : Around) where
       end_owes x (Filled number from from images c0 w0) (record { type = type; value = names number; marks = marks }) [] c0 w0 w0 (λ units. pure_is normal w0 units)
       (record { flow_is = refl; value_is = refl; later = images; reached = reached_none x from images c0 w0 here })
   fill_owes type number lives (more_puts (put spot part value) others) marks from images c0 w0 here are owes =
-      let asked = asked_of_put spot in
+      let asked = stored_operand spot in
       let written = lifted x.names asked value from in
       let rest = lifted_puts x.names type (object_at x.names type number) others written.next in
       put_owes x type number lives spot part value are.0.0 are.0.1 (Filled number from rest.next images c0 w0) (λ one. one) (λ made after. c_fill (setting_in x.s) (c_calls x.s) (scope x) type number others (marks_after_put marks made.marks) after) rest.body
-      (is_fixed asked value) written from images c0 w0 (λ one. refl) (λ one. refl) here (rises written from (numbered x.names asked value from)) owes.1 (owes.0 images c0 w0 here) (λ made later c1 w1 reached.
+      (is_fixed asked value) written from images c0 w0 (λ one. refl) (λ one. refl) here (rises written from (numbered x.names asked value from)) (stored_fixed spot value) (owes.0 images c0 w0 here) (λ made later c1 w1 reached.
       weaker_owes x (Filled number written.next rest.next later c1 w1) (Filled number from rest.next images c0 w0) (λ k. c_fill (setting_in x.s) (c_calls x.s) (scope x) type number others (marks_after_put marks made.marks) c1 k) rest.body w1
       (λ one c2 flow w2 filled. record {
         flow_is = filled.flow_is;
@@ -70,7 +77,7 @@ module _ (x : Around) where
         reached = reached_then x from written.next rest.next images later filled.later c0 w0 c1 w1 c2 w2 (rises written from (numbered x.names asked value from))
             (rises rest written.next (puts_numbered x.names type (object_at x.names type number) others written.next)) here reached filled.reached;
       })
-      (fill_owes type number lives others (marks_after_put marks made.marks) written.next later c1 w1 reached.at are.1 owes.2))
+      (fill_owes type number lives others (marks_after_put marks made.marks) written.next later c1 w1 reached.at are.1 owes.1))
 
   -- a compound literal: its object is made anew and filled, and then given
   pub literal_owes : (asked : Asked) (type : CTy) (place : Place) (number : ℕ) (puts : CPuts) (from : ℕ) (images : Images) (c0 w0 : World) → At x images c0 w0 → IsLvalue x.home (expr type place (literal number puts)) → EachPutOwes puts from →

@@ -12,12 +12,11 @@ use Rattle.lift_calls.specs.Frames.{FunctionNames}
 use Rattle.lift_does.proofs.Around.{Around, scope, At}
 use Rattle.lift_does.proofs.Held.{kept_front, kept_back}
 use Rattle.lift_does.proofs.Numbers.{numbered}
-use Rattle.lift_does.proofs.PutsOwed.{asked_of_put}
 use Rattle.lift_does.specs.Agree.{AreKeptFrom}
 use Rattle.lift_does.specs.Does.{IsAsked}
 use Rattle.lift_exprs.specs.Lifted.{lifted, lifted_puts}
 use Rattle.lift_exprs.specs.Names.{Names}
-use Rattle.lift_held.specs.Held.{is_void}
+use Rattle.lift_held.specs.Held.{is_void, stored_operand}
 use Rattle.lift_stands.specs.Stands.{Images}
 use Rattle.rs_text.specs.Tree.{Place as RustPlace}
 
@@ -41,17 +40,17 @@ module _ (x : Around) where
 
   -- so it may be asked for its value
   pub put_is_asked : (images : Images) (c_world world : World) (type : CTy) (number : ℕ) (spot : Spot) (part : CTy) (value : CExpr) → At x images c_world world → IsLiteralAlive x.home (scope x) (blocks_of c_world) type number →
-      IsPutOf x.home.program.types type spot part (type_of value) → IsAsked (asked_of_put spot) value
+      IsPutOf x.home.program.types type spot part (type_of value) → IsAsked (stored_operand spot) value
   put_is_asked images c_world world type number spot part value here lives is = record { used = λ _. put_has images c_world world type number spot part value here lives is; base = λ _. refl }
 
 -- the temporaries of a value, and of those behind it
 pub puts_kept : (names_of : Names) (kept : FunctionNames) (filled : CTy) (p : RustPlace) (spot : Spot) (part : CTy) (value : CExpr) (others : CPuts) (from : ℕ) →
     AreKeptFrom names_of kept from (lifted_puts names_of filled p (more_puts (put spot part value) others) from).temporaries →
-    AreKeptFrom names_of kept from (lifted names_of (asked_of_put spot) value from).temporaries
-    × AreKeptFrom names_of kept (lifted names_of (asked_of_put spot) value from).next (lifted_puts names_of filled p others (lifted names_of (asked_of_put spot) value from).next).temporaries
+    AreKeptFrom names_of kept from (lifted names_of (stored_operand spot) value from).temporaries
+    × AreKeptFrom names_of kept (lifted names_of (stored_operand spot) value from).next (lifted_puts names_of filled p others (lifted names_of (stored_operand spot) value from).next).temporaries
 puts_kept names_of kept filled p spot part value others from are =
-    let one = lifted names_of (asked_of_put spot) value from in
+    let one = lifted names_of (stored_operand spot) value from in
     let rest = lifted_puts names_of filled p others one.next in (
       kept_front names_of kept from one.temporaries rest.temporaries are,
-      subst (λ (n : ℕ). AreKeptFrom names_of kept n rest.temporaries) (sym (numbered names_of (asked_of_put spot) value from)) (kept_back names_of kept from one.temporaries rest.temporaries are),
+      subst (λ (n : ℕ). AreKeptFrom names_of kept n rest.temporaries) (sym (numbered names_of (stored_operand spot) value from)) (kept_back names_of kept from one.temporaries rest.temporaries are),
     )

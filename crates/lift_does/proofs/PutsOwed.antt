@@ -30,18 +30,12 @@ use Rattle.lift_does.specs.Gives.{GivesOperand}
 use Rattle.lift_exprs.specs.Objects.{object_at, part_target}
 use Rattle.lift_exprs.specs.Stores.{Target, stored_value, stores}
 use Rattle.lift_exprs.specs.Written.{Written}
-use Rattle.lift_held.specs.Held.{operand}
-use Rattle.lift_held.specs.declared.asked.Asked.{Asked}
 use Rattle.lift_stands.specs.Stands.{Images}
 use Rattle.lift_stands_accesses.specs.Objects.{LeftStanding}
 use Rattle.lift_stands_lives.proofs.Begun.{worlds_held}
 use Rattle.mem_bytes.specs.Memory.{Blocks}
 use Rattle.rs_mean.specs.Run.{Flow, normal}
 use Rattle.rs_text.specs.Tree.{Stmt}
-
--- how the value of a put is asked for
-abbrev pub asked_of_put : Spot → Asked
-asked_of_put spot = operand
 
 module _ (x : Around) where
   -- statements that come to their end, in front of others, where C is already behind what they do

@@ -12,7 +12,7 @@ use Rattle.lift_forms.specs.Given.{Given, nothing, value, place, number_of, addr
 use Rattle.lift_forms.specs.Operators.{Operand, constant, null_of, value_of, given_value, test_of, opposite_of, unary_form, binary_form, and_form, or_form, choice_form, function_form, converted}
 use Rattle.lift_forms.specs.Places.{address_form, member_place}
 use Rattle.lift_held.specs.declared.asked.Asked.{Asked}
-use Rattle.lift_held.specs.Held.{is_void, is_record, is_lvalue, is_taken, acts, holds_call, some_holds_call, operand, operand_before, part_of, whole_of, full, is_held_form}
+use Rattle.lift_held.specs.Held.{is_void, is_record, is_lvalue, is_taken, acts, holds_call, some_holds_call, operand, operand_before, stored_operand, part_of, whole_of, full, is_held_form}
 use Rattle.rs_text.specs.Tree.{Place, Expr, Literal, Read, AddressOf, Stmt, Assign, If, stmts}
 use Rattle.rs_text.specs.declared.integer.IntegerTy.TheVariants.{I32}
 
@@ -274,7 +274,7 @@ abbrev mutual
       in_turn (both (λ from. lifted_put names filled p first from) (λ from. lifted_puts names filled p others from) next) nothing
 
   pub lifted_put : Names → (filled : CTy) → Place → CPut → ℕ → Written
-  lifted_put names filled p (put spot type from) next = put_in names filled p spot type (lifted names operand from next)
+  lifted_put names filled p (put spot type from) next = put_in names filled p spot type (lifted names (stored_operand spot) from next)
 
 -- a full expression, from a number of a temporary on
 abbrev pub lifted_full : Names → CExpr → ℕ → Written

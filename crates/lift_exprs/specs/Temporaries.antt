@@ -4,7 +4,7 @@ use Rattle.cx_core.specs.Trees.{CTy, CExpr, expr, CForm, whole, null, object, co
 use Rattle.lift_exprs.specs.Lifted.{lifted}
 use Rattle.lift_exprs.specs.Names.{Names}
 use Rattle.lift_exprs.specs.Written.{kind_in, held_type}
-use Rattle.lift_held.specs.Held.{is_void, holds_call, some_holds_call, operand, operand_before, part_of, whole_of, full, is_held_form, held}
+use Rattle.lift_held.specs.Held.{is_void, holds_call, some_holds_call, operand, operand_before, stored_operand, part_of, whole_of, full, is_held_form, held}
 use Rattle.lift_held.specs.declared.asked.Asked.{Asked}
 use Rattle.rs_text.specs.Tree.{Ty}
 
@@ -46,7 +46,7 @@ abbrev mutual
   held_types_in_args names (more_exprs first others) = held_types names (operand_before (some_holds_call others)) first ++ held_types_in_args names others
 
   pub held_types_in_put : Names → CPut → List Ty
-  held_types_in_put names (put spot type value) = held_types names operand value
+  held_types_in_put names (put spot type value) = held_types names (stored_operand spot) value
 
   pub held_types_in_puts : Names → CPuts → List Ty
   held_types_in_puts names no_puts = []

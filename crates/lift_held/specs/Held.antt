@@ -1,6 +1,6 @@
 -- Which operands of a full expression are held in a temporary (ISO C99, 6.5p2, 6.5.2.2p10 and 6.5.13 to 6.5.16). What isn't held is read where it stands in an expression
 -- of Rust, perhaps behind later stores of the full expression: such a store would be a conflict of accesses, which has no meaning in C.
-use Rattle.std.specs.Prelude.{ℕ, suc, ◌+◌, ◌==◌, Bool, true, false, not, ◌&&◌, ◌||◌, if◌then◌else◌, List, [], ◌∷◌, ◌++◌}
+use Rattle.std.specs.Prelude.{ℕ, suc, ◌+◌, ◌==◌, nat_lt, Bool, true, false, not, ◌&&◌, ◌||◌, if◌then◌else◌, List, [], ◌∷◌, ◌++◌}
 use Rattle.cr_base.specs.declared.layout.Spot.{Spot}
 use Rattle.cx_core.specs.Trees.{CTy, CTyForm, void, record_type, form_of_type, CExpr, expr, CForm, whole, null, object, code, load, deref, member, address, convert, unary, binary, and, or, cond, assign, assign_by, step, call, call_by, comma, literal, CExprs, no_exprs, more_exprs, CPut, put, CPuts, no_puts, more_puts, type_of}
 use Rattle.cx_core.specs.Typing.{is_bit_field}
@@ -124,6 +124,10 @@ operand = record { used = true; pinned = false; is_base = false }
 abbrev pub operand_before : (call_behind : Bool) → Asked
 operand_before call_behind = record { used = true; pinned = call_behind; is_base = false }
 
+-- what is stored in a part of an object: the bytes of a bit-field are stored one by one, and what is stored is read for each, so it is held
+abbrev pub stored_operand : Spot → Asked
+stored_operand spot = operand_before (nat_lt 0 spot.width)
+
 -- what is evaluated alone, whose value is used or not
 abbrev pub part_of : (used : Bool) → Asked
 part_of used = record { used = used; pinned = false; is_base = false }
@@ -212,7 +216,7 @@ abbrev mutual
   held_in_args (more_exprs first others) before = held_in_args others (held_from (operand_before (some_holds_call others)) first before)
 
   pub held_in_put : CPut → Numbered → Numbered
-  held_in_put (put spot type value) before = held_from operand value before
+  held_in_put (put spot type value) before = held_from (stored_operand spot) value before
 
   pub held_in_puts : CPuts → Numbered → Numbered
   held_in_puts no_puts before = before

@@ -137,7 +137,7 @@ fn held_in_puts(puts: &[Put], numbered: &mut Numbered) -> Result<(), Memory>
     ensures next { OnOk result (numbered.new.next ≡ numbered.old.next + nodes_in_puts (puts_of (map view_put puts.now))) }
 {
     for one in puts {
-        held_from(operand_before(false), one.value.get(), numbered)?;
+        held_from(operand_before(0 < one.spot.width), one.value.get(), numbered)?;
     }
     Ok(())
 }
