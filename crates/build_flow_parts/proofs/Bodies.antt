@@ -11,7 +11,7 @@ use Rattle.build_flow_parts.specs.Means.{PartsMean}
 use Rattle.build_flow_parts.proofs.Clears.{nothing_cleared, zero_cleared}
 use Rattle.build_flow_parts.proofs.Conditions.{test_done, choice_done}
 use Rattle.build_flow_parts.proofs.Lives.{begin_done}
-use Rattle.build_flow_parts.proofs.Puts.{scalar_put_done}
+use Rattle.build_flow_parts.proofs.Puts.{value_put_done}
 use Rattle.build_flow_parts.proofs.RecordReturns.{record_return_done}
 use Rattle.build_flow_parts.proofs.Returns.{nothing_done, return_done}
 use Rattle.build_flow_parts.proofs.Values.{effect_done}
@@ -44,8 +44,7 @@ module _ (a : Calling) (units steps : ℕ) (mean : PartsMean a.s a.names a.of un
   clear_done scope object puts (inr is) = zero_cleared a units steps mean started params_are scope object puts is.declared is
 
   put_done : (scope : List ℕ) (object : ℕ) (one : CPut) (number : ℕ) → PutMeans a units steps scope object one number → PutDone stage scope object one number
-  put_done scope object (put spot type value) number (inl is) = scalar_put_done a units steps mean started params_are scope object spot type value number is
-  put_done scope object (put spot type value) number (inr is) = is
+  put_done scope object (put spot type value) number is = value_put_done a units steps mean started params_are scope object spot type value number is
 
   puts_done : (scope : List ℕ) (object : ℕ) (puts : CPuts) (number : ℕ) → PutsMean a units steps scope object puts number → PutsDone stage scope object puts number
   puts_done scope object no_puts number all = tt

@@ -96,6 +96,15 @@ module _ (a : Calling) (units steps : ℕ) (mean : PartsMean a.s a.names a.of un
       stands_behind a started mean.apart slots c_world world here is.did.later is.did.own number (lifted a.of.names asked e number).next is.did.are_own c_end end is.did.keeps is.did.worlds
       (record { memory = is.typed.at.scene.memory; owned = is.typed.at.owned })
 
+  -- the law of expressions, where one begins
+  pub part_owes : (asked : Asked) (e : CExpr) (number : ℕ) (scope : List ℕ) → IsAsked asked e → IsTyped (home scope) e → AreKeptFrom a.of.names a.names number (lifted a.of.names asked e number).temporaries →
+      (slots : CFrame) (c_world world : World) (n m : ℕ) → n ≤ units → m ≤ steps → objects_in slots ≡ scope → (here : Standing a slots c_world world) →
+      Owes events_of events_of (Did a.s (home scope) a.of.names a.names asked e number here.later (own_slots a slots) a.frame c_world world) n m (value_in (stage_of a units steps) slots e c_world)
+      (run_stmts a.frame (stmts (lifted a.of.names asked e number).body) world)
+  part_owes asked e number scope is_asked typed kept slots c_world world n m few little known_are here =
+      mean.does a.s a.of.names a.names (home scope) asked e number n m (mean.means (home scope) refl) mean.apart is_asked kept (inl typed) calls_typed (promise_shrinks a.s units steps n m few little mean.promise)
+      here.later (own_slots a slots) a.frame c_world world (here_of scope slots c_world world known_are here)
+
   pub evaluates : (asked : Asked) (e : CExpr) (number : ℕ) (scope : List ℕ) → IsAsked asked e → IsTyped (home scope) e → AreKeptFrom a.of.names a.names number (lifted a.of.names asked e number).temporaries →
       (slots : CFrame) (c_world world : World) (n m : ℕ) → n ≤ units → m ≤ steps → objects_in slots ≡ scope → (here : Standing a slots c_world world) →
       Owes events_of events_of (Evaluated asked e number scope slots c_world world here) n m (value_in (stage_of a units steps) slots e c_world)
@@ -108,8 +117,7 @@ module _ (a : Calling) (units steps : ℕ) (mean : PartsMean a.s a.names a.of un
       (known events_of events_of (Did a.s (home scope) a.of.names a.names asked e number here.later (own_slots a slots) a.frame c_world world) (IsTypedEnd (home scope) (own_slots a slots ++ a.s.statics) e c_world) n m
       (value_in (stage_of a units steps) slots e c_world) (run_stmts a.frame (stmts (lifted a.of.names asked e number).body) world)
       (λ bound. leftmost_stays_typed (home scope) (c_calls a.s) (own_slots a slots) a.s.statics e c_world bound calls_typed (inl typed) begins.typed)
-      (mean.does a.s a.of.names a.names (home scope) asked e number n m (mean.means (home scope) refl) mean.apart is_asked kept (inl typed) calls_typed (promise_shrinks a.s units steps n m few little mean.promise)
-      here.later (own_slots a slots) a.frame c_world world begins))
+      (part_owes asked e number scope is_asked typed kept slots c_world world n m few little known_are here))
 
   -- ---- an expression whose value is dropped
 

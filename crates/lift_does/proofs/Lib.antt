@@ -30,6 +30,11 @@ pub mod Held
 pub mod HeldPlaces
 pub mod Lasting
 pub mod Leaves
+pub mod LiteralClears
+pub mod LiteralFills
+pub mod LiteralLeaves
+pub mod LiteralNodes
+pub mod LiteralZeros
 pub mod Loads
 pub mod Lvalues
 pub mod Members
@@ -53,6 +58,11 @@ pub mod PointedCalls
 pub mod PointedNodes
 pub mod PointedServes
 pub mod PointedTypes
+pub mod PutsOwed
+pub mod PutsPlaces
+pub mod PutsSizes
+pub mod PutsStores
+pub mod PutsWorked
 pub mod Quiet
 pub mod Reaching
 pub mod RecordAssignments
