@@ -24,12 +24,12 @@ pub mod Commas
 pub mod CompoundAssignments
 pub mod Conversions
 pub mod Copies
-pub mod Covered
 pub mod Decided
 pub mod Held
 pub mod HeldPlaces
 pub mod Lasting
 pub mod Leaves
+pub mod Lifting
 pub mod LiteralClears
 pub mod LiteralFills
 pub mod LiteralLeaves
