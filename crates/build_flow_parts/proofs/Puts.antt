@@ -78,7 +78,7 @@ module _ (a : Calling) (units steps : ℕ) (mean : PartsMean a.s a.names a.of un
     some = put_has around here.later c_world world is_put.one.type object spot type value begins (lives here.later c_world world begins) is_put.is
 
     value_owes : PartOwes around true (is_fixed (value_for spot) value) value written number here.later c_world world
-    value_owes = part_owes a units steps mean started params_are (value_for spot) value number scope (record { used = λ _. some; base = λ _. refl }) is_put.value.typed is_put.value.kept slots c_world world n m few little known_are here
+    value_owes = part_owes a units steps mean started params_are (value_for spot) value number scope (record { used = λ _. some; base = λ _. refl }) is_put.value slots c_world world n m few little known_are here
 
     ends : (made : CStored) (later : Images) (c_end end : World) → Reached around number written.next here.later later c_world world c_end end → OweAs around (Good slots) (came tt c_end) [] end
     ends made later c_end end reached =

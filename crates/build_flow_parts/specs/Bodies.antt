@@ -17,6 +17,7 @@ use Rattle.build_flow_nodes.specs.Parts.{at_end_of, leaves_bits, count_in_test, 
 use Rattle.lift_calls.specs.Calls.{result_laid}
 use Rattle.lift_calls.specs.Programs.{setting_in}
 use Rattle.lift_does.specs.Agree.{AreKeptFrom}
+use Rattle.lift_does.specs.Calls.{CallsMean}
 use Rattle.lift_exprs.specs.Lifted.{lifted}
 use Rattle.lift_exprs.specs.Names.{type_in}
 use Rattle.lift_held.specs.Held.{is_void, is_record, operand, value_for, full}
@@ -24,16 +25,16 @@ use Rattle.lift_held.specs.declared.asked.Asked.{Asked}
 use Rattle.lift_stands.specs.Worlds.{WorldsStand}
 use Rattle.rs_mean.specs.Scalars.{is_scalar}
 use Rattle.rs_mean.specs.Typing.{is_bits}
-use Rattle.rs_text.specs.Tree.{Ty}
 use Rattle.build_flow_parts.specs.Means.{home_in, PartsMean, ObjectMeans, ZeroMeans, NotAmong}
 
 module _ (a : Calling) (units steps : ℕ) where
   abbrev stage : Stage
   stage = stage_of a units steps
 
-  -- an expression is typed where these objects are in scope, beside the parameters, and its temporaries are kept
+  -- an expression is typed where these objects are in scope, beside the parameters, its calls can be written, and its temporaries are kept
   pub record ValueMeans (asked : Asked) (scope : List ℕ) (e : CExpr) (number : ℕ) : Type 0 where
     pub typed : IsTyped (home_in a.s a.one (scope ++ a.one.params)) e
+    pub calls : CallsMean a.s a.of.names e
     pub kept : AreKeptFrom a.of.names a.names number (lifted a.of.names asked e number).temporaries
 
   -- of an operand that is used there is a value
@@ -56,13 +57,12 @@ module _ (a : Calling) (units steps : ℕ) where
       ObjectMeans a.s a.names a.of number × (a.of.names.has_bits ≡ true → ZeroMeans a.s a.names a.of number) × NotAmong number (inner ++ (scope ++ objects_in (a.params ++ a.s.statics)))
       × ObjectsMean (inner ++ number ∷ []) objects scope
 
-  -- a scalar is given back by a function that gives one
+  -- a scalar is given back by a function that gives one of its type
   pub record ScalarGiven (scope : List ℕ) (e : CExpr) (number : ℕ) : Type 0 where
     pub value : ValueMeans operand scope e number
     pub some : is_void (type_of e) ≡ false
     pub plain : is_record (type_of e) ≡ false
-    pub type : Ty
-    pub result_is : a.tree.result ≡ Some type
+    pub result_is : a.tree.result ≡ Some (type_in a.of.names (type_of e))
     pub no_place : result_laid a.s a.one ≡ None
 
   -- a structure or union is given back by a function that gives one of its type
