@@ -50,6 +50,7 @@ pub mod OuterNodes
 pub mod OuterOpaque
 pub mod OuterServes
 pub mod OuterTypes
+pub mod OuterZeroed
 pub mod OwnCalls
 pub mod Params
 pub mod Passed
