@@ -44,6 +44,7 @@ pub mod Nodes
 pub mod Numbers
 pub mod Operands
 pub mod OuterArguments
+pub mod OuterCallees
 pub mod OuterCalls
 pub mod OuterEffects
 pub mod OuterNodes
@@ -51,6 +52,7 @@ pub mod OuterOpaque
 pub mod OuterServes
 pub mod OuterTypes
 pub mod OuterZeroed
+pub mod OuterZeroedNodes
 pub mod OwnCalls
 pub mod Params
 pub mod Passed

@@ -27,6 +27,7 @@ use Rattle.lift_does.proofs.BitPlaces.{member_bits_owes}
 use Rattle.lift_does.proofs.Arguments.{EachOwes}
 use Rattle.lift_does.proofs.CallNodes.{held_call, named_owes, defined_serves}
 use Rattle.lift_does.proofs.OuterNodes.{outer_is_served}
+use Rattle.lift_does.proofs.OuterZeroedNodes.{zeroed_is_served}
 use Rattle.lift_does.proofs.PointedNodes.{pointed_owes}
 use Rattle.lift_does.proofs.Choices.{choice_owes, part_is_taken}
 use Rattle.lift_does.proofs.Records.{void_record}
@@ -58,7 +59,7 @@ use Rattle.lift_does.proofs.RecordTypes.{assign_by_no_record, step_no_record}
 use Rattle.lift_does.proofs.Unary.{form_fixed, ExprOwes, FormOwes, unary_owes}
 use Rattle.lift_does.proofs.Used.{scalar_has, unary_has, convert_has, left_has, right_has, lvalue_has, assigned_has, address_kind}
 use Rattle.lift_does.specs.Agree.{AreKeptFrom}
-use Rattle.lift_does.specs.Outers.{OuterItem}
+use Rattle.lift_does.specs.Outers.{OuterItem, ZeroedItem}
 use Rattle.lift_does.specs.Calls.{CalleeMeans, CallsMean, FormCallsMean, ArgumentsMean, PutCallsMean}
 use Rattle.lift_does.specs.Does.{IsAsked, LiftingDoes, is_fixed}
 use Rattle.lift_exprs.specs.Lifted.{lifted, lifted_args, lifted_puts, lifted_form, operand_of, joined_to, Deciding, where_true, where_false, decided_written, Choice, chosen_written}
@@ -555,7 +556,9 @@ module _ (x : Around) where
       (λ (some : IsSome (function_with callee x.s.program.functions)).
       let found = found_some (function_with callee x.s.program.functions) some in
       defined_serves x asked type at callee args from images c w here typed owes found.0 found.1)
-      (λ (item : OuterItem x.s x.names callee args). outer_is_served x asked type at callee args from images c w here typed owes item) is) asked_is (rises (lifted_args x.names args from).written from (args_numbered x.names args from))
+      (λ (outside : OuterItem x.s x.names callee args ⊎ ZeroedItem x.s x.names callee args).
+      ⊎_elim (λ (item : OuterItem x.s x.names callee args). outer_is_served x asked type at callee args from images c w here typed owes item)
+      (λ (item : ZeroedItem x.s x.names callee args). zeroed_is_served x asked type at callee args from images c w here typed owes item) outside) is) asked_is (rises (lifted_args x.names args from).written from (args_numbered x.names args from))
       (λ held. kept_it held (call_has asked type at (call callee args) asked_is held))
 
   mutual

@@ -3,13 +3,13 @@ use Rattle.std.specs.Prelude.{◌≡◌, ◌⊎◌, ℕ, false, IsSome}
 use Rattle.cx_core.specs.Trees.{CExpr, expr, CForm, whole, null, object, code, load, deref, member, address, convert, unary, binary, and, or, cond, assign, assign_by, step, call, call_by, comma, literal, CExprs, no_exprs, more_exprs, put, CPuts, no_puts, more_puts, type_of}
 use Rattle.cx_core.specs.Typing.{function_with}
 use Rattle.lift_calls.specs.Programs.{Setting}
-use Rattle.lift_does.specs.Outers.{OuterItem}
+use Rattle.lift_does.specs.Outers.{OuterItem, ZeroedItem}
 use Rattle.lift_exprs.specs.Names.{Names}
 use Rattle.lift_held.specs.Held.{is_void}
 
 -- a function that is called by its name is one that a unit defines, or an external one that the module declares so that it takes these arguments
 abbrev pub CalleeMeans : Setting → Names → ℕ → CExprs → Type 0
-CalleeMeans s names callee args = IsSome (function_with callee s.program.functions) ⊎ OuterItem s names callee args
+CalleeMeans s names callee args = IsSome (function_with callee s.program.functions) ⊎ (OuterItem s names callee args ⊎ ZeroedItem s names callee args)
 
 abbrev mutual
   -- so it is with each call in an expression
