@@ -1,67 +1,39 @@
 -- An external function that is called: its type in C, and what an item gives that is called in its place (ISO C99, 6.5.2.2 and 7.1.4; the Rust Reference, "External blocks").
-use Rattle.std.proofs.Common.{◌≡◌, ℕ, pred, Bool, true, false, not, if◌then◌else◌, ◌&&◌, ◌==◌, List, ◌∷◌, Option, Some, None, option_map, Ok, refl, sym, ap, subst, ◌∙◌, ⊎_elim}
+use Rattle.std.proofs.Common.{◌≡◌, ℕ, Bool, true, false, if◌then◌else◌, List, Option, Some, None, Ok, refl, sym, ap, subst, ◌∙◌}
 use Rattle.std.specs.List.{Contains}
-use Rattle.std.specs.Prelude.{IfSome, bytes_eq, codes}
+use Rattle.std.specs.Prelude.{IfSome}
 use Rattle.cr_base.specs.declared.refusal.Place.{Place}
 use Rattle.cr_base.specs.declared.scalar.Scalar.{Scalar}
-use Rattle.cr_runs.proofs.Rules.{renamed}
-use Rattle.cr_runs.specs.Owes.{Owes}
-use Rattle.cr_runs.specs.Runs.{Ran, came, tick}
-use Rattle.cr_runs_rules.proofs.Rules.{ticks_by}
-use Rattle.cr_world.specs.Known.{KnownFunction, known_named, allocates, frees}
-use Rattle.cr_world.specs.World.{World, Stop, blocks_of, events_of}
+use Rattle.cr_world.specs.World.{World}
 use Rattle.cx_core.specs.Compatible.{AreCompatible}
 use Rattle.cx_core.specs.Conversions.{scalar_of as c_scalar_of}
-use Rattle.cx_core.specs.Externals.{CKnown, HasSignature, IsOpaque, IsExternalType}
 use Rattle.cx_core.specs.Linked.{IsLinked, IsTypedOuter}
-use Rattle.cx_core.specs.Trees.{CProgram, CTypes, CTy, CTyForm, ty, void, basic, enum_type, pointer, array, record_type, function, form_of_type, unqualified, expr, call, CExprs, no_exprs, more_exprs, CFun, COuter}
+use Rattle.cx_core.specs.Trees.{CProgram, CTy, ty, pointer, form_of_type, unqualified, expr, call, CExprs, CFun, COuter}
 use Rattle.cx_core.specs.Typing.{function_with, outer_with, IsTyped, IsCalleeOf, CCallee as CoreCallee}
-use Rattle.cx_mean.specs.Calls.{CCallee, external, CCalling, callee_of, callee_numbered, called_with, node_calling, type_of_callee, external_call}
-use Rattle.cx_mean.specs.Leftmost.{CRan, c_callee, c_returned}
+use Rattle.cx_mean.specs.Calls.{CCallee, external, CCalling, callee_of, callee_numbered, called_with, node_calling, type_of_callee}
 use Rattle.cx_mean.specs.Operands.{COperand, united_operands}
 use Rattle.cx_mean.specs.Settings.{scalar_in_type}
-use Rattle.cx_mean.specs.State.{values_of_args}
 use Rattle.cx_typed_runs.proofs.Scenes.{all_of}
 use Rattle.cx_typed_work.proofs.AlikeCalls.{call_alike}
 use Rattle.cx_typed_work.proofs.AlikeValues.{alike_kind}
-use Rattle.cx_typed_work.proofs.KnownCalls.{typed_row, known_row, known_as_is}
-use Rattle.cx_typed_work.proofs.KnownEffects.{type_of_known, result_of as result_of_known}
-use Rattle.cx_typed_work.specs.Calls.{IsCalleeIn, IsCalledAs, FitsCallee, IsTypedCall}
-use Rattle.lift_calls.specs.Calls.{AreHanded}
-use Rattle.lift_calls.specs.Programs.{setting_in, c_calls}
-use Rattle.lift_does.proofs.Arguments.{EachOwes, ArgsGiven}
+use Rattle.cx_typed_work.specs.Calls.{IsCalleeIn, IsTypedCall}
+use Rattle.lift_calls.specs.Programs.{setting_in}
+use Rattle.lift_does.proofs.Arguments.{ArgsGiven}
 use Rattle.lift_does.proofs.Around.{Around, At}
-use Rattle.lift_does.proofs.CallEnds.{IsPassed, Came, Served}
-use Rattle.lift_does.proofs.CallNodes.{Serves}
-use Rattle.lift_does.proofs.CallRuns.{dropped_runs, stored_runs}
+use Rattle.lift_does.proofs.CallEnds.{IsPassed}
 use Rattle.lift_does.proofs.CalledFunctions.{pointer_is, option_same, void_none, record_same, unqualified_record, unqualified_form, passed_record, some_same}
-use Rattle.lift_does.proofs.NamedCalls.{call_typed, operands_are, Visible, listed_by}
+use Rattle.lift_does.proofs.NamedCalls.{call_typed, Visible, listed_by}
 use Rattle.lift_does.proofs.Nodes.{and_then_is}
-use Rattle.lift_does.proofs.OuterArguments.{FrontFits, OuterRan, outer_run}
-use Rattle.lift_does.proofs.OuterEffects.{unset_malloc}
-use Rattle.lift_does.proofs.OuterServes.{kinds_by, table_step}
-use Rattle.lift_does.proofs.OuterCalls.{all_leave}
-use Rattle.lift_does.proofs.OuterOpaque.{HaveKinds}
+use Rattle.lift_does.proofs.OuterArguments.{FrontFits}
 use Rattle.lift_does.proofs.OuterTypes.{OuterForm, outer_form, outer_fits}
 use Rattle.lift_does.proofs.OwnCalls.{CallsAs, with_parts}
 use Rattle.lift_does.proofs.PointedServes.{void_back, void_type, kind_in}
-use Rattle.lift_does.proofs.Runs.{same_events}
-use Rattle.lift_does.specs.Outers.{is_variadic, TakesAll, AsListed, AsBare, OuterItem}
-use Rattle.lift_exprs.specs.Calls.{Argument, count_of, call_of, called_by_name, called_by_symbol, is_bare, outer_called, outer_arguments, one_item, as_params}
-use Rattle.lift_exprs.specs.Lifted.{lifted_args}
-use Rattle.lift_exprs.specs.Names.{Names, KeptFunction, function_or, type_in, params_of, result_of}
+use Rattle.lift_does.specs.Outers.{is_variadic, TakesAll}
+use Rattle.lift_exprs.specs.Names.{type_in, params_of, result_of}
 use Rattle.lift_held.specs.Held.{is_void_form, is_void, is_record}
-use Rattle.lift_held.specs.declared.asked.Asked.{Asked}
 use Rattle.lift_stands.specs.Stands.{Images}
 use Rattle.rs_items.specs.Types.{rust_type, rust_params, code_type, result_type}
-use Rattle.rs_mean.specs.Calls.{outer_by}
-use Rattle.rs_mean.specs.Lookups.{outer, callee_at}
-use Rattle.rs_mean.specs.Run.{run_callee, call_found, run_exprs}
-use Rattle.rs_mean.specs.Values.{Typed}
-use Rattle.rs_mean.specs.World.{takes_unit, either, fails}
-use Rattle.rs_mean.specs.declared.cause.Cause.{Cause}
-use Rattle.rs_mean.specs.declared.cause.Cause.TheVariants.{WrongCall}
-use Rattle.rs_text.specs.Tree.{Ty, Tys, no_tys, more_tys, tys, no_ty, some_ty, option_ty, Code, Expr, exprs, OuterTree, ModuleTree}
+use Rattle.rs_text.specs.Tree.{Ty, Tys, no_ty, some_ty, option_ty, Code, OuterTree}
 
 -- ---- the type that is visible
 

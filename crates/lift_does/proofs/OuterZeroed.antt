@@ -1,5 +1,5 @@
 -- `malloc(n)` that is called as `calloc(1, n)`, in a program with a bit-field member (ISO C99, 7.20.3.1 and 7.20.3.3; the Rust Reference, "Call expressions").
-use Rattle.std.proofs.Common.{◌≡◌, ℕ, Bool, true, false, if◌then◌else◌, List, [], ◌∷◌, map, pos, Option, Some, None, Result, Ok, Err, refl, sym, ap, subst, ◌∙◌}
+use Rattle.std.proofs.Common.{◌≡◌, ℕ, Bool, true, false, List, [], ◌∷◌, map, pos, Option, Some, Result, Ok, Err, refl, sym, ap, subst, ◌∙◌}
 use Rattle.std.specs.Prelude.{bytes_eq, codes}
 use Rattle.cr_runs.proofs.Rules.{renamed}
 use Rattle.cr_runs.specs.Runs.{Ran, came}
