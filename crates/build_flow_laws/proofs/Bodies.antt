@@ -24,7 +24,7 @@ use Rattle.emit_laws.specs.LawsText.{IsWritten}
 use Rattle.emit_laws.specs.Tells.{CanTell}
 use Rattle.flow.specs.Flows.{FlowTree}
 use Rattle.lift_calls.specs.Bodies.{Inside, Returned}
-use Rattle.lift_calls.specs.Calls.{result_laid, type_in, GivesBack}
+use Rattle.lift_calls.specs.Calls.{result_laid, type_in, IsOfItsType, GivesBack}
 use Rattle.lift_calls.specs.Frames.{FunctionNames}
 use Rattle.lift_calls.specs.Programs.{Setting, c_goes}
 use Rattle.lift_stands.specs.Stands.{Images}
@@ -146,6 +146,7 @@ module _ (s : Setting) (one : CFun) (tree : FunctionTree) (names : FunctionNames
     worlds = good.worlds;
     vacant = good.vacant;
     typed = ap type_in (sym (given_same tree.result ending)) ∙ good.typed;
+    of_type = subst IsOfItsType (given_same tree.result ending) good.of_type;
     gives = subst (λ (given : Option Typed). GivesBack good.later (blocks_of end) (align_or (result_laid s one)) place value given) (given_same tree.result ending) good.gives;
   }
 

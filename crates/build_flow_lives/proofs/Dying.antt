@@ -11,7 +11,7 @@ use Rattle.cx_mean.specs.Operands.{CValue, Slot, Frame as CFrame, slot_of}
 use Rattle.cx_typed_runs.proofs.Owned.{killed_owned, killed_held, memory_without}
 use Rattle.cx_typed_runs.specs.Sites.{AreOwned}
 use Rattle.ext_calls.specs.declared.call.Made.{Made}
-use Rattle.lift_calls.specs.Calls.{result_laid, is_place, type_in, GivesBack}
+use Rattle.lift_calls.specs.Calls.{result_laid, is_place, type_in, IsOfItsType, GivesBack}
 use Rattle.lift_calls.specs.Frames.{ObjectAgrees, IsOwned}
 use Rattle.lift_stands.proofs.Kept.{both_keep}
 use Rattle.lift_stands.specs.Keeps.{KeepsOthers}
@@ -186,14 +186,15 @@ module _ (a : Calling) (started : WorldsStand a.images a.c_before a.before) wher
         gone_dead (own_slots a slots) (blocks_of c_world) was.slot was.in_scope (subst (λ (x : ℕ). Lives (without_objects (own_slots a slots) (blocks_of c_world)) x) (sym was.block_is) living)
 
     pub has_returned : (value : CValue) (given : Option Typed) → type_in (given_by a.tree.result (returned given)) ≡ a.tree.result →
-        GivesBack here.later (blocks_of world) (align_or (result_laid a.s a.one)) a.place value (given_by a.tree.result (returned given)) →
+        IsOfItsType (given_by a.tree.result (returned given)) → GivesBack here.later (blocks_of world) (align_or (result_laid a.s a.one)) a.place value (given_by a.tree.result (returned given)) →
         HasReturned a value (without (own_slots a slots) c_world) given world
-    has_returned value given typed gives = record {
+    has_returned value given typed of_type gives = record {
       later = here.later;
       stays = keeps_without (own_slots a slots) a.s.statics here.later c_world world here.inside.worlds here.inside.scope.owned here.inside.stays;
       worlds = worlds_without (own_slots a slots) a.s.statics here.later c_world world here.inside.worlds here.inside.scope.owned;
       vacant = all_vacant;
       typed = typed;
+      of_type = of_type;
       gives = gives;
     }
 

@@ -11,7 +11,7 @@ use Rattle.build_flow_parts.specs.Means.{PartsMean}
 use Rattle.build_flow_parts.proofs.Clears.{nothing_cleared, zero_cleared}
 use Rattle.build_flow_parts.proofs.Conditions.{test_done, choice_done}
 use Rattle.build_flow_parts.proofs.Lives.{begin_done}
-use Rattle.build_flow_parts.proofs.Puts.{scalar_put_done}
+use Rattle.build_flow_parts.proofs.Puts.{value_put_done}
 use Rattle.build_flow_parts.proofs.RecordReturns.{record_return_done}
 use Rattle.build_flow_parts.proofs.Returns.{nothing_done, return_done}
 use Rattle.build_flow_parts.proofs.Values.{effect_done}
@@ -28,15 +28,15 @@ module _ (a : Calling) (units steps : ℕ) (mean : PartsMean a.s a.names a.of un
 
   effects_done : (scope : List ℕ) (value : Option CExpr) (number : ℕ) → EffectsMean a units steps scope value number → EffectsDone stage scope value number
   effects_done scope None number is = tt
-  effects_done scope (Some e) number is = effect_done a units steps mean started params_are scope e number is.typed is.kept
+  effects_done scope (Some e) number is = effect_done a units steps mean started params_are scope e number is
 
   tests_done : (scope : List ℕ) (value : Option CExpr) (number : ℕ) → TestsMean a units steps scope value number → TestsDone stage scope value number
   tests_done scope None number is = tt
-  tests_done scope (Some e) number is = test_done a units steps mean started params_are scope e number is.value.typed is.value.kept is.some
+  tests_done scope (Some e) number is = test_done a units steps mean started params_are scope e number is.value is.some
 
   returns_done : (scope : List ℕ) (e : CExpr) (number : ℕ) → ReturnMeans a units steps scope e number → ReturnDone stage scope e number
   returns_done scope e number (inl is) =
-      return_done a units steps mean started params_are e number scope is.plain is.type is.result_is is.no_place is.some is.value.typed is.value.kept
+      return_done a units steps mean started params_are e number scope is.plain is.result_is is.no_place is.some is.value
   returns_done scope e number (inr is) = record_return_done a units steps mean started params_are e number scope is
 
   clear_done : (scope : List ℕ) (object : ℕ) (puts : Option CPuts) → ClearMeans a units steps scope object puts → ClearDone stage scope object puts
@@ -44,8 +44,7 @@ module _ (a : Calling) (units steps : ℕ) (mean : PartsMean a.s a.names a.of un
   clear_done scope object puts (inr is) = zero_cleared a units steps mean started params_are scope object puts is.declared is
 
   put_done : (scope : List ℕ) (object : ℕ) (one : CPut) (number : ℕ) → PutMeans a units steps scope object one number → PutDone stage scope object one number
-  put_done scope object (put spot type value) number (inl is) = scalar_put_done a units steps mean started params_are scope object spot type value number is
-  put_done scope object (put spot type value) number (inr is) = is
+  put_done scope object (put spot type value) number is = value_put_done a units steps mean started params_are scope object spot type value number is
 
   puts_done : (scope : List ℕ) (object : ℕ) (puts : CPuts) (number : ℕ) → PutsMean a units steps scope object puts number → PutsDone stage scope object puts number
   puts_done scope object no_puts number all = tt
@@ -62,10 +61,10 @@ module _ (a : Calling) (units steps : ℕ) (mean : PartsMean a.s a.names a.of un
     form_done (block ss) scope number is = stmts_done ss scope number is
     form_done (expression value) scope number is = effects_done scope value number is
     form_done (if_then test body otherwise) scope number is =
-        (test_done a units steps mean started params_are scope test number is.0.value.typed is.0.value.kept is.0.some, stmt_done body scope _ is.1, else_done otherwise scope _ is.2)
-    form_done (switch value body) scope number is = (choice_done a units steps mean started params_are scope value number is.0.value.typed is.0.value.kept is.0.some, stmt_done body scope _ is.1)
-    form_done (while test body) scope number is = (test_done a units steps mean started params_are scope test number is.0.value.typed is.0.value.kept is.0.some, stmt_done body scope _ is.1)
-    form_done (do_while body test) scope number is = (stmt_done body scope number is.0, test_done a units steps mean started params_are scope test _ is.1.value.typed is.1.value.kept is.1.some)
+        (test_done a units steps mean started params_are scope test number is.0.value is.0.some, stmt_done body scope _ is.1, else_done otherwise scope _ is.2)
+    form_done (switch value body) scope number is = (choice_done a units steps mean started params_are scope value number is.0.value is.0.some, stmt_done body scope _ is.1)
+    form_done (while test body) scope number is = (test_done a units steps mean started params_are scope test number is.0.value is.0.some, stmt_done body scope _ is.1)
+    form_done (do_while body test) scope number is = (stmt_done body scope number is.0, test_done a units steps mean started params_are scope test _ is.1.value is.1.some)
     form_done (for_loop first test next body) scope number is = (stmts_done first scope number is.0, tests_done scope test _ is.1, effects_done scope next _ is.2, stmt_done body scope _ is.3)
     form_done (goto name) scope number is = tt
     form_done continue scope number is = tt

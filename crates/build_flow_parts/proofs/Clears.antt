@@ -173,7 +173,7 @@ module _ (a : Calling) (units steps : ℕ) (mean : PartsMean a.s a.names a.of un
       unset : first_cells (setting_in a.s) made.size puts ≡ Ok (replicate made.size unset_cell)
       unset =
           let means = mean.means home refl in
-          first_unset a.s a.of.names means.sizes made.size puts declared.one.type anew.given left.plain (means.sizes declared.one.type alive_all.laid alive_all.laid_is ∙ size_is)
+          first_unset a.s a.of.names home means.sizes made.size puts declared.one.type anew.given (sym means.bits ∙ left.no_bits) declared.typed (means.sizes declared.one.type alive_all.laid alive_all.laid_is ∙ size_is)
           (subst (λ (type : CTy). leaves_bits_of a.of.names type puts ≡ false) type_same left.leaves) (subst (λ (size : ℕ). first_cells (setting_in a.s) size puts ≡ Ok anew.given) (sym anew.size) anew.given_is) (anew.many ∙ sym anew.size)
 
       alone : ClearedAlone here.later c_world.held world.held made.blocks

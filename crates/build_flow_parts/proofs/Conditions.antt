@@ -4,7 +4,7 @@ use Rattle.cr_runs.specs.Runs.{came, bind}
 use Rattle.cr_runs.proofs.Rules.{weaker}
 use Rattle.cr_world.specs.World.{World, blocks_of, events_of}
 use Rattle.cx_core.specs.Trees.{CExpr, type_of}
-use Rattle.cx_core.specs.Typing.{CHome, IsTyped}
+use Rattle.cx_core.specs.Typing.{CHome}
 use Rattle.cx_mean.specs.Marks.{Range}
 use Rattle.cx_mean.specs.Nodes.{truth_of_value}
 use Rattle.cx_mean.specs.Operands.{CValue, scalar, cells, names, designates, designates_bits, missing, COperand, Slot, Frame as CFrame, scalar_value}
@@ -15,7 +15,6 @@ use Rattle.cx_typed_work.specs.Operands.{IsScalarIn, IsGivenBy}
 use Rattle.build_flow_lives.specs.Standing.{Calling, own_slots, Standing, stage_of}
 use Rattle.build_flow_moves.specs.Parts.{Stage, TestsAs, Tested, TestDone, GivesNumber, Chosen, ChoiceDone}
 use Rattle.build_flow_nodes.specs.Parts.{condition, operand_of}
-use Rattle.lift_does.specs.Agree.{AreKeptFrom}
 use Rattle.lift_does.specs.Gives.{GivesOperand}
 use Rattle.lift_does.specs.Later.{IsSameAt, AllOf, Lasts}
 use Rattle.lift_exprs.specs.Lifted.{lifted, operand_of as operand_given}
@@ -34,6 +33,7 @@ use Rattle.mem_bytes.specs.Memory.{Blocks}
 use Rattle.rs_mean.specs.Run.{Flow, normal, run_expr, tests}
 use Rattle.rs_mean.specs.World.{pure, seq}
 use Rattle.rs_text.specs.Tree.{Boolean, Expr}
+use Rattle.build_flow_parts.specs.Bodies.{ValueMeans}
 use Rattle.build_flow_parts.specs.Means.{home_in, PartsMean}
 use Rattle.build_flow_parts.proofs.Values.{Evaluated, operand_asked, stands_after, evaluates}
 
@@ -157,22 +157,22 @@ module _ (a : Calling) (units steps : ℕ) (mean : PartsMean a.s a.names a.of un
 
   -- ---- parts of bodies
 
-  pub test_done : (scope : List ℕ) (e : CExpr) (number : ℕ) → IsTyped (home scope) e → AreKeptFrom a.of.names a.names number (lifted a.of.names operand e number).temporaries → is_void (type_of e) ≡ false → TestDone stage scope e number
-  test_done scope e number typed kept some slots c_world world n m few little known_are here =
+  pub test_done : (scope : List ℕ) (e : CExpr) (number : ℕ) → ValueMeans a units steps operand scope e number → is_void (type_of e) ≡ false → TestDone stage scope e number
+  test_done scope e number value_means some slots c_world world n m few little known_are here =
       weaker events_of events_of (Evaluated a units steps mean started params_are operand e number scope slots c_world world here)
       (λ given c_end flow end. (flow ≡ normal) × Tested stage slots (condition a.of e number).test given c_end end)
       (λ given c_end flow end is. (
         is.did.flow_is,
         record { here = standing e number scope slots c_world world here given c_end flow end is; tests = tests_so e number scope slots c_world world here given c_end flow end is },
       )) n m _ _
-      (evaluates a units steps mean started params_are operand e number scope (operand_asked e some) typed kept slots c_world world n m few little known_are here)
+      (evaluates a units steps mean started params_are operand e number scope (operand_asked e some) value_means slots c_world world n m few little known_are here)
 
-  pub choice_done : (scope : List ℕ) (e : CExpr) (number : ℕ) → IsTyped (home scope) e → AreKeptFrom a.of.names a.names number (lifted a.of.names operand e number).temporaries → is_void (type_of e) ≡ false → ChoiceDone stage scope e number
-  choice_done scope e number typed kept some slots c_world world n m few little known_are here =
+  pub choice_done : (scope : List ℕ) (e : CExpr) (number : ℕ) → ValueMeans a units steps operand scope e number → is_void (type_of e) ≡ false → ChoiceDone stage scope e number
+  choice_done scope e number value_means some slots c_world world n m few little known_are here =
       weaker events_of events_of (Evaluated a units steps mean started params_are operand e number scope slots c_world world here)
       (λ given c_end flow end. (flow ≡ normal) × Chosen stage slots (operand_of a.of e number).value given c_end end)
       (λ given c_end flow end is. (
         is.did.flow_is,
         record { here = standing e number scope slots c_world world here given c_end flow end is; gives = gives_so e number scope slots c_world world here given c_end flow end is },
       )) n m _ _
-      (evaluates a units steps mean started params_are operand e number scope (operand_asked e some) typed kept slots c_world world n m few little known_are here)
+      (evaluates a units steps mean started params_are operand e number scope (operand_asked e some) value_means slots c_world world n m few little known_are here)

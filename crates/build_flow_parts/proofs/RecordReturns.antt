@@ -48,6 +48,7 @@ use Rattle.rs_text.specs.Tree.{Ty, Pointer, Local, Read, Stmt}
 use Rattle.build_flow_parts.specs.Bodies.{RecordGiven}
 use Rattle.build_flow_parts.specs.Means.{home_in, PartsMean}
 use Rattle.build_flow_parts.proofs.Conditions.{gives_here, standing}
+use Rattle.build_flow_parts.proofs.Returns.{nothing_of_type}
 use Rattle.build_flow_parts.proofs.Values.{around_of, Evaluated, operand_asked, evaluates}
 
 -- ---- what C gives
@@ -206,6 +207,7 @@ module _ (a : Calling) (units steps : ℕ) (mean : PartsMean a.s a.names a.of un
           worlds = worlds_without a started (own_slots a slots) a.s.statics is.did.later c_end after copies.stands stands.inside.scope.owned;
           vacant = all_vacant a started slots c_end end stands;
           typed = nothing_typed a.tree.result means.result_is;
+          of_type = nothing_of_type a.tree.result means.result_is;
           gives = cells_back is.did.later (blocks_of after) (align_or (result_laid a.s a.one)) a.place a.tree.result there.at list there.at_is means.result_is place_holds;
         }
 
@@ -224,7 +226,7 @@ module _ (a : Calling) (units steps : ℕ) (mean : PartsMean a.s a.names a.of un
     return_owes known_are place =
         join_owes around (Evaluated a units steps mean started params_are operand e number scope slots c_world world here) Good (value_in stage slots e c_world)
         (λ one c_end. one_step place (value_given one.value) came c_end) written.body (copy ∷ []) world (λ one c_end flow end is. is.did.flow_is)
-        (evaluates a units steps mean started params_are operand e number scope (operand_asked e (void_record (type_of e) means.of_record)) means.value.typed means.value.kept slots c_world world n m few little known_are here)
+        (evaluates a units steps mean started params_are operand e number scope (operand_asked e (void_record (type_of e) means.of_record)) means.value slots c_world world n m few little known_are here)
         (λ one c_end end is.
         step_owes around Good place (value_given one.value) came (copy ∷ []) c_end end (same_events is.did.later c_end end is.did.worlds) (λ result read_is. given_ends one c_end end is result read_is))
 

@@ -1,7 +1,10 @@
 -- Returns of functions that give a scalar or nothing, and the ends of bodies.
-use Rattle.std.proofs.Common.{◌≡◌, ◌∙◌, inl, inr, ℕ, pred, pos, Bool, true, false, not, ◌||◌, List, [], ◌++◌, map, length, Option, Some, None, Result, Ok, Err, if◌then◌else◌, refl, sym, ap, subst}
+use Rattle.std.proofs.Common.{arith, ◌≡◌, ◌∙◌, inl, inr, ℕ, pred, pos, Bool, true, false, not, ◌||◌, List, [], ◌++◌, map, length, Option, Some, None, Result, Ok, Err, if◌then◌else◌, refl, sym, ap, subst}
+use Rattle.std.proofs.lemmas.Int.{ints}
 use Rattle.cr_base.specs.declared.layout.Laid.{Laid}
 use Rattle.cr_base.specs.declared.refusal.Place.{Place}
+use Rattle.cr_base.specs.declared.scalar.Scalar.{Scalar}
+use Rattle.cr_base.specs.declared.scalar.Scalar.TheVariants as scalars
 use Rattle.cr_runs.specs.Owes.{Owes}
 use Rattle.cr_runs.specs.Runs.{came, bind}
 use Rattle.cr_runs.proofs.Rules.{values, no_meaning, pieces, renamed, bind_came}
@@ -9,19 +12,18 @@ use Rattle.cr_runs_rules.proofs.Rules.{alone}
 use Rattle.cr_world.specs.World.{World, Stop, blocks_of, events_of}
 use Rattle.cx_core.specs.Linked.{is_main}
 use Rattle.cx_core.specs.Trees.{CTy, ty, void, basic, enum_type, pointer, array, record_type, function, CExpr, type_of, CProgram}
-use Rattle.cx_core.specs.Typing.{CHome, IsTyped}
+use Rattle.cx_core.specs.Typing.{CHome}
 use Rattle.cx_mean.specs.Leftmost.{one_step, or_bad}
 use Rattle.cx_mean.specs.Operands.{CWhy, CStop, stops, CValue, scalar, cells, names, designates, designates_bits, missing, COperand, Slot, Frame as CFrame}
 use Rattle.cx_mean.specs.State.{given_back, value_given, value_at_end, bottom_of}
-use Rattle.cx_typed_work.specs.Operands.{IsRecordOf, IsGivenBy}
+use Rattle.cx_typed_work.specs.Operands.{IsRecordOf, IsScalarIn, IsGivenBy}
 use Rattle.build_flow_lives.proofs.Dying.{has_returned, same_events}
 use Rattle.build_flow_lives.specs.Standing.{Calling, Standing, stage_of}
 use Rattle.build_flow_moves.specs.Parts.{Stage, value_in, return_piece, PieceOwes, GivenBack, ReturnDone, NothingGiven}
 use Rattle.build_flow_moves.specs.Runs.{run_given}
 use Rattle.build_flow_nodes.specs.Parts.{Return, gives_record, gives_value, given_in, given}
 use Rattle.lift_calls.specs.Bodies.{ResultAgrees}
-use Rattle.lift_calls.specs.Calls.{result_laid, type_in as type_of_given, GivesBack}
-use Rattle.lift_does.specs.Agree.{AreKeptFrom}
+use Rattle.lift_calls.specs.Calls.{result_laid, type_in as type_of_given, IsOfItsType, GivesBack}
 use Rattle.lift_exprs.specs.Lifted.{lifted, operand_of as operand_given}
 use Rattle.lift_exprs.specs.Names.{type_in}
 use Rattle.lift_exprs.specs.Written.{Written}
@@ -32,7 +34,9 @@ use Rattle.lift_held.specs.Held.{is_void, is_record, operand, full, part_of}
 use Rattle.lift_held.specs.declared.asked.Asked.{Asked}
 use Rattle.lift_stands.specs.Stands.{Images, ValueBelow}
 use Rattle.lift_stands.specs.Worlds.{WorldsStand}
+use Rattle.lift_stands_values.proofs.Ranges.{given_in_range}
 use Rattle.lift_stands_values.specs.Given.{align_or}
+use Rattle.mem_bytes.specs.Coding.{IsValueOf}
 use Rattle.mem_bytes.specs.declared.cell.Cell.{Cell}
 use Rattle.mem_bytes.specs.declared.value.Ptr.{Ptr}
 use Rattle.mem_bytes.specs.declared.value.Value.{Value}
@@ -40,12 +44,14 @@ use Rattle.mem_bytes.specs.declared.value.Value.TheVariants.{Whole, Null}
 use Rattle.mem_bytes.specs.Memory.{Blocks}
 use Rattle.rs_mean.specs.declared.cause.Cause.{Cause}
 use Rattle.rs_mean.specs.Run.{Frame, Flow, normal, returned, run_expr, run_stmts, given_by}
-use Rattle.rs_mean.specs.Scalars.{is_scalar}
+use Rattle.rs_mean.specs.Scalars.{scalar_of, integer_scalar, is_scalar}
 use Rattle.rs_mean.specs.Typing.{is_bits}
 use Rattle.rs_mean.specs.Values.{Typed, typed}
 use Rattle.rs_mean.specs.World.{pure, seq}
-use Rattle.rs_text.specs.Tree.{Ty, stmts}
-use Rattle.build_flow_parts.specs.Bodies.{EndsAreDone}
+use Rattle.rs_text.specs.Tree.{Ty, Void, Array, Record, Integer, Boolean, Pointer, Code, stmts}
+use Rattle.rs_text.specs.declared.integer.IntegerTy.{IntegerTy}
+use Rattle.rs_text.specs.declared.integer.IntegerTy.TheVariants.{I8, I16, I32, I64, U8, U16, U32, U64, Isize, Usize}
+use Rattle.build_flow_parts.specs.Bodies.{ValueMeans, EndsAreDone}
 use Rattle.build_flow_parts.specs.Means.{home_in, PartsMean}
 use Rattle.build_flow_parts.proofs.Conditions.{gives_scalar, standing}
 use Rattle.build_flow_parts.proofs.Values.{Evaluated, operand_asked, evaluates}
@@ -80,6 +86,42 @@ scalar_given home e plain (designates_bits at bit width) result is typed_so = ab
 typed_back : (result : Option Ty) (value : Typed) → type_of_given (given_by result (returned (Some value))) ≡ result
 typed_back (Some type) value = refl
 typed_back None value = refl
+
+-- what is given by a function that gives nothing
+pub nothing_of_type : (result : Option Ty) → result ≡ None → IsOfItsType (given_by result (returned None))
+nothing_of_type result is = subst (λ (r : Option Ty). IsOfItsType (given_by r (returned None))) (sym is) tt
+
+-- a value is one of the type that the function gives
+value_of_type : (result : Option Ty) (type : Ty) (value : Typed) → result ≡ Some type → ((kind : Scalar) → scalar_of type ≡ Some kind → IsValueOf kind value.value) → IsOfItsType (given_by result (returned (Some value)))
+value_of_type result type value is all = subst (λ (r : Option Ty). IsOfItsType (given_by r (returned (Some value)))) (sym is) all
+
+zero_integer : (which : IntegerTy) → IsValueOf (integer_scalar which) (Whole (pos 0))
+zero_integer I8 = (omega (arith, ints), omega (arith, ints))
+zero_integer I16 = (omega (arith, ints), omega (arith, ints))
+zero_integer I32 = (omega (arith, ints), omega (arith, ints))
+zero_integer I64 = (omega (arith, ints), omega (arith, ints))
+zero_integer U8 = (omega (arith, ints), omega (arith, ints))
+zero_integer U16 = (omega (arith, ints), omega (arith, ints))
+zero_integer U32 = (omega (arith, ints), omega (arith, ints))
+zero_integer U64 = (omega (arith, ints), omega (arith, ints))
+zero_integer Isize = (omega (arith, ints), omega (arith, ints))
+zero_integer Usize = (omega (arith, ints), omega (arith, ints))
+
+-- 0, `false` and a null pointer are values of each scalar type
+zero_of_type : (type : Ty) (kind : Scalar) → scalar_of type ≡ Some kind → IsValueOf kind (if is_bits type then Whole (pos 0) else Null)
+zero_of_type (Integer which) kind is = let same : integer_scalar which ≡ kind = cc in subst (λ (k : Scalar). IsValueOf k (Whole (pos 0))) same (zero_integer which)
+zero_of_type Boolean kind is = let same : scalars.Truth ≡ kind = cc in subst (λ (k : Scalar). IsValueOf k (Whole (pos 0))) same (omega (arith, ints), omega (arith, ints))
+zero_of_type (Pointer target) kind is = let same : scalars.Object ≡ kind = cc in subst (λ (k : Scalar). IsValueOf k Null) same tt
+zero_of_type (Code params result) kind is = let same : scalars.Code ≡ kind = cc in subst (λ (k : Scalar). IsValueOf k Null) same tt
+zero_of_type Void kind is = absurd cc
+zero_of_type (Array element size) kind is = absurd cc
+zero_of_type (Record m x) kind is = absurd cc
+
+-- a scalar that an expression gives is one of its type in C
+scalar_in : (home : CHome) (e : CExpr) (of_c : Value) → IsGivenBy home e (scalar of_c) → IsScalarIn home.program (type_of e) of_c
+scalar_in home e of_c (inl place) = elim place.1 [ ]
+scalar_in home e of_c (inr (typed_so, inl is)) = is
+scalar_in home e of_c (inr (typed_so, inr none)) = elim none.1 [ ]
 
 scalar_back : (images : Images) (others : Blocks) (align : ℕ) (place : Option Ptr) (result : Option Ty) (type : Ty) (of_c : Value) (value : Typed) → place ≡ None → result ≡ Some type → ValueBelow images of_c value.value →
     GivesBack images others align place (scalar of_c) (given_by result (returned (Some value)))
@@ -118,7 +160,7 @@ module _ (a : Calling) (units steps : ℕ) (started : WorldsStand a.images a.c_b
     given = None;
     runs = nothing_runs world;
     back =
-        has_returned a started slots c_world world here missing None (type_none a.tree.result no_result)
+        has_returned a started slots c_world world here missing None (type_none a.tree.result no_result) (nothing_of_type a.tree.result no_result)
         (nothing_back here.later (blocks_of world) (align_or (result_laid a.s a.one)) a.place (given_by a.tree.result (returned None)));
   }
 
@@ -151,6 +193,7 @@ module _ (a : Calling) (units steps : ℕ) (started : WorldsStand a.images a.c_b
       runs = zero_runs world;
       back =
           has_returned a started [] c_world world here (given_back (value_at_end (is_main a.one))) (Some (typed type zero_value)) (typed_back a.tree.result (typed type zero_value))
+          (value_of_type a.tree.result type (typed type zero_value) result_is (zero_of_type type))
           (main_gives (is_main a.one) refl c_world world here);
     }
 
@@ -178,7 +221,7 @@ module _ (a : Calling) (units steps : ℕ) (mean : PartsMean a.s a.names a.of un
 
   -- ---- a scalar is given
 
-  module _ (e : CExpr) (number : ℕ) (scope : List ℕ) (plain : is_record (type_of e) ≡ false) (type : Ty) (result_is : a.tree.result ≡ Some type) (no_record_result : result_laid a.s a.one ≡ None) where
+  module _ (e : CExpr) (number : ℕ) (scope : List ℕ) (plain : is_record (type_of e) ≡ false) (result_is : a.tree.result ≡ Some (type_in a.of.names (type_of e))) (no_record_result : result_laid a.s a.one ≡ None) where
     abbrev written : Written
     written = lifted a.of.names operand e number
 
@@ -196,13 +239,18 @@ module _ (a : Calling) (units steps : ℕ) (mean : PartsMean a.s a.names a.of un
           value_gives is.did.later a.frame end (operand_given a.of.names e written.given) it.of_c
           (gives_scalar a units steps mean started params_are e number scope slots c_world world here operand_value c_end flow end is it.of_c it.was) in
           let value = typed (type_in a.of.names (type_of e)) below.other in
+          let given_so = scalar_in (home scope) e it.of_c (subst (IsGivenBy (home scope) e) it.was is.typed.operand_is.given) in
+          let kind_is : scalar_of (type_in a.of.names (type_of e)) ≡ Some given_so.kind = (mean.means (home scope) refl).scalars (type_of e) given_so.kind given_so.kind_is in
+          let of_kind : (kind : Scalar) → scalar_of (type_in a.of.names (type_of e)) ≡ Some kind → IsValueOf kind below.other =
+          λ kind other_is. let same : given_so.kind ≡ kind = cc in subst (λ (k : Scalar). IsValueOf k below.other) same (given_in_range is.did.later given_so.kind it.of_c below.other below.below given_so.of_kind) in
           subst (λ (one : CValue). GivenBack stage slots (Some (given_value written.given)) one c_end end) (sym it.is)
           (record {
             given = Some value;
             runs = given_runs end value below.gives.runs;
             back =
                 has_returned a started slots c_end end stands (scalar it.of_c) (Some value) (typed_back a.tree.result value)
-                (scalar_back is.did.later (blocks_of end) (align_or (result_laid a.s a.one)) a.place a.tree.result type it.of_c value
+                (value_of_type a.tree.result (type_in a.of.names (type_of e)) value result_is of_kind)
+                (scalar_back is.did.later (blocks_of end) (align_or (result_laid a.s a.one)) a.place a.tree.result (type_in a.of.names (type_of e)) it.of_c value
                 (place_is_none (length (blocks_of a.before)) stands.later end a.frame (result_laid a.s a.one) a.names.result a.place no_record_result stands.inside.result) result_is below.below);
           })
 
@@ -225,16 +273,16 @@ module _ (a : Calling) (units steps : ℕ) (mean : PartsMean a.s a.names a.of un
     abbrev scalar_return : Return
     scalar_return = gives_value written
 
-    scalar_done : is_void (type_of e) ≡ false → IsTyped (home scope) e → AreKeptFrom a.of.names a.names number written.temporaries → (place : Place) →
+    scalar_done : is_void (type_of e) ≡ false → ValueMeans a units steps operand scope e number → (place : Place) →
         PieceOwes stage scope (return_piece stage place e) scalar_return.body (λ slots value c_after after. GivenBack stage slots scalar_return.value value c_after after)
-    scalar_done some typed_so kept place slots c_world world n m few little known_are here =
+    scalar_done some value_means place slots c_world world n m few little known_are here =
         renamed events_of events_of (λ value c_after flow after. (flow ≡ normal) × GivenBack stage slots scalar_return.value value c_after after) n m (return_piece stage place e slots c_world)
         (return_piece stage place e slots c_world) (λ k. bind (run_stmts a.frame (stmts written.body) world k) (λ flow after left. came flow after left)) (run_stmts a.frame (stmts written.body) world) (λ k. refl)
         (λ k. bind_came (run_stmts a.frame (stmts written.body) world k))
         (pieces events_of events_of (Evaluated a units steps mean started params_are operand e number scope slots c_world world here)
         (λ value c_after flow after. (flow ≡ normal) × GivenBack stage slots scalar_return.value value c_after after) (value_in stage slots e c_world) (run_stmts a.frame (stmts written.body) world)
         (λ one. one_step place (value_given one.value) came) (λ flow after left. came flow after left) n m
-        (evaluates a units steps mean started params_are operand e number scope (operand_asked e some) typed_so kept slots c_world world n m few little known_are here) (λ flow after. (refl, refl))
+        (evaluates a units steps mean started params_are operand e number scope (operand_asked e some) value_means slots c_world world n m few little known_are here) (λ flow after. (refl, refl))
         (λ one c_end flow end is. step_owed slots c_world world here one c_end flow end is n m place))
 
     asked_is : is_void (type_of e) ≡ false → full e ≡ operand
@@ -249,7 +297,7 @@ module _ (a : Calling) (units steps : ℕ) (mean : PartsMean a.s a.names a.of un
         return_as false is = refl
         return_as true is = absurd cc
 
-    pub return_done : is_void (type_of e) ≡ false → IsTyped (home scope) e → AreKeptFrom a.of.names a.names number written.temporaries → ReturnDone stage scope e number
-    return_done some typed_so kept place =
+    pub return_done : is_void (type_of e) ≡ false → ValueMeans a units steps operand scope e number → ReturnDone stage scope e number
+    return_done some value_means place =
         subst (λ (one : Return). PieceOwes stage scope (return_piece stage place e) one.body (λ slots value c_after after. GivenBack stage slots one.value value c_after after)) (sym (return_is some))
-        (scalar_done some typed_so kept place)
+        (scalar_done some value_means place)

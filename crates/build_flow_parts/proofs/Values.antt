@@ -4,7 +4,7 @@ use Rattle.cr_runs.specs.Owes.{Owes}
 use Rattle.cr_runs.proofs.Rules.{weaker, known}
 use Rattle.cr_world.specs.World.{World, events_of}
 use Rattle.cx_core.specs.Trees.{CExpr, type_of}
-use Rattle.cx_core.specs.Typing.{CHome, IsTyped}
+use Rattle.cx_core.specs.Typing.{CHome}
 use Rattle.cx_mean.specs.Operands.{COperand, Slot, Frame as CFrame}
 use Rattle.cx_typed_calls.proofs.Calls.{calls_end_typed}
 use Rattle.cx_typed_runs.proofs.Scenes.{scene_of, objects_append}
@@ -15,7 +15,7 @@ use Rattle.build_flow_moves.specs.Parts.{objects_in, value_in, EffectDone}
 use Rattle.lift_calls.proofs.Owed.{promise_shrinks}
 use Rattle.lift_calls.specs.Programs.{c_calls}
 use Rattle.lift_does.proofs.Around.{Around}
-use Rattle.lift_does.specs.Agree.{AreKeptFrom}
+use Rattle.lift_does.proofs.Lifting.{lifting_does}
 use Rattle.lift_does.specs.Does.{IsAsked, Did}
 use Rattle.lift_does.specs.Here.{Here}
 use Rattle.lift_exprs.specs.Lifted.{lifted}
@@ -26,6 +26,7 @@ use Rattle.rs_mean.specs.Run.{Flow, normal, run_stmts}
 use Rattle.rs_mean_frames.proofs.Framed.{all_behave}
 use Rattle.rs_mean_frames.specs.Behave.{BodiesBehave}
 use Rattle.rs_text.specs.Tree.{stmts}
+use Rattle.build_flow_parts.specs.Bodies.{ValueMeans}
 use Rattle.build_flow_parts.specs.Means.{home_in, PartsMean}
 use Rattle.build_flow_parts.proofs.After.{stands_behind}
 
@@ -96,26 +97,34 @@ module _ (a : Calling) (units steps : ℕ) (mean : PartsMean a.s a.names a.of un
       stands_behind a started mean.apart slots c_world world here is.did.later is.did.own number (lifted a.of.names asked e number).next is.did.are_own c_end end is.did.keeps is.did.worlds
       (record { memory = is.typed.at.scene.memory; owned = is.typed.at.owned })
 
-  pub evaluates : (asked : Asked) (e : CExpr) (number : ℕ) (scope : List ℕ) → IsAsked asked e → IsTyped (home scope) e → AreKeptFrom a.of.names a.names number (lifted a.of.names asked e number).temporaries →
+  -- the law of expressions, where one begins
+  pub part_owes : (asked : Asked) (e : CExpr) (number : ℕ) (scope : List ℕ) → IsAsked asked e → ValueMeans a units steps asked scope e number →
+      (slots : CFrame) (c_world world : World) (n m : ℕ) → n ≤ units → m ≤ steps → objects_in slots ≡ scope → (here : Standing a slots c_world world) →
+      Owes events_of events_of (Did a.s (home scope) a.of.names a.names asked e number here.later (own_slots a slots) a.frame c_world world) n m (value_in (stage_of a units steps) slots e c_world)
+      (run_stmts a.frame (stmts (lifted a.of.names asked e number).body) world)
+  part_owes asked e number scope is_asked value_means slots c_world world n m few little known_are here =
+      lifting_does a.s a.of.names a.names (home scope) asked e number n m (mean.means (home scope) refl) mean.apart is_asked value_means.kept (inl value_means.typed) value_means.calls calls_typed (promise_shrinks a.s units steps n m few little mean.promise)
+      here.later (own_slots a slots) a.frame c_world world (here_of scope slots c_world world known_are here)
+
+  pub evaluates : (asked : Asked) (e : CExpr) (number : ℕ) (scope : List ℕ) → IsAsked asked e → ValueMeans a units steps asked scope e number →
       (slots : CFrame) (c_world world : World) (n m : ℕ) → n ≤ units → m ≤ steps → objects_in slots ≡ scope → (here : Standing a slots c_world world) →
       Owes events_of events_of (Evaluated asked e number scope slots c_world world here) n m (value_in (stage_of a units steps) slots e c_world)
       (run_stmts a.frame (stmts (lifted a.of.names asked e number).body) world)
-  evaluates asked e number scope is_asked typed kept slots c_world world n m few little known_are here =
+  evaluates asked e number scope is_asked value_means slots c_world world n m few little known_are here =
       let begins = here_of scope slots c_world world known_are here in
       weaker events_of events_of
       (λ given c_end flow end. Did a.s (home scope) a.of.names a.names asked e number here.later (own_slots a slots) a.frame c_world world given c_end flow end × IsTypedEnd (home scope) (own_slots a slots ++ a.s.statics) e c_world given c_end)
       (Evaluated asked e number scope slots c_world world here) (λ given c_end flow end is. record { did = is.0; typed = is.1 }) n m _ _
       (known events_of events_of (Did a.s (home scope) a.of.names a.names asked e number here.later (own_slots a slots) a.frame c_world world) (IsTypedEnd (home scope) (own_slots a slots ++ a.s.statics) e c_world) n m
       (value_in (stage_of a units steps) slots e c_world) (run_stmts a.frame (stmts (lifted a.of.names asked e number).body) world)
-      (λ bound. leftmost_stays_typed (home scope) (c_calls a.s) (own_slots a slots) a.s.statics e c_world bound calls_typed (inl typed) begins.typed)
-      (mean.does a.s a.of.names a.names (home scope) asked e number n m (mean.means (home scope) refl) mean.apart is_asked kept (inl typed) calls_typed (promise_shrinks a.s units steps n m few little mean.promise)
-      here.later (own_slots a slots) a.frame c_world world begins))
+      (λ bound. leftmost_stays_typed (home scope) (c_calls a.s) (own_slots a slots) a.s.statics e c_world bound calls_typed (inl value_means.typed) begins.typed)
+      (part_owes asked e number scope is_asked value_means slots c_world world n m few little known_are here))
 
   -- ---- an expression whose value is dropped
 
-  pub effect_done : (scope : List ℕ) (e : CExpr) (number : ℕ) → IsTyped (home scope) e → AreKeptFrom a.of.names a.names number (lifted a.of.names (full e) e number).temporaries →
+  pub effect_done : (scope : List ℕ) (e : CExpr) (number : ℕ) → ValueMeans a units steps (full e) scope e number →
       EffectDone (stage_of a units steps) scope e number
-  effect_done scope e number typed kept slots c_world world n m few little known_are here =
+  effect_done scope e number value_means slots c_world world n m few little known_are here =
       weaker events_of events_of (Evaluated (full e) e number scope slots c_world world here) (λ given c_end flow end. (flow ≡ normal) × Standing a slots c_end end)
       (λ given c_end flow end is. (is.did.flow_is, stands_after (full e) e number scope slots c_world world here given c_end flow end is)) n m _ _
-      (evaluates (full e) e number scope (full_asked e) typed kept slots c_world world n m few little known_are here)
+      (evaluates (full e) e number scope (full_asked e) value_means slots c_world world n m few little known_are here)

@@ -2,7 +2,6 @@
 use Rattle.std.proofs.Common.{◌≡◌, ◌∙◌, ℕ, zero, suc, pos, ◌<◌, ◌≤◌, cond, Bool, true, false, List, [], ◌∷◌, map, replicate, slice_set, take, drop, Option, Some, Result, Ok, Err, if◌then◌else◌, refl, sym, ap, subst, arith}
 use Rattle.cr_base.specs.declared.layout.Laid.{Laid}
 use Rattle.cr_base.specs.declared.scalar.Scalar.{Scalar}
-use Rattle.cr_base.specs.declared.scalar.Scalar.TheVariants as scalars
 use Rattle.cr_runs.specs.Runs.{came}
 use Rattle.cr_world.specs.Held.{with_blocks}
 use Rattle.cr_world.specs.World.{World, blocks_of, with_held}
@@ -14,6 +13,7 @@ use Rattle.lift_calls.specs.Bodies.{HoldsZeros}
 use Rattle.lift_calls.specs.Frames.{KeptTemporary}
 use Rattle.lift_does.proofs.Around.{Around}
 use Rattle.lift_does.proofs.Copies.{copy_fits, copy_comes, bytes_copied, temporary_address}
+use Rattle.lift_does.proofs.LiteralZeros.{zero_cells, has_kind}
 use Rattle.lift_does.proofs.Runs.{run_one}
 use Rattle.lift_does.proofs.Temporaries.{scalar_laid, zero_aligned, assign_comes}
 use Rattle.lift_exprs.specs.Names.{kept_or, type_in}
@@ -39,49 +39,12 @@ use Rattle.rs_mean.specs.Layout.{laid_of}
 use Rattle.rs_mean.specs.Run.{normal, run_stmts}
 use Rattle.rs_mean.specs.Scalars.{is_scalar, scalar_of, same_type}
 use Rattle.rs_mean.specs.Typing.{is_bits}
-use Rattle.rs_text.specs.Tree.{Ty, Integer, Boolean, Void, Pointer, Array, Code, Record, Place, Local, Cast, AddressOf, Stmt, Assign, stmts}
-use Rattle.rs_text.specs.declared.integer.IntegerTy.TheVariants.{I8, I16, I32, I64, Isize, U8, U16, U32, U64, Usize}
+use Rattle.rs_text.specs.Tree.{Ty, Pointer, Place, Local, Cast, AddressOf, Stmt, Assign, stmts}
 use Rattle.build_flow_parts.specs.Means.{home_in, PartsMean, ObjectMeans, ZerosMean, ZeroMeans}
 use Rattle.build_flow_parts.proofs.Objects.{ItsLocal, its_local}
 use Rattle.build_flow_parts.proofs.Values.{around_of}
 
 -- ---- zero bytes
-
-zero_cells : (ty : Ty) (kind : Scalar) → scalar_of ty ≡ Some kind → cells_of kind (if is_bits ty then Whole (pos 0) else Null) ≡ replicate (scalar_size kind) (byte_cell 0)
-zero_cells (Integer I8) kind e = let k : scalars.Whole 8 true ≡ kind = cc (e) in subst (λ (one : Scalar). cells_of one (Whole (pos 0)) ≡ replicate (scalar_size one) (byte_cell 0)) k refl
-zero_cells (Integer I16) kind e = let k : scalars.Whole 16 true ≡ kind = cc (e) in subst (λ (one : Scalar). cells_of one (Whole (pos 0)) ≡ replicate (scalar_size one) (byte_cell 0)) k refl
-zero_cells (Integer I32) kind e = let k : scalars.Whole 32 true ≡ kind = cc (e) in subst (λ (one : Scalar). cells_of one (Whole (pos 0)) ≡ replicate (scalar_size one) (byte_cell 0)) k refl
-zero_cells (Integer I64) kind e = let k : scalars.Whole 64 true ≡ kind = cc (e) in subst (λ (one : Scalar). cells_of one (Whole (pos 0)) ≡ replicate (scalar_size one) (byte_cell 0)) k refl
-zero_cells (Integer Isize) kind e = let k : scalars.Whole 64 true ≡ kind = cc (e) in subst (λ (one : Scalar). cells_of one (Whole (pos 0)) ≡ replicate (scalar_size one) (byte_cell 0)) k refl
-zero_cells (Integer U8) kind e = let k : scalars.Whole 8 false ≡ kind = cc (e) in subst (λ (one : Scalar). cells_of one (Whole (pos 0)) ≡ replicate (scalar_size one) (byte_cell 0)) k refl
-zero_cells (Integer U16) kind e = let k : scalars.Whole 16 false ≡ kind = cc (e) in subst (λ (one : Scalar). cells_of one (Whole (pos 0)) ≡ replicate (scalar_size one) (byte_cell 0)) k refl
-zero_cells (Integer U32) kind e = let k : scalars.Whole 32 false ≡ kind = cc (e) in subst (λ (one : Scalar). cells_of one (Whole (pos 0)) ≡ replicate (scalar_size one) (byte_cell 0)) k refl
-zero_cells (Integer U64) kind e = let k : scalars.Whole 64 false ≡ kind = cc (e) in subst (λ (one : Scalar). cells_of one (Whole (pos 0)) ≡ replicate (scalar_size one) (byte_cell 0)) k refl
-zero_cells (Integer Usize) kind e = let k : scalars.Whole 64 false ≡ kind = cc (e) in subst (λ (one : Scalar). cells_of one (Whole (pos 0)) ≡ replicate (scalar_size one) (byte_cell 0)) k refl
-zero_cells Boolean kind e = let k : scalars.Truth ≡ kind = cc (e) in subst (λ (one : Scalar). cells_of one (Whole (pos 0)) ≡ replicate (scalar_size one) (byte_cell 0)) k refl
-zero_cells (Pointer target) kind e = let k : scalars.Object ≡ kind = cc (e) in subst (λ (one : Scalar). cells_of one Null ≡ replicate (scalar_size one) (byte_cell 0)) k refl
-zero_cells (Code params result) kind e = let k : scalars.Code ≡ kind = cc (e) in subst (λ (one : Scalar). cells_of one Null ≡ replicate (scalar_size one) (byte_cell 0)) k refl
-zero_cells Void kind e = cc (e)
-zero_cells (Array element size) kind e = cc (e)
-zero_cells (Record m x) kind e = cc (e)
-
-has_kind : (ty : Ty) → is_scalar ty ≡ true → (kind : Scalar) × (scalar_of ty ≡ Some kind)
-has_kind Void e = cc (e)
-has_kind (Array element size) e = cc (e)
-has_kind (Record m x) e = cc (e)
-has_kind (Integer I8) e = (scalars.Whole 8 true, refl)
-has_kind (Integer I16) e = (scalars.Whole 16 true, refl)
-has_kind (Integer I32) e = (scalars.Whole 32 true, refl)
-has_kind (Integer I64) e = (scalars.Whole 64 true, refl)
-has_kind (Integer Isize) e = (scalars.Whole 64 true, refl)
-has_kind (Integer U8) e = (scalars.Whole 8 false, refl)
-has_kind (Integer U16) e = (scalars.Whole 16 false, refl)
-has_kind (Integer U32) e = (scalars.Whole 32 false, refl)
-has_kind (Integer U64) e = (scalars.Whole 64 false, refl)
-has_kind (Integer Usize) e = (scalars.Whole 64 false, refl)
-has_kind Boolean e = (scalars.Truth, refl)
-has_kind (Pointer target) e = (scalars.Object, refl)
-has_kind (Code params result) e = (scalars.Code, refl)
 
 -- a block whose first bytes are zero
 abbrev pub zeroed : Block → ℕ → Block

@@ -1,5 +1,4 @@
--- What is known of the parts of a body where each is written: expressions are typed and their temporaries kept, and objects are new to their scope (ISO C99, 6.2.4 and 6.8). Of
--- initial values of parts of objects, and of structures and unions, it is asked what is written for them.
+-- What is known of the parts of a body where each is written: expressions are typed and their temporaries kept, and objects are new to their scope (ISO C99, 6.2.4 and 6.8).
 use Rattle.std.specs.Prelude.{◌≡◌, ◌⊎◌, ℕ, true, ◌||◌, ◌+◌, false, List, [], ◌∷◌, ◌++◌, map, Option, Some, None, IfSome}
 use Rattle.cx_core.specs.Trees.{CTy, CExpr, type_of, CPut, put, CPuts, no_puts, more_puts, CObject, CStmt, stmt, CStmtForm, label, case, default, block, expression, if_then, switch, while, do_while, for_loop, goto, continue, break, returns, begin, COtherwise, no_else, else_do, CStmts, no_stmts, more_stmts}
 use Rattle.std.specs.List.{Contains}
@@ -13,34 +12,29 @@ use Rattle.cx_mean.specs.Settings.{extent_in}
 use Rattle.cx_mean.specs.Operands.{Slot}
 use Rattle.cx_mean.specs.State.{bottom_of}
 use Rattle.build_flow_lives.specs.Standing.{Calling, Standing, stage_of}
-use Rattle.build_flow_moves.specs.Parts.{Stage, objects_in, put_written, PutDone, StmtDone, GivenBack}
+use Rattle.build_flow_moves.specs.Parts.{Stage, objects_in, put_written, StmtDone, GivenBack}
 use Rattle.build_flow_nodes.specs.Parts.{at_end_of, leaves_bits, count_in_test, count_in_option, count_in_condition, count_in_stmt, count_in_stmts}
 use Rattle.lift_calls.specs.Calls.{result_laid}
 use Rattle.lift_calls.specs.Programs.{setting_in}
 use Rattle.lift_does.specs.Agree.{AreKeptFrom}
+use Rattle.lift_does.specs.Calls.{CallsMean}
 use Rattle.lift_exprs.specs.Lifted.{lifted}
 use Rattle.lift_exprs.specs.Names.{type_in}
-use Rattle.lift_held.specs.Held.{is_void, is_record, operand, full}
+use Rattle.lift_held.specs.Held.{is_void, is_record, operand, value_for, full}
 use Rattle.lift_held.specs.declared.asked.Asked.{Asked}
 use Rattle.lift_stands.specs.Worlds.{WorldsStand}
-use Rattle.rs_mean.specs.Scalars.{is_scalar, same_type}
+use Rattle.rs_mean.specs.Scalars.{is_scalar}
 use Rattle.rs_mean.specs.Typing.{is_bits}
-use Rattle.rs_text.specs.Tree.{Ty}
 use Rattle.build_flow_parts.specs.Means.{home_in, PartsMean, ObjectMeans, ZeroMeans, NotAmong}
-
--- no value is that of a bit-field
-abbrev pub ArePlain : Option CPuts → Type 0
-ArePlain None = Unit {0}
-ArePlain (Some no_puts) = Unit {0}
-ArePlain (Some (more_puts (put spot type value) others)) = (spot.width ≡ 0) × ArePlain (Some others)
 
 module _ (a : Calling) (units steps : ℕ) where
   abbrev stage : Stage
   stage = stage_of a units steps
 
-  -- an expression is typed where these objects are in scope, beside the parameters, and its temporaries are kept
+  -- an expression is typed where these objects are in scope, beside the parameters, its calls can be written, and its temporaries are kept
   pub record ValueMeans (asked : Asked) (scope : List ℕ) (e : CExpr) (number : ℕ) : Type 0 where
     pub typed : IsTyped (home_in a.s a.one (scope ++ a.one.params)) e
+    pub calls : CallsMean a.s a.of.names e
     pub kept : AreKeptFrom a.of.names a.names number (lifted a.of.names asked e number).temporaries
 
   -- of an operand that is used there is a value
@@ -63,13 +57,12 @@ module _ (a : Calling) (units steps : ℕ) where
       ObjectMeans a.s a.names a.of number × (a.of.names.has_bits ≡ true → ZeroMeans a.s a.names a.of number) × NotAmong number (inner ++ (scope ++ objects_in (a.params ++ a.s.statics)))
       × ObjectsMean (inner ++ number ∷ []) objects scope
 
-  -- a scalar is given back by a function that gives one
+  -- a scalar is given back by a function that gives one of its type
   pub record ScalarGiven (scope : List ℕ) (e : CExpr) (number : ℕ) : Type 0 where
     pub value : ValueMeans operand scope e number
     pub some : is_void (type_of e) ≡ false
     pub plain : is_record (type_of e) ≡ false
-    pub type : Ty
-    pub result_is : a.tree.result ≡ Some type
+    pub result_is : a.tree.result ≡ Some (type_in a.of.names (type_of e))
     pub no_place : result_laid a.s a.one ≡ None
 
   -- a structure or union is given back by a function that gives one of its type
@@ -85,22 +78,17 @@ module _ (a : Calling) (units steps : ℕ) where
   abbrev pub ReturnMeans : List ℕ → CExpr → ℕ → Type 0
   ReturnMeans scope e number = ScalarGiven scope e number ⊎ RecordGiven scope e number
 
-  -- a scalar is stored in an object in scope that is nothing but that
-  pub record ScalarPut (scope : List ℕ) (object : ℕ) (spot : Spot) (type : CTy) (e : CExpr) (number : ℕ) : Type 0 where
-    pub value : ValueMeans operand scope e number
-    pub some : is_void (type_of e) ≡ false
+  -- a value is stored in a part of an object in scope: a scalar, a structure or union, or a bit-field
+  pub record ValuePut (scope : List ℕ) (object : ℕ) (spot : Spot) (type : CTy) (e : CExpr) (number : ℕ) : Type 0 where
+    pub value : ValueMeans (value_for spot) scope e number
     pub one : CObject
     pub object_is : object_with object a.s.program.objects ≡ Some one
     pub among : Contains (scope ++ a.one.params) object
+    pub type_is : a.of.type_of_object object ≡ one.type
     pub is : IsPutOf a.s.program.types one.type spot type (type_of e)
-    pub plain : is_record type ≡ false
-    pub no_bits : spot.width ≡ 0
-    pub begins : spot.byte ≡ 0
-    pub whole : same_type (type_in a.of.names (a.of.type_of_object object)) (type_in a.of.names type) ≡ true
 
-  -- of parts of objects, and of structures and unions, it is asked what is written for the store
   abbrev pub PutMeans : List ℕ → ℕ → CPut → ℕ → Type 0
-  PutMeans scope object (put spot type value) number = ScalarPut scope object spot type value number ⊎ PutDone stage scope object (put spot type value) number
+  PutMeans scope object (put spot type value) number = ValuePut scope object spot type value number
 
   abbrev pub PutsMean : List ℕ → ℕ → CPuts → ℕ → Type 0
   PutsMean scope object no_puts number = Unit {0}
@@ -119,7 +107,6 @@ module _ (a : Calling) (units steps : ℕ) where
     pub no_bits : a.of.names.has_bits ≡ false
     pub leaves : leaves_bits a.of object puts ≡ false
     pub type_is : a.of.type_of_object object ≡ declared.one.type
-    pub plain : ArePlain puts
 
   -- or it becomes zero
   pub record IsZeroed (scope : List ℕ) (object : ℕ) (puts : Option CPuts) : Type 0 where

@@ -12,7 +12,6 @@ use Rattle.lift_forms.specs.Places.{Kept}
 use Rattle.lift_calls.specs.Frames.{KeptTemporary, FunctionNames, NamesApart}
 use Rattle.lift_calls.specs.Programs.{Setting, setting_in}
 use Rattle.lift_does.specs.Agree.{NamesMean}
-use Rattle.lift_does.specs.Does.{LiftingDoes}
 use Rattle.lift_exprs.specs.Names.{type_in}
 use Rattle.rs_mean.specs.Layout.{laid_of}
 use Rattle.rs_mean.specs.Scalars.{is_scalar}
@@ -28,7 +27,6 @@ pub record PartsMean (s : Setting) (names : FunctionNames) (of : BodyNames) (uni
   pub begun : AreBegun s.program [] s.statics
   pub means : (home : CHome) → home.program ≡ s.program → NamesMean s home of.names names
   pub apart : NamesApart names
-  pub does : LiftingDoes
   pub promise : Promise s units steps
 
 -- ---- objects

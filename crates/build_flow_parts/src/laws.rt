@@ -4,7 +4,7 @@ ghost use Rattle.build_flow_parts.specs.Bodies.{EndsAreDone, PartsAreDone};
 ghost use Rattle.build_flow_parts.specs.Tells.{NodesAreTold};
 
 /// Law: what is written for full expressions, conditions, operands of `switch`, returns, the lives of objects and declarations that are reached does what these do, with and without bit-field
-/// members in the program, and so does what is written for initial values of scalar objects, where expressions are lifted as their law says.
+/// members in the program, and so does what is written for initial values, where the module declares the external functions that are called.
 /// Used for the text of a body.
 pub fn parts_done()
     ensures { PartsAreDone }

@@ -1,7 +1,6 @@
 -- Calls of external functions, as nodes of an expression (ISO C99, 6.5.2.2 and 7.1.4; the Rust Reference, "External blocks").
 use Rattle.std.proofs.Common.{◌≡◌, ℕ, pred, Bool, true, false, not, if◌then◌else◌, ◌&&◌, ◌==◌, List, ◌∷◌, Option, Some, None, option_map, Ok, refl, sym, ap, subst, ◌∙◌, ⊎_elim}
-use Rattle.std.specs.List.{Contains}
-use Rattle.std.specs.Prelude.{IfSome, bytes_eq, codes}
+use Rattle.std.specs.Prelude.{bytes_eq, codes}
 use Rattle.cr_base.specs.declared.refusal.Place.{Place}
 use Rattle.cr_base.specs.declared.scalar.Scalar.{Scalar}
 use Rattle.cr_runs.proofs.Rules.{renamed}
@@ -10,23 +9,17 @@ use Rattle.cr_runs.specs.Runs.{Ran, came, tick}
 use Rattle.cr_runs_rules.proofs.Rules.{ticks_by}
 use Rattle.cr_world.specs.Known.{KnownFunction, known_named, allocates, frees}
 use Rattle.cr_world.specs.World.{World, Stop, blocks_of, events_of}
-use Rattle.cx_core.specs.Compatible.{AreCompatible}
-use Rattle.cx_core.specs.Conversions.{scalar_of as c_scalar_of}
 use Rattle.cx_core.specs.Externals.{CKnown, HasSignature, IsOpaque, IsExternalType}
-use Rattle.cx_core.specs.Linked.{IsLinked, IsTypedOuter}
-use Rattle.cx_core.specs.Trees.{CProgram, CTypes, CTy, CTyForm, void, basic, enum_type, pointer, array, record_type, function, form_of_type, unqualified, expr, call, CExprs, no_exprs, more_exprs, CFun, COuter}
-use Rattle.cx_core.specs.Typing.{function_with, outer_with, IsTyped, IsCalleeOf, CCallee as CoreCallee}
-use Rattle.cx_mean.specs.Calls.{CCallee, external, CCalling, callee_of, callee_numbered, called_with, node_calling, type_of_callee, external_call}
+use Rattle.cx_core.specs.Trees.{CProgram, CTypes, CTy, CTyForm, ty, void, basic, enum_type, pointer, array, record_type, function, form_of_type, expr, call, CExprs, no_exprs, more_exprs, COuter}
+use Rattle.cx_core.specs.Typing.{IsTyped}
+use Rattle.cx_mean.specs.Calls.{CCallee, external, CCalling, node_calling, external_call}
 use Rattle.cx_mean.specs.Leftmost.{CRan, c_callee, c_returned}
-use Rattle.cx_mean.specs.Operands.{COperand, united_operands}
+use Rattle.cx_mean.specs.Operands.{COperand}
 use Rattle.cx_mean.specs.Settings.{scalar_in_type}
 use Rattle.cx_mean.specs.State.{values_of_args}
-use Rattle.cx_typed_runs.proofs.Scenes.{all_of}
-use Rattle.cx_typed_work.proofs.AlikeCalls.{call_alike}
-use Rattle.cx_typed_work.proofs.AlikeValues.{alike_kind}
 use Rattle.cx_typed_work.proofs.KnownCalls.{typed_row, known_row, known_as_is}
 use Rattle.cx_typed_work.proofs.KnownEffects.{type_of_known, result_of as result_of_known}
-use Rattle.cx_typed_work.specs.Calls.{IsCalleeIn, IsCalledAs, FitsCallee, IsTypedCall}
+use Rattle.cx_typed_work.specs.Calls.{IsCalledAs, FitsCallee, IsTypedCall}
 use Rattle.lift_calls.specs.Calls.{AreHanded}
 use Rattle.lift_calls.specs.Programs.{setting_in, c_calls}
 use Rattle.lift_does.proofs.Arguments.{EachOwes, ArgsGiven}
@@ -34,26 +27,22 @@ use Rattle.lift_does.proofs.Around.{Around, At}
 use Rattle.lift_does.proofs.CallEnds.{IsPassed, Came, Served}
 use Rattle.lift_does.proofs.CallNodes.{Serves}
 use Rattle.lift_does.proofs.CallRuns.{dropped_runs, stored_runs}
-use Rattle.lift_does.proofs.CalledFunctions.{pointer_is, option_same, void_none, record_same, unqualified_record, unqualified_form, passed_record, some_same}
-use Rattle.lift_does.proofs.NamedCalls.{call_typed, operands_are, Visible, listed_by}
-use Rattle.lift_does.proofs.Nodes.{and_then_is}
+use Rattle.lift_does.proofs.NamedCalls.{operands_are}
+use Rattle.lift_does.proofs.OuterCallees as callees
 use Rattle.lift_does.proofs.OuterArguments.{FrontFits, OuterRan, outer_run}
 use Rattle.lift_does.proofs.OuterEffects.{unset_malloc}
 use Rattle.lift_does.proofs.OuterServes.{kinds_by, table_step}
 use Rattle.lift_does.proofs.OuterCalls.{all_leave}
 use Rattle.lift_does.proofs.OuterOpaque.{HaveKinds}
-use Rattle.lift_does.proofs.OuterTypes.{OuterForm, outer_form, outer_fits}
-use Rattle.lift_does.proofs.OwnCalls.{CallsAs, with_parts}
-use Rattle.lift_does.proofs.PointedServes.{void_back, void_type, kind_in}
+use Rattle.lift_does.proofs.OwnCalls.{CallsAs}
 use Rattle.lift_does.proofs.Runs.{same_events}
-use Rattle.lift_does.specs.Outers.{is_variadic, TakesAll, AsListed, AsBare, OuterItem}
+use Rattle.lift_does.specs.Outers.{TakesAll, AsListed, AsBare, OuterItem}
 use Rattle.lift_exprs.specs.Calls.{Argument, count_of, call_of, called_by_name, called_by_symbol, is_bare, outer_called, outer_arguments, one_item, as_params}
 use Rattle.lift_exprs.specs.Lifted.{lifted_args}
 use Rattle.lift_exprs.specs.Names.{Names, KeptFunction, function_or, type_in, params_of, result_of}
-use Rattle.lift_held.specs.Held.{is_void_form, is_void, is_record}
+use Rattle.lift_held.specs.Held.{is_void, is_record}
 use Rattle.lift_held.specs.declared.asked.Asked.{Asked}
 use Rattle.lift_stands.specs.Stands.{Images}
-use Rattle.rs_items.specs.Types.{rust_type, rust_params, code_type, result_type}
 use Rattle.rs_mean.specs.Calls.{outer_by}
 use Rattle.rs_mean.specs.Lookups.{outer, callee_at}
 use Rattle.rs_mean.specs.Run.{run_callee, call_found, run_exprs}
@@ -61,7 +50,7 @@ use Rattle.rs_mean.specs.Values.{Typed}
 use Rattle.rs_mean.specs.World.{takes_unit, either, fails}
 use Rattle.rs_mean.specs.declared.cause.Cause.{Cause}
 use Rattle.rs_mean.specs.declared.cause.Cause.TheVariants.{WrongCall}
-use Rattle.rs_text.specs.Tree.{Ty, Tys, no_tys, more_tys, tys, no_ty, some_ty, option_ty, Code, Expr, exprs, OuterTree, ModuleTree}
+use Rattle.rs_text.specs.Tree.{Tys, no_tys, more_tys, tys, option_ty, Expr, exprs, OuterTree, ModuleTree}
 
 -- ---- `free`, and what is no `malloc`
 
@@ -90,23 +79,9 @@ not_bare kept variadic no_exprs names_of next takes = by (params_of kept.ty) tak
     by (more_tys param params) they = absurd they
 not_bare kept variadic (more_exprs first others) names_of next takes = refl
 
-same_item : (kept : KeptFunction) (bare : Option KeptFunction) (list : List Argument) → is_bare kept list ≡ false → outer_called kept bare list ≡ kept
+pub same_item : (kept : KeptFunction) (bare : Option KeptFunction) (list : List Argument) → is_bare kept list ≡ false → outer_called kept bare list ≡ kept
 same_item kept None list is = refl
 same_item kept (Some other) list is = ap (λ (b : Bool). if b then other else kept) is
-
--- ---- the type that is visible
-
-abbrev callee_among : Option CFun → Option COuter → Option CoreCallee
-callee_among (Some one) outer_one = Some (record { type = one.type; outer = None })
-callee_among None (Some one) = Some (record { type = one.type; outer = Some one })
-callee_among None None = None
-
-outer_visible : (x : Around) (type : CTy) (args : CExprs) (one : COuter) (found : Option CFun) (outer_one : Option COuter) → found ≡ None → outer_one ≡ Some one → IfSome (callee_among found outer_one) (IsCalleeOf x.home type args) → Visible x type args one.type
-outer_visible x type args one None (Some other) e f is =
-    let same : other ≡ one = cc (f) in
-    subst (λ (o : COuter). Visible x type args o.type) same (record { visible = is.visible; compatible = is.compatible; call = is.call })
-outer_visible x type args one None None e f is = cc (f)
-outer_visible x type args one (Some fun) outer_one e f is = cc (e)
 
 module _ (x : Around) (type : CTy) (at : Place) (number : ℕ) (args : CExprs) (next : ℕ) (typed_node : IsTyped x.home (expr type at (call number args))) (operands : List COperand) (last : Images) (c w : World) (here : At x last c w)
     (given : ArgsGiven x last w args next operands) (calling : CCalling) (calls_it : node_calling (setting_in x.s) type at (call number args) operands ≡ Ok calling) (item : OuterItem x.s x.names number args) where
@@ -120,86 +95,34 @@ module _ (x : Around) (type : CTy) (at : Place) (number : ℕ) (args : CExprs) (
   tree = item.means.tree
 
   calls : CallsAs type operands (external item.one) calling
-  calls =
-      let united = and_then_is (united_operands operands) _ calling calls_it in
-      let found = and_then_is (callee_numbered x.s.program number) _ calling united.2 in
-      let is : callee_of None (Some item.one) ≡ Ok found.0 =
-      ap (λ (f : Option CFun). callee_of f (Some item.one)) (sym item.undefined) ∙ (ap (λ (o : Option COuter). callee_of (function_with number x.s.program.functions) o) (sym item.outer_is) ∙ found.1) in
-      let same : external item.one ≡ found.0 = cc (is) in
-      with_parts type at united.0 operands (external item.one) calling (subst (λ (callee : CCallee). called_with type at united.0 operands callee ≡ Ok calling) (sym same) found.2)
+  calls = callees.calls x type at number args next typed_node operands last c w here given calling calls_it item.one item.undefined item.outer_is
 
   typed_call : IsTypedCall x.home.program calling.called
-  typed_call = (call_typed x type at number args next typed_node operands last c w here given calling calls_it).typed
-
-  abbrev linked : IsLinked x.home.program
-  linked = here.typed.scene.linked
-
-  there : Contains x.home.program.externals item.one
-  there = subst (IsCalleeIn x.home.program) calls.callee_is typed_call.callee_in
-
-  form : OuterForm x.home.program.types (form_of_type item.one.type)
-  form = outer_form x.home.program.types item.one.name (form_of_type item.one.type) (all_of (IsTypedOuter x.home.program.types) x.home.program.externals item.one linked.externals there).external
-
-  type_alike : AreCompatible x.home.program.types type (unqualified form.back)
-  type_alike =
-      subst (λ (t : CTy). AreCompatible x.home.program.types t (unqualified form.back)) calls.type_is
-      (call_alike x.home.program calling.called form.back form.params form.variadic typed_call (ap (λ (it : CCallee). form_of_type (type_of_callee it)) calls.callee_is ∙ form.form_is)).compatible
+  typed_call = callees.typed_call x type at number args next typed_node operands last c w here given calling calls_it item.one item.undefined item.outer_is
 
   pub plain : is_record type ≡ false
-  plain = record_same x.home.program.types type (unqualified form.back) type_alike ∙ (unqualified_record form.back ∙ form.gives.plain)
-
-  back_some : is_void type ≡ false → is_void form.back ≡ false
-  back_some some = ap is_void_form (sym (unqualified_form form.back)) ∙ some_same x.home.program.types type (unqualified form.back) type_alike some
-
-  abbrev Back : Ty
-  Back = rust_type x.names.types form.back
-
-  c_kind : (some : is_void type ≡ false) → c_scalar_of x.home.program.types (form_of_type type) ≡ Some (form.gives.kind (back_some some)).0
-  c_kind some =
-      alike_kind x.home.program.types type (unqualified form.back) type_alike ∙ (ap (c_scalar_of x.home.program.types) (unqualified_form form.back) ∙ (form.gives.kind (back_some some)).1)
+  plain = callees.plain x type at number args next typed_node operands last c w here given calling calls_it item.one item.undefined item.outer_is
 
   kind_there : is_void type ≡ false → (kind : Scalar) × (scalar_in_type (setting_in x.s) type ≡ Some kind)
-  kind_there some = ((form.gives.kind (back_some some)).0, subst (λ (program : CProgram). c_scalar_of program.types (form_of_type type) ≡ Some (form.gives.kind (back_some some)).0) x.means.program (c_kind some))
+  kind_there = callees.kind_there x type at number args next typed_node operands last c w here given calling calls_it item.one item.undefined item.outer_is
 
-  kept_is : item.kept.ty ≡ Code (rust_params x.names.types form.params) (result_type false Back)
-  kept_is =
-      item.ty_is ∙ pointer_is x item.one.type form.back form.params form.variadic form.form_is ∙ ap (λ (b : Bool). code_type b Back (rust_params x.names.types form.params)) (passed_record form.back ∙ form.gives.plain)
-
-  item_result : option_ty tree.result ≡ result_type false Back
-  item_result = sym (ap result_of item.means.ty_is) ∙ item.result_is ∙ ap result_of kept_is
+  item_gives : option_ty tree.result ≡ result_of (type_in x.names (ty (pointer item.one.type) false))
+  item_gives = sym (ap result_of item.means.ty_is) ∙ item.result_is ∙ ap result_of item.ty_is
 
   passes : is_void type ≡ false → is_record type ≡ false → IsPassed tree.result (type_in x.names type)
-  passes some no_record =
-      let kind = form.gives.kind (back_some some) in
-      let own = kind_in x form.back kind.0 kind.1 in
-      record {
-        from = Back;
-        own_is = option_same tree.result (Some Back) (item_result ∙ ap (λ (v : Bool). if v then no_ty else some_ty Back) (void_none Back kind.0 own));
-        kind = kind.0;
-        from_kind = own;
-        kind_is = kind_in x type kind.0 (c_kind some);
-      }
+  passes = callees.passes x type at number args next typed_node operands last c w here given calling calls_it item.one item.undefined item.outer_is tree item_gives
 
   nothing : is_void type ≡ true → tree.result ≡ None
-  nothing is =
-      let void = void_back x type (unqualified form.back) (is_void (unqualified form.back)) type_alike is refl in
-      let own : is_void form.back ≡ true = ap is_void_form (sym (unqualified_form form.back)) ∙ void in
-      option_same tree.result None (item_result ∙ ap (λ (t : Ty). result_type false t) (void_type x form.back own))
+  nothing = callees.nothing x type at number args next typed_node operands last c w here given calling calls_it item.one item.undefined item.outer_is tree item_gives
 
   -- ---- what is passed
-
-  visible : Visible x type args item.one.type
-  visible =
-      outer_visible x type args item.one (function_with number x.home.program.functions) (outer_with number x.home.program.externals)
-      (subst (λ (program : CProgram). function_with number program.functions ≡ None) (sym x.means.program) item.undefined)
-      (subst (λ (program : CProgram). outer_with number program.externals ≡ Some item.one) (sym x.means.program) item.outer_is) typed_node.1.1.1
 
   kept_params : params_of kept.ty ≡ tys tree.params
   kept_params = ap params_of item.means.ty_is
 
   -- the item's parameters, where they are those of the function
-  listed_params : AsListed x.s item.kept item.called tree item.one args → tys tree.params ≡ rust_params x.names.types form.params
-  listed_params way = sym kept_params ∙ ap (λ (k : KeptFunction). params_of k.ty) way.same ∙ ap params_of kept_is
+  listed_params : AsListed x.s item.kept item.called tree item.one args → tys tree.params ≡ params_of (type_in x.names (ty (pointer item.one.type) false))
+  listed_params way = sym kept_params ∙ ap (λ (k : KeptFunction). params_of k.ty) way.same ∙ ap params_of item.ty_is
 
   listed_takes : AsListed x.s item.kept item.called tree item.one args → TakesAll (tys tree.params) tree.variadic args
   listed_takes way = subst (λ (params : Tys). TakesAll params tree.variadic args) (ap (λ (k : KeptFunction). params_of k.ty) (sym way.same) ∙ kept_params) way.takes
@@ -214,12 +137,8 @@ module _ (x : Around) (type : CTy) (at : Place) (number : ℕ) (args : CExprs) (
 
   listed_front : AsListed x.s item.kept item.called tree item.one args → FrontFits x args (tys tree.params)
   listed_front way =
-      let listed = listed_by x type args visible.visible (form_of_type visible.visible) refl visible.call in
-      let variadic : tree.variadic ≡ form.variadic = way.variadic_is ∙ ap is_variadic form.form_is in
-      let params = listed_params way in
-      subst (FrontFits x args) (sym params)
-      (outer_fits x visible.visible item.one.type listed.back form.back listed.params form.params listed.variadic form.variadic args visible.compatible listed.form_is form.form_is listed.typed
-      (subst (λ (v : Bool). TakesAll (rust_params x.names.types form.params) v args) variadic (subst (λ (all : Tys). TakesAll all tree.variadic args) params (listed_takes way))))
+      subst (FrontFits x args) (sym (listed_params way))
+      (callees.front_fits x type at number args next typed_node operands last c w here given calling calls_it item.one item.undefined item.outer_is tree.variadic way.variadic_is (subst (λ (all : Tys). TakesAll all tree.variadic args) (listed_params way) (listed_takes way)))
 
   front : FrontFits x args (tys tree.params)
   front =

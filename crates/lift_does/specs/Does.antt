@@ -11,6 +11,7 @@ use Rattle.lift_calls.specs.Calls.{Promise}
 use Rattle.lift_calls.specs.Frames.{FunctionNames, NamesApart, KeptTemporary, IsLocal}
 use Rattle.lift_calls.specs.Programs.{Setting, setting_in, c_calls}
 use Rattle.lift_does.specs.Agree.{NamesMean, AreKeptFrom}
+use Rattle.lift_does.specs.Calls.{CallsMean}
 use Rattle.lift_does.specs.Gives.{GivesWhere}
 use Rattle.lift_does.specs.Here.{Here}
 use Rattle.lift_does.specs.Later.{IsLater}
@@ -75,9 +76,9 @@ Does s names kept home asked e from units steps =
     Owes events_of events_of (Did s home names kept asked e from images c_frame frame c_world world) units steps
     (c_value (setting_in s) (c_calls s) (c_frame ++ s.statics) e c_world) (run_stmts frame (stmts (lifted names asked e from).body) world)
 
--- every expression, a value or an lvalue
+-- every expression, a value or an lvalue, whose calls can be written
 abbrev pub LiftingDoes : Type 0
 LiftingDoes =
     (s : Setting) (names : Names) (kept : FunctionNames) (home : CHome) (asked : Asked) (e : CExpr) (from units steps : ℕ) →
-    NamesMean s home names kept → NamesApart kept → IsAsked asked e → AreKeptFrom names kept from (lifted names asked e from).temporaries → IsTyped home e ⊎ IsLvalue home e →
+    NamesMean s home names kept → NamesApart kept → IsAsked asked e → AreKeptFrom names kept from (lifted names asked e from).temporaries → IsTyped home e ⊎ IsLvalue home e → CallsMean s names e →
     CallsAreTyped s.program s.statics (c_calls s) → Promise s units steps → Does s names kept home asked e from units steps

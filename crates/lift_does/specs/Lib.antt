@@ -1,5 +1,5 @@
 pub mod Agree
-pub mod Covered
+pub mod Calls
 pub mod Does
 pub mod Gives
 pub mod Here

@@ -1,12 +1,13 @@
 -- What has to be known of the names of lifting where a function is called that no unit defines (ISO C99, 6.5.2.2 and 7.1.4; the Rust Reference, "External blocks").
-use Rattle.std.specs.Prelude.{◌≡◌, ◌⊎◌, ℕ, ◌==◌, Bool, true, false, Some, None}
-use Rattle.cx_core.specs.Trees.{CTyForm, function, ty, pointer, form_of_type, CExprs, no_exprs, more_exprs, COuter}
+use Rattle.std.specs.Prelude.{◌≡◌, ◌⊎◌, ℕ, ◌==◌, Bool, true, false, List, ◌∷◌, Some, None, codes}
+use Rattle.cx_core.specs.Trees.{CTyForm, function, ty, pointer, form_of_type, CExpr, CExprs, no_exprs, more_exprs, COuter}
 use Rattle.cx_core.specs.Typing.{function_with, outer_with}
 use Rattle.lift_calls.specs.Programs.{Setting}
 use Rattle.lift_does.specs.Agree.{OuterMeans}
 use Rattle.lift_exprs.specs.Calls.{count_of, is_malloc}
 use Rattle.lift_exprs.specs.Names.{Names, KeptFunction, type_in, params_of, result_of}
-use Rattle.rs_text.specs.Tree.{Tys, no_tys, more_tys, OuterTree}
+use Rattle.rs_text.specs.Tree.{Ty, Integer, Tys, no_tys, more_tys, tys, OuterTree}
+use Rattle.rs_text.specs.declared.integer.IntegerTy.TheVariants.{U64}
 
 abbrev pub is_variadic : CTyForm → Bool
 is_variadic (function result params variadic) = variadic
@@ -46,5 +47,24 @@ pub record OuterItem (s : Setting) (names : Names) (number : ℕ) (args : CExprs
   pub means : OuterMeans s one.name one.name called
   pub result_is : result_of called.ty ≡ result_of kept.ty
   pub way : AsListed s kept called means.tree one args ⊎ AsBare names number kept called args
-  -- in a program with a bit-field member `malloc` is called as `calloc`, by an item of its own
+  -- in a program with a bit-field member `malloc` isn't called by its own item
   pub as_it_is : is_malloc names one.name ≡ false
+
+-- or, in a program with a bit-field member, it declares `calloc` in place of `malloc`: that gives what `malloc` does, and takes a number of items in front of a size
+pub record ZeroedItem (s : Setting) (names : Names) (number : ℕ) (args : CExprs) : Type 0 where
+  pub one : COuter
+  pub undefined : function_with number s.program.functions ≡ None
+  pub outer_is : outer_with number s.program.externals ≡ Some one
+  pub is : is_malloc names one.name ≡ true
+  pub kept : KeptFunction
+  pub kept_is : names.functions number ≡ Some kept
+  pub means : OuterMeans s one.name (codes "calloc") kept
+  pub result_is : result_of kept.ty ≡ result_of (type_in names (ty (pointer one.type) false))
+  pub params : List Ty
+  pub behind_one : means.tree.params ≡ Integer U64 ∷ params
+  pub params_are : tys params ≡ params_of (type_in names (ty (pointer one.type) false))
+  pub variadic_is : means.tree.variadic ≡ is_variadic (form_of_type one.type)
+  pub takes : TakesAll (tys params) means.tree.variadic args
+  -- the size
+  pub size : CExpr
+  pub args_are : args ≡ more_exprs size no_exprs

@@ -1,4 +1,4 @@
--- The expressions without calls and compound literals: what is written for them does what they do.
+-- What is written for an expression does what it does.
 use Rattle.std.proofs.Common.{◌≡◌, ◌⊎◌, inl, inr, ℕ, ◌+◌, ◌≤◌, Bool, true, false, not, if◌then◌else◌, ◌&&◌, ◌||◌, ◌==◌, List, [], ◌∷◌, ◌++◌, length, Option, Some, None, refl, sym, ap, subst, ◌∙◌, ⊎_elim}
 use Rattle.cr_base.specs.declared.layout.Spot.{Spot}
 use Rattle.cr_base.specs.declared.refusal.Place.{Place}
@@ -27,6 +27,7 @@ use Rattle.lift_does.proofs.BitPlaces.{member_bits_owes}
 use Rattle.lift_does.proofs.Arguments.{EachOwes}
 use Rattle.lift_does.proofs.CallNodes.{held_call, named_owes, defined_serves}
 use Rattle.lift_does.proofs.OuterNodes.{outer_is_served}
+use Rattle.lift_does.proofs.OuterZeroedNodes.{zeroed_is_served}
 use Rattle.lift_does.proofs.PointedNodes.{pointed_owes}
 use Rattle.lift_does.proofs.Choices.{choice_owes, part_is_taken}
 use Rattle.lift_does.proofs.Records.{void_record}
@@ -42,7 +43,15 @@ use Rattle.lift_does.proofs.Numbers.{IsNumbered, turn_numbered, three_numbered, 
 use Rattle.lift_does.proofs.Lvalues.{no_width, form_place, lvalue_kind_is}
 use Rattle.lift_does.proofs.Members.{lvalue_is, member_owes}
 use Rattle.lift_does.proofs.Lvalues.{holder_plain, no_width, form_place, lvalue_kind_is}
+use Rattle.lift_does.proofs.LiteralFills.{EachPutOwes, literal_owes}
+use Rattle.lift_does.proofs.LiteralNodes.{put_is_asked, puts_kept}
 use Rattle.lift_does.proofs.Nodes.{PartOwes}
+use Rattle.cx_typed_work.proofs.Puts.{IsLiteralAlive, literal_lives}
+use Rattle.cr_world.specs.World.{blocks_of}
+use Rattle.cx_core.specs.Trees.{put, CPuts, no_puts, more_puts}
+use Rattle.cx_core.specs.Typing.{ArePuts}
+use Rattle.lift_does.proofs.Around.{scope}
+use Rattle.lift_exprs.specs.Objects.{object_at}
 use Rattle.lift_does.proofs.Operands.{or_false}
 use Rattle.lift_does.proofs.Places.{deref_owes, address_owes}
 use Rattle.lift_does.proofs.RecordAssignments.{target_record, assign_record_owes}
@@ -50,18 +59,17 @@ use Rattle.lift_does.proofs.RecordTypes.{assign_by_no_record, step_no_record}
 use Rattle.lift_does.proofs.Unary.{form_fixed, ExprOwes, FormOwes, unary_owes}
 use Rattle.lift_does.proofs.Used.{scalar_has, unary_has, convert_has, left_has, right_has, lvalue_has, assigned_has, address_kind}
 use Rattle.lift_does.specs.Agree.{AreKeptFrom}
-use Rattle.lift_does.specs.Outers.{OuterItem}
-use Rattle.lift_calls.specs.Programs.{Setting}
-use Rattle.lift_does.specs.Covered.{IsCovered, IsCoveredForm, AreCovered, CoveredDoes}
-use Rattle.lift_does.specs.Does.{IsAsked, is_fixed}
-use Rattle.lift_exprs.specs.Lifted.{lifted, lifted_args, lifted_form, operand_of, joined_to, Deciding, where_true, where_false, decided_written, Choice, chosen_written}
+use Rattle.lift_does.specs.Outers.{OuterItem, ZeroedItem}
+use Rattle.lift_does.specs.Calls.{CalleeMeans, CallsMean, FormCallsMean, ArgumentsMean, PutCallsMean}
+use Rattle.lift_does.specs.Does.{IsAsked, LiftingDoes, is_fixed}
+use Rattle.lift_exprs.specs.Lifted.{lifted, lifted_args, lifted_puts, lifted_form, operand_of, joined_to, Deciding, where_true, where_false, decided_written, Choice, chosen_written}
 use Rattle.lift_exprs.specs.Names.{Names, type_in}
 use Rattle.lift_exprs.specs.Stores.{Target, a_scalar, a_structure, a_field, is_field, target_of, held_store, plain_store, old_value, stored, stored_value, Change, changed, changed_first, stepped, step_by_one, promoted_type, target_type}
 use Rattle.lift_exprs.specs.Written.{Written, Both, both, in_turn, place_of_given, address_of_given, NodeKind, a_value, a_record, lvalue_kind, value_kind, kind_in, held_type, then_held, held_where}
 use Rattle.lift_forms.specs.Given.{Given}
 use Rattle.lift_forms.specs.Given as given_form
 use Rattle.lift_forms.specs.Operators.{Operand}
-use Rattle.lift_held.specs.Held.{is_void, is_record, is_lvalue, acts, is_lvalue_form, operand, operand_before, part_of, whole_of, holds_call, some_holds_call, is_steady}
+use Rattle.lift_held.specs.Held.{is_void, is_record, is_lvalue, acts, is_lvalue_form, operand, operand_before, part_of, whole_of, holds_call, some_holds_call, value_for, is_steady}
 use Rattle.lift_held.specs.declared.asked.Asked.{Asked}
 use Rattle.lift_stands.specs.Stands.{Images}
 use Rattle.rs_mean_frames.proofs.Framed.{all_behave}
@@ -266,29 +274,16 @@ found_some : (found : Option CFun) → IsSome found → (one : CFun) × (found �
 found_some None none = cc (none)
 found_some (Some one) some = (one, refl)
 
--- an lvalue is no call
-covered_form : (home : CHome) (s : Setting) (names_of : Names) (type : CTy) (at : Place) (form : CForm) → IsLvalue home (expr type at form) → IsCovered s names_of (expr type at form) → IsCoveredForm s names_of form
-covered_form home s names_of type at (call callee args) typed is = absurd typed.2
-covered_form home s names_of type at (whole value) typed is = is
-covered_form home s names_of type at null typed is = is
-covered_form home s names_of type at (object number) typed is = is
-covered_form home s names_of type at (code number) typed is = is
-covered_form home s names_of type at (load of) typed is = is
-covered_form home s names_of type at (deref of) typed is = is
-covered_form home s names_of type at (member of spot) typed is = is
-covered_form home s names_of type at (address of) typed is = is
-covered_form home s names_of type at (convert of) typed is = is
-covered_form home s names_of type at (unary op of) typed is = is
-covered_form home s names_of type at (binary op left right) typed is = is
-covered_form home s names_of type at (and left right) typed is = is
-covered_form home s names_of type at (or left right) typed is = is
-covered_form home s names_of type at (cond test first second) typed is = is
-covered_form home s names_of type at (assign target value) typed is = is
-covered_form home s names_of type at (assign_by op computes target value) typed is = is
-covered_form home s names_of type at (step up post on) typed is = is
-covered_form home s names_of type at (comma first second) typed is = is
-covered_form home s names_of type at (call_by callee args) typed is = absurd typed.2
-covered_form home s names_of type at (literal number puts) typed is = is
+-- what isn't a call
+abbrev IsNoCall : CForm → Type 0
+IsNoCall (call callee args) = ⊥
+IsNoCall (call_by callee args) = ⊥
+IsNoCall form = Unit {0}
+
+lvalue_no_call : (home : CHome) (type : CTy) (at : Place) (form : CForm) → IsLvalue home (expr type at form) → IsNoCall form
+lvalue_no_call home type at (call callee args) typed = absurd typed.2
+lvalue_no_call home type at (call_by callee args) typed = absurd typed.2
+lvalue_no_call home type at _ typed = tt
 
 module _ (x : Around) where
   kind_type : (record_type : Bool) (one : Ty) (size : ℕ) → held_type (if record_type then a_record one size else a_value one) ≡ one
@@ -553,7 +548,7 @@ module _ (x : Around) where
   call_kept asked type at callee args from are = calls_kept x.names x.kept asked type (called_by_name x.names callee) (lifted_args x.names args from) from (args_numbered x.names args from) are
 
   named_any : (asked : Asked) (type : CTy) (at : Place) (callee : ℕ) (args : CExprs) (from : ℕ) (images : Images) (c w : World) → At x images c w → IsTyped x.home (expr type at (call callee args)) → IsAsked asked (expr type at (call callee args)) →
-      IsSome (function_with callee x.s.program.functions) ⊎ OuterItem x.s x.names callee args → EachOwes x args from → ((is_record type || asked.used) ≡ true → is_void type ≡ false → kept_as x.names x.kept (lifted_args x.names args from).written.next (type_in x.names type)) →
+      CalleeMeans x.s x.names callee args → EachOwes x args from → ((is_record type || asked.used) ≡ true → is_void type ≡ false → kept_as x.names x.kept (lifted_args x.names args from).written.next (type_in x.names type)) →
       ExprOwes x asked (expr type at (call callee args)) from images c w
   named_any asked type at callee args from images c w here typed asked_is is owes kept_it =
       named_owes x asked type at callee args from images c w here typed owes
@@ -561,40 +556,42 @@ module _ (x : Around) where
       (λ (some : IsSome (function_with callee x.s.program.functions)).
       let found = found_some (function_with callee x.s.program.functions) some in
       defined_serves x asked type at callee args from images c w here typed owes found.0 found.1)
-      (λ (item : OuterItem x.s x.names callee args). outer_is_served x asked type at callee args from images c w here typed owes item) is) asked_is (rises (lifted_args x.names args from).written from (args_numbered x.names args from))
+      (λ (outside : OuterItem x.s x.names callee args ⊎ ZeroedItem x.s x.names callee args).
+      ⊎_elim (λ (item : OuterItem x.s x.names callee args). outer_is_served x asked type at callee args from images c w here typed owes item)
+      (λ (item : ZeroedItem x.s x.names callee args). zeroed_is_served x asked type at callee args from images c w here typed owes item) outside) is) asked_is (rises (lifted_args x.names args from).written from (args_numbered x.names args from))
       (λ held. kept_it held (call_has asked type at (call callee args) asked_is held))
 
   mutual
-    base_does : (asked : Asked) (e : CExpr) (from : ℕ) → IsAsked asked e → AreKeptFrom x.names x.kept from (lifted x.names asked e from).temporaries → IsLvalue x.home e → IsCovered x.s x.names e → asked.is_base ≡ true → (images : Images) (c w : World) → At x images c w →
+    base_does : (asked : Asked) (e : CExpr) (from : ℕ) → IsAsked asked e → AreKeptFrom x.names x.kept from (lifted x.names asked e from).temporaries → IsLvalue x.home e → CallsMean x.s x.names e → asked.is_base ≡ true → (images : Images) (c w : World) → At x images c w →
         is_bit_field e ≡ false → PartOwes x asked.used true e (lifted x.names asked e from) from images c w
     base_does asked (expr type at form) from asked_is are typed is base images c w here plainly =
-        base_owes asked type at form from asked_is are typed base images c w here plainly (λ own. form_does asked type at form from asked_is own (inr typed) (covered_form x.home x.s x.names type at form typed is))
+        base_owes asked type at form from asked_is are typed base images c w here plainly (λ own. form_does asked type at form from asked_is own (inr typed) is (lvalue_no_call x.home type at form typed))
 
-    target_does : (asked : Asked) (e : CExpr) (from : ℕ) → IsAsked asked e → AreKeptFrom x.names x.kept from (lifted x.names asked e from).temporaries → IsLvalue x.home e → IsCovered x.s x.names e → is_bit_field e ≡ true → FixedAnywhere asked e from
+    target_does : (asked : Asked) (e : CExpr) (from : ℕ) → IsAsked asked e → AreKeptFrom x.names x.kept from (lifted x.names asked e from).temporaries → IsLvalue x.home e → CallsMean x.s x.names e → is_bit_field e ≡ true → FixedAnywhere asked e from
     target_does asked (expr type at (member of spot)) from asked_is are typed is bits = λ images c w here.
         target_owes asked type at of spot from asked_is are typed bits images c w here (λ own.
         base_does (whole_of spot) of from (used_base (whole_of spot) of refl (lvalue_has x of typed.2.0)) own typed.2.0 is bits images c w here (holder_plain x.home type of spot here.typed.scene.linked.types typed.2.0 typed.2.1))
     target_does asked (expr type at other) from asked_is are typed is bits = absurd (no_truth bits)
 
-    expr_does : (asked : Asked) (e : CExpr) (from : ℕ) → IsAsked asked e → AreKeptFrom x.names x.kept from (lifted x.names asked e from).temporaries → IsTyped x.home e ⊎ IsLvalue x.home e → IsCovered x.s x.names e → OwesAnywhere asked e from
-    expr_does asked (expr type at (whole value)) from asked_is are typed is = node_owes asked type at (whole value) from asked_is are typed (λ own. form_does asked type at (whole value) from asked_is own typed is)
-    expr_does asked (expr type at null) from asked_is are typed is = node_owes asked type at null from asked_is are typed (λ own. form_does asked type at null from asked_is own typed is)
-    expr_does asked (expr type at (object number)) from asked_is are typed is = node_owes asked type at (object number) from asked_is are typed (λ own. form_does asked type at (object number) from asked_is own typed is)
-    expr_does asked (expr type at (code number)) from asked_is are typed is = node_owes asked type at (code number) from asked_is are typed (λ own. form_does asked type at (code number) from asked_is own typed is)
-    expr_does asked (expr type at (load of)) from asked_is are typed is = node_owes asked type at (load of) from asked_is are typed (λ own. form_does asked type at (load of) from asked_is own typed is)
-    expr_does asked (expr type at (deref of)) from asked_is are typed is = node_owes asked type at (deref of) from asked_is are typed (λ own. form_does asked type at (deref of) from asked_is own typed is)
-    expr_does asked (expr type at (member of spot)) from asked_is are typed is = node_owes asked type at (member of spot) from asked_is are typed (λ own. form_does asked type at (member of spot) from asked_is own typed is)
-    expr_does asked (expr type at (address of)) from asked_is are typed is = node_owes asked type at (address of) from asked_is are typed (λ own. form_does asked type at (address of) from asked_is own typed is)
-    expr_does asked (expr type at (convert of)) from asked_is are typed is = node_owes asked type at (convert of) from asked_is are typed (λ own. form_does asked type at (convert of) from asked_is own typed is)
-    expr_does asked (expr type at (unary op of)) from asked_is are typed is = node_owes asked type at (unary op of) from asked_is are typed (λ own. form_does asked type at (unary op of) from asked_is own typed is)
-    expr_does asked (expr type at (binary op left right)) from asked_is are typed is = node_owes asked type at (binary op left right) from asked_is are typed (λ own. form_does asked type at (binary op left right) from asked_is own typed is)
-    expr_does asked (expr type at (and left right)) from asked_is are typed is = node_owes asked type at (and left right) from asked_is are typed (λ own. form_does asked type at (and left right) from asked_is own typed is)
-    expr_does asked (expr type at (or left right)) from asked_is are typed is = node_owes asked type at (or left right) from asked_is are typed (λ own. form_does asked type at (or left right) from asked_is own typed is)
-    expr_does asked (expr type at (cond test first second)) from asked_is are typed is = node_owes asked type at (cond test first second) from asked_is are typed (λ own. form_does asked type at (cond test first second) from asked_is own typed is)
-    expr_does asked (expr type at (assign target value)) from asked_is are typed is = node_owes asked type at (assign target value) from asked_is are typed (λ own. form_does asked type at (assign target value) from asked_is own typed is)
-    expr_does asked (expr type at (assign_by op computes target value)) from asked_is are typed is = node_owes asked type at (assign_by op computes target value) from asked_is are typed (λ own. form_does asked type at (assign_by op computes target value) from asked_is own typed is)
-    expr_does asked (expr type at (step up post on)) from asked_is are typed is = node_owes asked type at (step up post on) from asked_is are typed (λ own. form_does asked type at (step up post on) from asked_is own typed is)
-    expr_does asked (expr type at (comma first second)) from asked_is are typed is = node_owes asked type at (comma first second) from asked_is are typed (λ own. form_does asked type at (comma first second) from asked_is own typed is)
+    expr_does : (asked : Asked) (e : CExpr) (from : ℕ) → IsAsked asked e → AreKeptFrom x.names x.kept from (lifted x.names asked e from).temporaries → IsTyped x.home e ⊎ IsLvalue x.home e → CallsMean x.s x.names e → OwesAnywhere asked e from
+    expr_does asked (expr type at (whole value)) from asked_is are typed is = node_owes asked type at (whole value) from asked_is are typed (λ own. form_does asked type at (whole value) from asked_is own typed is tt)
+    expr_does asked (expr type at null) from asked_is are typed is = node_owes asked type at null from asked_is are typed (λ own. form_does asked type at null from asked_is own typed is tt)
+    expr_does asked (expr type at (object number)) from asked_is are typed is = node_owes asked type at (object number) from asked_is are typed (λ own. form_does asked type at (object number) from asked_is own typed is tt)
+    expr_does asked (expr type at (code number)) from asked_is are typed is = node_owes asked type at (code number) from asked_is are typed (λ own. form_does asked type at (code number) from asked_is own typed is tt)
+    expr_does asked (expr type at (load of)) from asked_is are typed is = node_owes asked type at (load of) from asked_is are typed (λ own. form_does asked type at (load of) from asked_is own typed is tt)
+    expr_does asked (expr type at (deref of)) from asked_is are typed is = node_owes asked type at (deref of) from asked_is are typed (λ own. form_does asked type at (deref of) from asked_is own typed is tt)
+    expr_does asked (expr type at (member of spot)) from asked_is are typed is = node_owes asked type at (member of spot) from asked_is are typed (λ own. form_does asked type at (member of spot) from asked_is own typed is tt)
+    expr_does asked (expr type at (address of)) from asked_is are typed is = node_owes asked type at (address of) from asked_is are typed (λ own. form_does asked type at (address of) from asked_is own typed is tt)
+    expr_does asked (expr type at (convert of)) from asked_is are typed is = node_owes asked type at (convert of) from asked_is are typed (λ own. form_does asked type at (convert of) from asked_is own typed is tt)
+    expr_does asked (expr type at (unary op of)) from asked_is are typed is = node_owes asked type at (unary op of) from asked_is are typed (λ own. form_does asked type at (unary op of) from asked_is own typed is tt)
+    expr_does asked (expr type at (binary op left right)) from asked_is are typed is = node_owes asked type at (binary op left right) from asked_is are typed (λ own. form_does asked type at (binary op left right) from asked_is own typed is tt)
+    expr_does asked (expr type at (and left right)) from asked_is are typed is = node_owes asked type at (and left right) from asked_is are typed (λ own. form_does asked type at (and left right) from asked_is own typed is tt)
+    expr_does asked (expr type at (or left right)) from asked_is are typed is = node_owes asked type at (or left right) from asked_is are typed (λ own. form_does asked type at (or left right) from asked_is own typed is tt)
+    expr_does asked (expr type at (cond test first second)) from asked_is are typed is = node_owes asked type at (cond test first second) from asked_is are typed (λ own. form_does asked type at (cond test first second) from asked_is own typed is tt)
+    expr_does asked (expr type at (assign target value)) from asked_is are typed is = node_owes asked type at (assign target value) from asked_is are typed (λ own. form_does asked type at (assign target value) from asked_is own typed is tt)
+    expr_does asked (expr type at (assign_by op computes target value)) from asked_is are typed is = node_owes asked type at (assign_by op computes target value) from asked_is are typed (λ own. form_does asked type at (assign_by op computes target value) from asked_is own typed is tt)
+    expr_does asked (expr type at (step up post on)) from asked_is are typed is = node_owes asked type at (step up post on) from asked_is are typed (λ own. form_does asked type at (step up post on) from asked_is own typed is tt)
+    expr_does asked (expr type at (comma first second)) from asked_is are typed is = node_owes asked type at (comma first second) from asked_is are typed (λ own. form_does asked type at (comma first second) from asked_is own typed is tt)
     expr_does asked (expr type at (call callee args)) from asked_is are (inl typed) is = λ images c w here.
         let kept_all = call_kept asked type at callee args from are in
         named_any asked type at callee args from images c w here typed asked_is is.0 (args_do args from kept_all.0 typed.1.0 is.1) kept_all.1
@@ -613,10 +610,10 @@ module _ (x : Around) where
         (args_do args pointer.next (second_kept x.names x.kept two given_form.nothing from first_count kept_all.0) typed.1.1 is.1) asked_is
         (λ held. kept_all.1 held (call_has asked type at (call_by callee args) asked_is held))
     expr_does asked (expr type at (call_by callee args)) from asked_is are (inr typed) is = absurd typed.2
-    expr_does asked (expr type at (literal number puts)) from asked_is are typed is = absurd is
+    expr_does asked (expr type at (literal number puts)) from asked_is are typed is = node_owes asked type at (literal number puts) from asked_is are typed (λ own. form_does asked type at (literal number puts) from asked_is own typed is tt)
 
     -- arguments, from the left
-    args_do : (args : CExprs) (next : ℕ) → AreKeptFrom x.names x.kept next (lifted_args x.names args next).written.temporaries → AreTyped x.home args → AreCovered x.s x.names args → EachOwes x args next
+    args_do : (args : CExprs) (next : ℕ) → AreKeptFrom x.names x.kept next (lifted_args x.names args next).written.temporaries → AreTyped x.home args → ArgumentsMean x.s x.names args → EachOwes x args next
     args_do no_exprs next are typed is = tt
     args_do (more_exprs first others) next are typed is =
         let asked = operand_before (some_holds_call others) in
@@ -627,30 +624,30 @@ module _ (x : Around) where
         )
 
     form_does : (asked : Asked) (type : CTy) (at : Place) (form : CForm) (from : ℕ) → IsAsked asked (expr type at form) → AreKeptFrom x.names x.kept from (lifted_form x.names asked type form from).temporaries →
-        IsTyped x.home (expr type at form) ⊎ IsLvalue x.home (expr type at form) → IsCoveredForm x.s x.names form → FormAnywhere asked type at form from
-    form_does asked type at (whole value) from asked_is are (inl typed) is = λ images c w here. whole_owes x asked type at value from images c w here typed
-    form_does asked type at null from asked_is are (inl typed) is = λ images c w here. null_owes x asked type at from images c w here typed
-    form_does asked type at (code number) from asked_is are (inl typed) is = λ images c w here. code_owes x asked type at number from images c w here typed
-    form_does asked type at (object number) from asked_is are (inr typed) is = λ images c w here. object_owes x asked type at number from images c w here typed
-    form_does asked (ty form is_const) at (load of) from asked_is are (inl typed) is = λ images c w here.
+        IsTyped x.home (expr type at form) ⊎ IsLvalue x.home (expr type at form) → FormCallsMean x.s x.names form → IsNoCall form → FormAnywhere asked type at form from
+    form_does asked type at (whole value) from asked_is are (inl typed) is alone = λ images c w here. whole_owes x asked type at value from images c w here typed
+    form_does asked type at null from asked_is are (inl typed) is alone = λ images c w here. null_owes x asked type at from images c w here typed
+    form_does asked type at (code number) from asked_is are (inl typed) is alone = λ images c w here. code_owes x asked type at number from images c w here typed
+    form_does asked type at (object number) from asked_is are (inr typed) is alone = λ images c w here. object_owes x asked type at number from images c w here typed
+    form_does asked (ty form is_const) at (load of) from asked_is are (inl typed) is alone = λ images c w here.
         load_any asked form is_const at of from images c w here typed (rises (lifted x.names operand of from) from (numbered x.names operand of from))
         (expr_does operand of from (used_part operand of refl (lvalue_has x of typed.1.0)) are (inr typed.1.0) is images c w here)
-    form_does asked type at (deref of) from asked_is are (inr typed) is = λ images c w here.
+    form_does asked type at (deref of) from asked_is are (inr typed) is alone = λ images c w here.
         deref_owes x asked type at of from images c w here typed (rises (lifted x.names operand of from) from (numbered x.names operand of from))
         (expr_does operand of from (used_part operand of refl (ap is_void typed.2.1.pointer_is)) are (inl typed.2.0) is images c w here)
-    form_does asked type at (member of spot) from asked_is are (inr typed) is = λ images c w here.
+    form_does asked type at (member of spot) from asked_is are (inr typed) is alone = λ images c w here.
         member_any asked type at of spot from images c w here typed (rises (lifted x.names (whole_of spot) of from) from (numbered x.names (whole_of spot) of from))
         (expr_does (whole_of spot) of from (used_base (whole_of spot) of refl (lvalue_has x of typed.2.0)) are (inr typed.2.0) is images c w here)
-    form_does asked type at (address of) from asked_is are (inl typed) is = λ images c w here.
+    form_does asked type at (address of) from asked_is are (inl typed) is alone = λ images c w here.
         address_owes x asked type at of from images c w here typed (address_kind x type of typed.1.0 typed.1.1) (rises (lifted x.names operand of from) from (numbered x.names operand of from))
         (expr_does operand of from (used_part operand of refl (lvalue_has x of typed.1.0)) are (inr typed.1.0) is images c w here)
-    form_does asked (ty form is_const) at (convert of) from asked_is are (inl typed) is = λ images c w here.
+    form_does asked (ty form is_const) at (convert of) from asked_is are (inl typed) is alone = λ images c w here.
         convert_owes x asked form is_const at of from images c w here typed asked_is (rises (lifted x.names (part_of (not (is_void (ty form is_const)))) of from) from (numbered x.names (part_of (not (is_void (ty form is_const)))) of from))
         (expr_does (part_of (not (is_void (ty form is_const)))) of from (record { used = convert_has x.home.program.types (type_of of) (ty form is_const) typed.1.1; base = λ same. cc (same) }) are (inl typed.1.0) is images c w here)
-    form_does asked type at (unary op of) from asked_is are (inl typed) is = λ images c w here.
+    form_does asked type at (unary op of) from asked_is are (inl typed) is alone = λ images c w here.
         unary_owes x asked type at op of from images c w here typed (rises (lifted x.names operand of from) from (numbered x.names operand of from))
         (expr_does operand of from (used_part operand of refl (unary_has x.home.program.types op type (type_of of) typed.1.1)) are (inl typed.1.0) is images c w here)
-    form_does asked type at (binary op left right) from asked_is are (inl typed) is = λ images c w here.
+    form_does asked type at (binary op left right) from asked_is are (inl typed) is alone = λ images c w here.
         binary_owes x asked type at op left right from images c w here typed (binary_there x images c w here op type (type_of left) (type_of right) typed.1.2)
         (rises (pair_for x.names left right from).first from (numbered x.names (operand_before (holds_call right)) left from))
         (rises (pair_for x.names left right from).second (pair_for x.names left right from).first.next (numbered x.names operand right (pair_for x.names left right from).first.next))
@@ -658,23 +655,23 @@ module _ (x : Around) where
         (kept_front x.names x.kept from (pair_for x.names left right from).first.temporaries (pair_for x.names left right from).second.temporaries are) (inl typed.1.0) is.0 images c w here)
         (λ later c1 w1 there. expr_does operand right (pair_for x.names left right from).first.next (used_part operand right refl (right_has x op type (type_of left) (type_of right) (binary_there x images c w here op type (type_of left) (type_of right) typed.1.2)))
         (second_kept x.names x.kept (pair_for x.names left right from) given_form.nothing from (numbered x.names (operand_before (holds_call right)) left from) are) (inl typed.1.1) is.1 later c1 w1 there)
-    form_does asked (ty form is_const) at (assign target value) from asked_is are (inl typed) is = λ images c w here.
+    form_does asked (ty form is_const) at (assign target value) from asked_is are (inl typed) is alone = λ images c w here.
         assign_any asked form is_const at target value from images c w here typed are
         (λ kept_it. expr_does (operand_before (holds_call value)) target from (used_part (operand_before (holds_call value)) target refl (lvalue_has x target typed.1.0)) kept_it (inr typed.1.0) is.0 images c w here)
         (λ bits kept_it. target_does (operand_before (holds_call value)) target from (used_part (operand_before (holds_call value)) target refl (lvalue_has x target typed.1.0)) kept_it typed.1.0 is.0 bits images c w here)
         (λ kept_it later c1 w1 there. expr_does operand value (pair_for x.names target value from).first.next (used_part operand value refl (assigned_has x (ty form is_const) target value typed.1.0 typed.1.2)) kept_it (inl typed.1.1) is.1 later c1 w1 there)
-    form_does asked (ty form is_const) at (assign_by op computes target value) from asked_is are (inl typed) is = λ images c w here.
+    form_does asked (ty form is_const) at (assign_by op computes target value) from asked_is are (inl typed) is alone = λ images c w here.
         assign_by_any asked form is_const at op computes target value from images c w here typed are
         (λ kept_it. expr_does (operand_before (holds_call value)) target from (used_part (operand_before (holds_call value)) target refl (lvalue_has x target typed.1.0)) kept_it (inr typed.1.0) is.0 images c w here)
         (λ bits kept_it. target_does (operand_before (holds_call value)) target from (used_part (operand_before (holds_call value)) target refl (lvalue_has x target typed.1.0)) kept_it typed.1.0 is.0 bits images c w here)
         (λ kept_it later c1 w1 there. expr_does operand value (pair_for x.names target value from).first.next
         (used_part operand value refl (right_has x op computes computes (type_of value) (binary_there x images c w here op computes computes (type_of value)
         (assigned_binary x.home.program.types op computes (promoted x.home.program.types (type_of target) (width_of target)) (type_of value) typed.1.2.computed)))) kept_it (inl typed.1.1) is.1 later c1 w1 there)
-    form_does asked (ty form is_const) at (step up post on) from asked_is are (inl typed) is = λ images c w here.
+    form_does asked (ty form is_const) at (step up post on) from asked_is are (inl typed) is alone = λ images c w here.
         step_any asked form is_const at up post on from images c w here typed are
         (λ kept_it. expr_does operand on from (used_part operand on refl (lvalue_has x on typed.1.0)) kept_it (inr typed.1.0) is images c w here)
         (λ bits kept_it. target_does operand on from (used_part operand on refl (lvalue_has x on typed.1.0)) kept_it typed.1.0 is bits images c w here)
-    form_does asked type at (comma first second) from asked_is are (inl typed) is = λ images c w here.
+    form_does asked type at (comma first second) from asked_is are (inl typed) is alone = λ images c w here.
         let two = both (λ number. lifted x.names (part_of false) first number) (λ number. lifted x.names (part_of asked.used) second number) from in
         let first_count = numbered x.names (part_of false) first from in
         comma_owes x asked type at first second from images c w here typed (rises two.first from first_count) (rises two.second two.first.next (numbered x.names (part_of asked.used) second two.first.next))
@@ -682,24 +679,24 @@ module _ (x : Around) where
         (λ later c1 w1 there. expr_does (part_of asked.used) second two.first.next
         (record { used = λ same. subst (λ (t : CTy). is_void t ≡ false) typed.1.2 (asked_is.used same); base = λ same. cc (same) })
         (second_kept x.names x.kept two given_form.nothing from first_count are) (inl typed.1.1) is.1 later c1 w1 there)
-    form_does asked type at (whole value) from asked_is are (inr typed) is = absurd typed.2
-    form_does asked type at null from asked_is are (inr typed) is = absurd typed.2
-    form_does asked type at (code number) from asked_is are (inr typed) is = absurd typed.2
-    form_does asked type at (load of) from asked_is are (inr typed) is = absurd typed.2
-    form_does asked type at (address of) from asked_is are (inr typed) is = absurd typed.2
-    form_does asked type at (convert of) from asked_is are (inr typed) is = absurd typed.2
-    form_does asked type at (unary op of) from asked_is are (inr typed) is = absurd typed.2
-    form_does asked type at (binary op left right) from asked_is are (inr typed) is = absurd typed.2
-    form_does asked type at (assign target value) from asked_is are (inr typed) is = absurd typed.2
-    form_does asked type at (assign_by op computes target value) from asked_is are (inr typed) is = absurd typed.2
-    form_does asked type at (step up post on) from asked_is are (inr typed) is = absurd typed.2
-    form_does asked type at (comma first second) from asked_is are (inr typed) is = absurd typed.2
-    form_does asked type at (object number) from asked_is are (inl typed) is = absurd typed.1
-    form_does asked type at (deref of) from asked_is are (inl typed) is = absurd typed.1
-    form_does asked (ty form is_const) at (member of spot) from asked_is are (inl typed) is = λ images c w here.
+    form_does asked type at (whole value) from asked_is are (inr typed) is alone = absurd typed.2
+    form_does asked type at null from asked_is are (inr typed) is alone = absurd typed.2
+    form_does asked type at (code number) from asked_is are (inr typed) is alone = absurd typed.2
+    form_does asked type at (load of) from asked_is are (inr typed) is alone = absurd typed.2
+    form_does asked type at (address of) from asked_is are (inr typed) is alone = absurd typed.2
+    form_does asked type at (convert of) from asked_is are (inr typed) is alone = absurd typed.2
+    form_does asked type at (unary op of) from asked_is are (inr typed) is alone = absurd typed.2
+    form_does asked type at (binary op left right) from asked_is are (inr typed) is alone = absurd typed.2
+    form_does asked type at (assign target value) from asked_is are (inr typed) is alone = absurd typed.2
+    form_does asked type at (assign_by op computes target value) from asked_is are (inr typed) is alone = absurd typed.2
+    form_does asked type at (step up post on) from asked_is are (inr typed) is alone = absurd typed.2
+    form_does asked type at (comma first second) from asked_is are (inr typed) is alone = absurd typed.2
+    form_does asked type at (object number) from asked_is are (inl typed) is alone = absurd typed.1
+    form_does asked type at (deref of) from asked_is are (inl typed) is alone = absurd typed.1
+    form_does asked (ty form is_const) at (member of spot) from asked_is are (inl typed) is alone = λ images c w here.
         value_member_owes x asked form is_const at of spot from images c w here typed (typed_no_lvalue x.home of typed.1.0) (rises (lifted x.names (whole_of spot) of from) from (numbered x.names (whole_of spot) of from))
         (expr_does (whole_of spot) of from (used_base (whole_of spot) of refl (holder_has x.home.program.types (type_of of) typed.1.1.member.index typed.1.1.member.one typed.1.1.member.member_is)) are (inl typed.1.0) is images c w here)
-    form_does asked type at (and left right) from asked_is are (inl typed) is = λ images c w here.
+    form_does asked type at (and left right) from asked_is are (inl typed) is alone = λ images c w here.
         let two = operands_of x.names left right from in
         let first_count = numbered x.names operand left from in
         let second_count = numbered x.names operand right two.first.next in
@@ -708,8 +705,8 @@ module _ (x : Around) where
         (expr_does operand left from (used_part operand left refl (scalar_has x.home.program.types (type_of left) typed.1.2.left_scalar)) (kept_front x.names x.kept from two.first.temporaries two.second.temporaries kept_two.0) (inl typed.1.0) is.0 images c w here)
         (λ later c1 w1 there. expr_does operand right two.first.next (used_part operand right refl (scalar_has x.home.program.types (type_of right) typed.1.2.right_scalar))
         (second_kept x.names x.kept two given_form.nothing from first_count kept_two.0) (inl typed.1.1) is.1 later c1 w1 there)
-    form_does asked type at (and left right) from asked_is are (inr typed) is = absurd typed.2
-    form_does asked type at (or left right) from asked_is are (inl typed) is = λ images c w here.
+    form_does asked type at (and left right) from asked_is are (inr typed) is alone = absurd typed.2
+    form_does asked type at (or left right) from asked_is are (inl typed) is alone = λ images c w here.
         let two = operands_of x.names left right from in
         let first_count = numbered x.names operand left from in
         let second_count = numbered x.names operand right two.first.next in
@@ -718,8 +715,8 @@ module _ (x : Around) where
         (expr_does operand left from (used_part operand left refl (scalar_has x.home.program.types (type_of left) typed.1.2.left_scalar)) (kept_front x.names x.kept from two.first.temporaries two.second.temporaries kept_two.0) (inl typed.1.0) is.0 images c w here)
         (λ later c1 w1 there. expr_does operand right two.first.next (used_part operand right refl (scalar_has x.home.program.types (type_of right) typed.1.2.right_scalar))
         (second_kept x.names x.kept two given_form.nothing from first_count kept_two.0) (inl typed.1.1) is.1 later c1 w1 there)
-    form_does asked type at (or left right) from asked_is are (inr typed) is = absurd typed.2
-    form_does asked type at (cond test first second) from asked_is are (inl typed) is = λ images c w here.
+    form_does asked type at (or left right) from asked_is are (inr typed) is alone = absurd typed.2
+    form_does asked type at (cond test first second) from asked_is are (inl typed) is alone = λ images c w here.
         let three = parts_of x.names asked.used test first second from in
         let acting = (asked.used && is_record type) || (acts asked.used first || acts asked.used second) in
         let first_count = numbered x.names operand test from in
@@ -737,13 +734,26 @@ module _ (x : Around) where
         (record { used = λ same. subst (λ (t : CTy). is_void t ≡ false) (sym typed.1.3.first_is) (asked_is.used same); base = λ same. cc (same) }) kept_three.1 (inl typed.1.1) is.1 later c1 w1 there)
         (λ later c1 w1 there. expr_does (part_of asked.used) second three.first.next
         (record { used = λ same. subst (λ (t : CTy). is_void t ≡ false) (sym typed.1.3.second_is) (asked_is.used same); base = λ same. cc (same) }) kept_three.2 (inl typed.1.2) is.2 later c1 w1 there)
-    form_does asked type at (cond test first second) from asked_is are (inr typed) is = absurd typed.2
-    form_does asked type at (call callee args) from asked_is are typed is = absurd is
-    form_does asked type at (call_by callee args) from asked_is are typed is = absurd is
-    form_does asked type at (literal number puts) from asked_is are typed is = absurd is
+    form_does asked type at (cond test first second) from asked_is are (inr typed) is alone = absurd typed.2
+    form_does asked type at (call callee args) from asked_is are typed is alone = absurd alone
+    form_does asked type at (call_by callee args) from asked_is are typed is alone = absurd alone
+    form_does asked type at (literal number puts) from asked_is are (inr typed) is alone = λ images c w here.
+        literal_owes x asked type at number puts from images c w here typed
+        (puts_do type number (λ later c1 w1 there. literal_lives x.home (scope x) (blocks_of c1) type at number puts there.typed.scene typed) puts from are typed.2.1 is)
+    form_does asked type at (literal number puts) from asked_is are (inl typed) is alone = absurd typed.1
 
-pub covered_does : CoveredDoes
-covered_does s names_of kept home asked e from units steps means apart asked_is are typed is calls promise images c_frame frame c_world world here =
+    -- the values of a compound literal, from the left
+    puts_do : (type : CTy) (number : ℕ) → ((images : Images) (c w : World) → At x images c w → IsLiteralAlive x.home (scope x) (blocks_of c) type number) → (puts : CPuts) (from : ℕ) →
+        AreKeptFrom x.names x.kept from (lifted_puts x.names type (object_at x.names type number) puts from).temporaries → ArePuts x.home type puts → PutCallsMean x.s x.names puts → EachPutOwes x puts from
+    puts_do type number lives no_puts from are typed is = tt
+    puts_do type number lives (more_puts (put spot part value) others) from are typed is =
+        let own = puts_kept x.names x.kept type (object_at x.names type number) spot part value others from are in (
+          λ images c w here. expr_does (value_for spot) value from (put_is_asked x images c w type number spot part value here (lives images c w here) typed.0.1) own.0 (inl typed.0.0) is.0 images c w here,
+          puts_do type number lives others (lifted x.names (value_for spot) value from).next own.1 typed.1 is.1,
+        )
+
+pub lifting_does : LiftingDoes
+lifting_does s names_of kept home asked e from units steps means apart asked_is are typed is calls promise images c_frame frame c_world world here =
     expr_does (record {
       s = s;
       names = names_of;
