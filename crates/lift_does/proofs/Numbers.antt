@@ -13,7 +13,7 @@ use Rattle.lift_exprs.specs.Written.{Written, Both, both, both_behind, in_turn, 
 use Rattle.lift_forms.specs.Given.{Given}
 use Rattle.lift_forms.specs.Given as given_form
 use Rattle.lift_forms.specs.Operators.{Operand}
-use Rattle.lift_held.specs.Held.{is_void, is_record, acts, operand, operand_before, part_of, whole_of, holds_call, some_holds_call}
+use Rattle.lift_held.specs.Held.{is_void, is_record, acts, operand, operand_before, part_of, whole_of, holds_call, some_holds_call, value_for}
 use Rattle.lift_held.specs.declared.asked.Asked.{Asked}
 use Rattle.rs_text.specs.Tree.{Ty, Place as RustPlace, Expr}
 
@@ -158,4 +158,4 @@ mutual
       (put_numbered names_of filled p first from) (puts_numbered names_of filled p others one.next)
 
   pub put_numbered : (names_of : Names) (filled : CTy) (p : RustPlace) (one : CPut) (from : ℕ) → IsNumbered (lifted_put names_of filled p one from) from
-  put_numbered names_of filled p (put spot type value) from = numbered names_of operand value from
+  put_numbered names_of filled p (put spot type value) from = numbered names_of (value_for spot) value from
