@@ -26,11 +26,11 @@ use Rattle.whole_means.specs.Written.{IsNamed}
 use Rattle.whole_names.specs.Keys.{calls_of, is_bare_too, order_of}
 use Rattle.whole_names.specs.Kept.{LocalNames, NamedProgram, code_type, types_of}
 
--- the names of a module mean what they say, where those that a function keeps of objects are these
+-- the names with which a function is written mean what they say, where these are those that it keeps
 abbrev pub NamesMeanInCrate : Type 0
 NamesMeanInCrate =
-    (whole : NamedProgram) (shape : ShapeOf) (statics : CFrame) (unit : ℕ) (own : LocalNames) (home : CHome) (kept : FunctionNames) → IsNamed whole → home.program ≡ whole.program →
-    kept.types ≡ types_of whole → ((number : ℕ) → (names_in whole unit own).objects number ≡ kept.objects number) → NamesMean (setting_of whole shape statics) home (names_in whole unit own) kept
+    (whole : NamedProgram) (shape : ShapeOf) (statics : CFrame) (fun : CFun) (home : CHome) → IsNamed whole → home.program ≡ whole.program →
+    NamesMean (setting_of whole shape statics) home (names_in whole fun.unit (locals_of whole fun)) (kept_names whole fun)
 
 -- what the names of a function are
 pub record NamesOfBodies : Type 0 where
