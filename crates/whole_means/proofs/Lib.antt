@@ -17,6 +17,7 @@ pub mod Named
 pub mod Numbers
 pub mod Outers
 pub mod Outside
+pub mod ParamObjects
 pub mod Params
 pub mod Records
 pub mod Rows
