@@ -19,6 +19,7 @@ pub mod Outers
 pub mod Outside
 pub mod ParamObjects
 pub mod Params
+pub mod Passing
 pub mod Records
 pub mod Rows
 pub mod Statics
