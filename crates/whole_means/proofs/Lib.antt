@@ -23,6 +23,7 @@ pub mod Passing
 pub mod Records
 pub mod Rows
 pub mod Statics
+pub mod Taking
 pub mod Things
 pub mod Together
 pub mod Whole

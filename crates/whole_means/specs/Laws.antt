@@ -6,16 +6,17 @@ use Rattle.cx_core.specs.Trees.{CExprs, no_exprs, CFun, COuter, form_of_type}
 use Rattle.cx_core.specs.Trees as core
 use Rattle.cx_core.specs.Typing.{CHome, function_with, outer_with}
 use Rattle.cx_mean.specs.Operands.{Frame as CFrame}
+use Rattle.lift_calls.specs.Calls.{result_laid}
 use Rattle.lift_calls.specs.Frames.{FunctionNames, KeptTemporary, NamesApart}
 use Rattle.lift_calls.specs.Programs.{ProgramAgrees}
-use Rattle.lift_calls_entry.specs.Entry.{AllDiffer, IsLocalKept, IsStaticKept, NamesDiffer, all_locals}
+use Rattle.lift_calls_entry.specs.Entry.{AllDiffer, AreParams, IsLocalKept, IsStaticKept, NamesDiffer, ResultParam, all_locals}
 use Rattle.lift_does.specs.Agree.{AreKeptFrom, NamesMean}
 use Rattle.lift_does.specs.Outers.{OuterItem, TakesAll, is_variadic}
 use Rattle.lift_exprs.specs.Names.{params_of}
 use Rattle.lift_forms.specs.Places.{Kept}
-use Rattle.rs_text.specs.Tree.{Ty, Static, FunctionTree}
+use Rattle.rs_text.specs.Tree.{Ty, Static, LocalTree, FunctionTree}
 use Rattle.rs_tree.specs.declared.ty.RPath.{RPath}
-use Rattle.whole_bodies.specs.Bodies.{ShapeOf, written_body}
+use Rattle.whole_bodies.specs.Bodies.{ShapeOf, copies_of_passed, written_body}
 use Rattle.build_flow_nodes.specs.Parts.{temporaries_in_stmt}
 use Rattle.whole_bodies.specs.Names.{locals_of, names_in}
 use Rattle.whole_items.specs.Items.{function_tree, is_declared}
@@ -58,6 +59,10 @@ tree_of whole shape fun = function_tree whole fun (written_body whole shape fun)
 
 -- what the parameters and locals of a function are, whatever its body is
 pub record EntriesMean (whole : NamedProgram) (shape : ShapeOf) (statics : CFrame) (fun : CFun) : Type 0 where
+  -- its parameters, and the copies of structures and unions, are those of C in order
+  pub params : List LocalTree
+  pub result : ResultParam (result_laid (setting_of whole shape statics) fun) (kept_names whole fun).result (tree_of whole shape fun).params params
+  pub are : AreParams (setting_of whole shape statics) (kept_names whole fun) (tree_of whole shape fun).locals fun.params params (copies_of_passed whole fun)
   pub differ : AllDiffer fun.params
   pub names_differ : NamesDiffer (all_locals (tree_of whole shape fun))
   pub kept : (number : ℕ) (it : Kept) → (kept_names whole fun).objects number ≡ Some it → IsStaticKept (setting_of whole shape statics) it ⊎ IsLocalKept (tree_of whole shape fun) it
