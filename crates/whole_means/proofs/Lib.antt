@@ -1,5 +1,6 @@
 pub mod Agrees
 pub mod Bare
+pub mod BlockObjects
 pub mod Callees
 pub mod Differ
 pub mod Entries
