@@ -23,6 +23,7 @@ pub mod Params
 pub mod Passing
 pub mod Records
 pub mod Rows
+pub mod Starting
 pub mod Statics
 pub mod Taking
 pub mod Things
