@@ -29,21 +29,12 @@ use Rattle.whole_means.proofs.Lists.{Among, IsFrom, among_at, among_cases, among
 use Rattle.whole_means.proofs.Means.{laid_same}
 use Rattle.whole_means.proofs.Modules.{modules_by}
 use Rattle.whole_means.proofs.ParamObjects.{AreAllParams, all_params}
+use Rattle.whole_means.specs.Layouts.{AreLaid, IsLaid}
 use Rattle.whole_means.specs.Settings.{setting_with}
 use Rattle.whole_means.specs.Written.{IsNamed}
 use Rattle.whole_names.specs.FunctionNames.{LocalKey, a_local, a_passed, a_result, a_temporary, LocalName, WantedLocal, gives_record, is_among, is_local_of, locals_from, locals_that, object_is_record, object_name, wanted_in, wanted_locals, wanted_object, wanted_params, wanted_temporaries}
 use Rattle.whole_names.specs.Kept.{NamedProgram, known_thing, no_locals, types_of}
 use Rattle.whole_names.specs.ModuleNames.{taken_names}
-
--- a type has a layout
-pub record IsLaid (modules : List ModuleTree) (one : Ty) : Type 0 where
-  pub laid : Laid
-  pub laid_is : laid_of modules one ≡ Some laid
-  pub aligned : 0 < laid.align
-
-abbrev pub AreLaid : List ModuleTree → List Ty → Type 0
-AreLaid modules [] = Unit {0}
-AreLaid modules (one ∷ others) = IsLaid modules one × AreLaid modules others
 
 pub both_laid : (modules : List ModuleTree) (xs ys : List Ty) → AreLaid modules xs → AreLaid modules ys → AreLaid modules (xs ++ ys)
 both_laid modules [] ys first second = second
