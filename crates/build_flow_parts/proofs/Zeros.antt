@@ -105,7 +105,7 @@ module _ (a : Calling) (units steps : ℕ) (mean : PartsMean a.s a.names a.of un
 
   place_is : object_at a.of.names type number ≡ Local object.name
   place_is =
-      ap (λ (found : Option Kept). object_place (kept_or found) ty) ((mean.means (home_in a.s a.one []) refl).objects number ∙ object.kept_is)
+      ap (λ (found : Option Kept). object_place (kept_or found) ty) ((mean.means (home_in a.s a.one []) refl).objects number object.kept object.kept_is)
       ∙ ap (λ (test : Bool). if test then object.kept.place else pointed (Cast (address_of object.kept.place) (Pointer ty))) (ap (λ (one : Ty). same_type one ty) object.ty_is ∙ same_itself ty)
       ∙ object.place_is
 

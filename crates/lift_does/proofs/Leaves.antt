@@ -247,7 +247,7 @@ module _ (x : Around) where
       let is_there = there_at later agrees.kept.place agrees.home agrees.is_home.home_is in
       let below = begin_below last at agrees.home.block (slot_begins (scope x) number at e) agrees.image in
       let one = type_in x.names type in
-      subst (λ (kept : Option Kept). GivesLvalue last x.frame later one (given_form.place (object_place (kept_or kept) one)) (Object at)) (sym (x.means.objects number ∙ agrees.kept_is))
+      subst (λ (kept : Option Kept). GivesLvalue last x.frame later one (given_form.place (object_place (kept_or kept) one)) (Object at)) (sym (x.means.objects number agrees.kept agrees.kept_is))
       (by_test (λ (p : RustPlace). GivesLvalue last x.frame later one (given_form.place p) (Object at)) (same_type agrees.kept.ty one) agrees.kept.place (pointed (Cast (address_of agrees.kept.place) (Pointer one)))
       (λ same. record { spot = home_spot agrees.home; gives = is_there.gives; ty_is = agrees.is_home.ty_is ∙ type_is agrees.kept.ty one same; below = below; based = inl refl; address = is_there.address })
       (λ _.

@@ -11,6 +11,7 @@ use Rattle.cx_mean.specs.Settings.{scalar_in_type, extent_in}
 use Rattle.lift_calls.specs.Frames.{FunctionNames}
 use Rattle.lift_calls.specs.Programs.{Setting, setting_in}
 use Rattle.lift_exprs.specs.Names.{Names, KeptFunction, type_in, field_in}
+use Rattle.lift_forms.specs.Places.{Kept}
 use Rattle.rs_mean.specs.Layout.{laid_of, field_at}
 use Rattle.rs_mean.specs.Lookups.{own, outer, callee_at, symbol_of}
 use Rattle.rs_mean.specs.Scalars.{scalar_of}
@@ -61,7 +62,8 @@ AreKeptFrom names kept number (one ∷ others) =
 
 pub record NamesMean (s : Setting) (home : CHome) (names : Names) (kept : FunctionNames) : Type 0 where
   pub program : home.program ≡ s.program
-  pub objects : (number : ℕ) → names.objects number ≡ kept.objects number
+  -- an object that a function keeps has this place; other functions' objects have none there
+  pub objects : (number : ℕ) (it : Kept) → kept.objects number ≡ Some it → names.objects number ≡ Some it
   pub types : names.types ≡ kept.types
   -- a complete type is laid out as in C, and a scalar one has the same scalar
   pub laid : (type : CTy) (laid : Laid) → extent_in (setting_in s) type ≡ Some laid → laid_of s.modules (type_in names type) ≡ Some laid

@@ -108,7 +108,7 @@ module _ (whole : NamedProgram) (fun : CFun) (has_dispatch : Bool) (statements :
   pub own_same : own ≡ names_of_body whole fun body_with
   own_same = ap (local_names program fun) (sym (count_same (temporaries_of whole fun)))
 
-  local_there : (key : LocalKey) (x : List ℕ) (local : LocalTree) → local_among key own ≡ Some x → Among (local_of whole fun body_with (record { key = key; name = x })) local → Among tree_with.locals local
+  pub local_there : (key : LocalKey) (x : List ℕ) (local : LocalTree) → local_among key own ≡ Some x → Among (local_of whole fun body_with (record { key = key; name = x })) local → Among tree_with.locals local
   local_there key x local found made =
       among_left (flat_map (local_of whole fun body_with) (names_of_body whole fun body_with)) (dispatch_local has_dispatch) local
       (subst (λ (names : List LocalName). Among (flat_map (local_of whole fun body_with) names) local) own_same

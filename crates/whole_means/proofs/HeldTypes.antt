@@ -4,7 +4,7 @@ use Rattle.build_flow_nodes.specs.Parts.{temporaries_in_stmt, temporaries_in_for
 use Rattle.cx_core.specs.Trees.{CTy, CExpr, expr, CForm, whole, null, object, code, load, deref, member, address, convert, unary, binary, and, or, cond, assign, assign_by, step, call, call_by, comma, literal, CExprs, no_exprs, more_exprs, CPut, put, CPuts, no_puts, more_puts, CStmt, stmt, CStmtForm, label, case, default, block, expression, if_then, switch, while, do_while, for_loop, goto, continue, break, returns, begin, COtherwise, no_else, else_do, CStmts, no_stmts, more_stmts}
 use Rattle.lift_exprs.specs.Names.{Names}
 use Rattle.lift_exprs.specs.Temporaries.{held_types, held_types_in, held_types_in_args, held_types_in_put, held_types_in_puts, own_type}
-use Rattle.lift_held.specs.Held.{is_held_form, is_void, holds_call, some_holds_call, operand, operand_before, part_of, whole_of, full}
+use Rattle.lift_held.specs.Held.{is_held_form, is_void, holds_call, some_holds_call, operand, operand_before, part_of, whole_of, full, value_for}
 use Rattle.lift_held.specs.declared.asked.Asked.{Asked}
 use Rattle.rs_text.specs.Tree.{Ty}
 use Rattle.whole_bodies.specs.Names.{names_in}
@@ -52,7 +52,7 @@ module _ (program : NamedProgram) (unit : ℕ) (own other : LocalNames) where
     same_args (more_exprs first others) = joined (same_types (operand_before (some_holds_call others)) first) (same_args others)
 
     same_put : (it : CPut) → held_types_in_put one it ≡ held_types_in_put two it
-    same_put (put spot type value) = same_types operand value
+    same_put (put spot type value) = same_types (value_for spot) value
 
     same_puts : (puts : CPuts) → held_types_in_puts one puts ≡ held_types_in_puts two puts
     same_puts no_puts = refl

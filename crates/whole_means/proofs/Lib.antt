@@ -1,5 +1,6 @@
 pub mod Agrees
 pub mod Bare
+pub mod BlockObjects
 pub mod Callees
 pub mod Differ
 pub mod Entries
@@ -17,10 +18,14 @@ pub mod Named
 pub mod Numbers
 pub mod Outers
 pub mod Outside
+pub mod ParamObjects
 pub mod Params
+pub mod Passing
 pub mod Records
 pub mod Rows
+pub mod Starting
 pub mod Statics
+pub mod Taking
 pub mod Things
 pub mod Together
 pub mod Whole

@@ -47,7 +47,7 @@ use Rattle.whole_means.proofs.Rows.{completed_by, row_in}
 use Rattle.whole_means.specs.Settings.{function_path, setting_with}
 use Rattle.whole_means.specs.Written.{IsNamed}
 use Rattle.whole_names.specs.Keys.{a_function}
-use Rattle.whole_names.specs.Kept.{LocalNames, NamedProgram, enum_type as kept_enum, function_item, function_thing, known_thing, module_of, name_in, no_locals, size_or_none, types_of, unit_or}
+use Rattle.whole_names.specs.Kept.{LocalNames, NamedProgram, enum_type as kept_enum, function_item, function_thing, known_thing, module_of, name_in, no_locals, types_of, unit_or}
 
 -- ---- scalars
 
@@ -110,7 +110,8 @@ module _ (whole : NamedProgram) (is : IsNamed whole) (bodies : WrittenBodies) (u
       ∙ (complete_fits (known_thing whole unit no_locals) (laid_at modules) (layouts_of program.types) (all_kept whole is bodies unit no_locals) type laid found).rust
 
   pub size_same : (type : CTy) (laid : Laid) → extent (layouts_of program.types) type ≡ Some laid → names.size_of type ≡ laid.size
-  size_same type laid found = ap size_or_none found
+  size_same type laid found =
+      (complete_fits (known_thing whole unit no_locals) (laid_at modules) (layouts_of program.types) (all_kept whole is bodies unit no_locals) type laid found).size
 
   -- ---- members
 

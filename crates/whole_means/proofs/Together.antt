@@ -1,8 +1,7 @@
 -- The laws of bodies and programs, each of its parts.
-use Rattle.lift_calls_entry.specs.Entry.{IsLocalKept, IsStaticKept}
-use Rattle.lift_forms.specs.Places.{Kept}
+use Rattle.lift_calls_entry.specs.Entry.{EntryMeans}
 use Rattle.reloop.specs.Shapes.{has_dispatch}
-use Rattle.whole_bodies.specs.Bodies.{written_bodies, written_body}
+use Rattle.whole_bodies.specs.Bodies.{copies_of_passed, written_bodies, written_body}
 use Rattle.whole_means.proofs.Agrees.{crate_agrees, crate_images_apart}
 use Rattle.whole_means.proofs.Locals.{names_apart}
 use Rattle.whole_means.proofs.Whole.{modules_are, objects_are, stretch_kept}
@@ -12,8 +11,11 @@ use Rattle.whole_means.proofs.Differ.{locals_differ}
 use Rattle.whole_means.proofs.Entries.{kept_there, params_differ, temporaries_there, zeros_there}
 use Rattle.whole_means.proofs.Lists.{contains_among}
 use Rattle.cx_core.specs.Trees.{no_exprs}
+use Rattle.whole_means.proofs.Starting.{begins}
+use Rattle.whole_means.proofs.Taking.{takes}
+use Rattle.whole_means.specs.Layouts.{AreLaid}
 use Rattle.lift_does.specs.Outers.{OuterItem}
-use Rattle.whole_bodies.specs.Names.{locals_of, names_in}
+use Rattle.whole_bodies.specs.Names.{held_in_body, locals_of, names_in}
 use Rattle.whole_means.proofs.HeldTypes.{same_stmt}
 use Rattle.whole_names.specs.Kept.{no_locals}
 use Rattle.whole_means.proofs.Outers.{outer_item}
@@ -22,7 +24,7 @@ use Rattle.whole_means.specs.FunctionNames.{kept_names}
 use Rattle.whole_means.specs.Settings.{setting_with}
 use Rattle.whole_items.specs.Items.{WrittenBodies}
 use Rattle.rs_text.specs.Tree.{ModuleTree, no_stmts}
-use Rattle.std.proofs.Common.{◌≡◌, ℕ, ◌⊎◌, List, [], false, Some, sym, subst, ◌∙◌}
+use Rattle.std.proofs.Common.{◌≡◌, List, [], false, sym, subst, ◌∙◌}
 
 -- names don't depend on bodies
 no_bodies : WrittenBodies
@@ -41,20 +43,26 @@ all_agree = record { agrees = crate_agrees; functions_apart = crate_images_apart
 -- ---- entries
 
 pub entries_mean : EntriesMeanInCrate
-entries_mean whole shape statics fun is among few =
+entries_mean whole shape statics fun is among few held =
     let there = contains_among whole.program.functions fun among in
+    let bodies = written_bodies whole shape in
     let dispatch = has_dispatch (shape fun) in
     let text = (written_body whole shape fun).statements in
-    record {
+    let its = takes whole is bodies fun there statics dispatch text in
+    subst (λ (modules : List ModuleTree). EntryMeans (setting_with whole modules statics) fun (tree_of whole shape fun) (kept_names whole fun) (copies_of_passed whole fun)) (sym (modules_are whole shape))
+    (record {
+      params = its.params;
+      result = its.result;
+      are = its.are;
       differ = params_differ whole.program.functions fun is.linked.numbers.blocks_differ there;
       names_differ = locals_differ whole is no_bodies fun few dispatch text;
-      kept = subst (λ (modules : List ModuleTree). (number : ℕ) (it : Kept) → (kept_names whole fun).objects number ≡ Some it →
-          IsStaticKept (setting_with whole modules statics) it ⊎ IsLocalKept (tree_of whole shape fun) it) (sym (modules_are whole shape)) (kept_there whole fun dispatch text is (written_bodies whole shape) statics);
-      statics_kept = statics_kept whole is fun there;
+      begins = begins whole is bodies fun there statics dispatch text (subst (λ (modules : List ModuleTree). AreLaid modules (held_in_body whole fun)) (modules_are whole shape) held);
+      kept = kept_there whole fun dispatch text is bodies statics;
+      statics = statics_kept whole is fun there;
       temporaries = temporaries_there whole fun dispatch text;
       zeros = zeros_there whole fun dispatch text;
       apart = names_apart whole is no_bodies fun few;
-    }
+    })
 
 pub outers_mean : OutersMean
 outers_mean whole shape statics unit own number one args is low found undefined ordered declares takes itself =

@@ -34,24 +34,6 @@ modules_same whole shape unit (suc left) = ap (λ (rest : List ModuleTree). modu
 pub modules_are : (whole : NamedProgram) (shape : ShapeOf) → modules_of whole shape ≡ modules_by (module_tree whole (written_bodies whole shape)) 0 (length whole.module_names)
 modules_are whole shape = modules_same whole shape 0 (length whole.module_names)
 
--- ---- names
-
-pub names_mean : (whole : NamedProgram) (shape : ShapeOf) (statics : CFrame) (unit : ℕ) (own : LocalNames) (home : CHome) (kept : FunctionNames) → IsNamed whole → home.program ≡ whole.program →
-    kept.types ≡ types_of whole → ((number : ℕ) → (names_in whole unit own).objects number ≡ kept.objects number) → NamesMean (setting_of whole shape statics) home (names_in whole unit own) kept
-names_mean whole shape statics unit own home kept is program types objects =
-    subst (λ (modules : List ModuleTree). NamesMean (setting_with whole modules statics) home (names_in whole unit own) kept) (sym (modules_are whole shape)) (record {
-      program = program;
-      objects = objects;
-      types = sym types;
-      laid = laid_same whole is (written_bodies whole shape) unit own statics;
-      scalars = scalar_same whole;
-      sizes = size_same whole is (written_bodies whole shape) unit own statics;
-      fields = members_mean whole is (written_bodies whole shape) unit own statics;
-      part_fields = field_means whole is (written_bodies whole shape) unit own statics;
-      functions = functions_mean whole is (written_bodies whole shape) unit own statics;
-      bits = refl;
-    })
-
 -- ---- objects that a function keeps have these names
 
 kept_named : (whole : NamedProgram) (fun : CFun) (o : CObject) (name : Option (List ℕ)) (it : Kept) → kept_by whole o name ≡ Some it → Some (kept_object (local_or_item whole o name)) ≡ Some it
@@ -68,6 +50,31 @@ objects_are whole fun number it found = by_object (object_with number whole.prog
     by_object : (o : Option CObject) → kept_found whole fun o ≡ Some it → option_map kept_object (object_thing whole (locals_of whole fun) o) ≡ Some it
     by_object None is = absurd cc
     by_object (Some o) is = kept_named whole fun o (local_among (a_local o.object) (own_names whole fun)) it is
+
+-- ---- names
+
+-- those of a module, where what is kept of objects has these names there
+pub names_mean_with : (whole : NamedProgram) (shape : ShapeOf) (statics : CFrame) (unit : ℕ) (own : LocalNames) (home : CHome) (kept : FunctionNames) → IsNamed whole → home.program ≡ whole.program →
+    kept.types ≡ types_of whole → ((number : ℕ) (it : Kept) → kept.objects number ≡ Some it → (names_in whole unit own).objects number ≡ Some it) →
+    NamesMean (setting_of whole shape statics) home (names_in whole unit own) kept
+names_mean_with whole shape statics unit own home kept is program types objects =
+    subst (λ (modules : List ModuleTree). NamesMean (setting_with whole modules statics) home (names_in whole unit own) kept) (sym (modules_are whole shape)) (record {
+      program = program;
+      objects = objects;
+      types = sym types;
+      laid = laid_same whole is (written_bodies whole shape) unit own statics;
+      scalars = scalar_same whole;
+      sizes = size_same whole is (written_bodies whole shape) unit own statics;
+      fields = members_mean whole is (written_bodies whole shape) unit own statics;
+      part_fields = field_means whole is (written_bodies whole shape) unit own statics;
+      functions = functions_mean whole is (written_bodies whole shape) unit own statics;
+      bits = refl;
+    })
+
+pub names_mean : (whole : NamedProgram) (shape : ShapeOf) (statics : CFrame) (fun : CFun) (home : CHome) → IsNamed whole → home.program ≡ whole.program →
+    NamesMean (setting_of whole shape statics) home (names_in whole fun.unit (locals_of whole fun)) (kept_names whole fun)
+names_mean whole shape statics fun home is program =
+    names_mean_with whole shape statics fun.unit (locals_of whole fun) home (kept_names whole fun) is program refl (objects_are whole fun)
 
 -- ---- temporaries
 

@@ -1,36 +1,36 @@
 -- Laws of what the names of a written crate mean (ISO C99, 6.2.1 and 6.2.5; the Rust Reference, "Paths" and "Type layout").
-use Rattle.std.specs.Prelude.{◌≡◌, ◌⊎◌, ℕ, ◌<◌, true, false, List, ◌++◌, length, Some, None}
+use Rattle.std.specs.Prelude.{◌≡◌, ℕ, ◌<◌, true, false, List, ◌++◌, length, Some, None}
 use Rattle.std.specs.List.{Contains}
 use Rattle.lift_exprs.specs.Calls.{is_malloc}
 use Rattle.cx_core.specs.Trees.{CExprs, no_exprs, CFun, COuter, form_of_type}
 use Rattle.cx_core.specs.Trees as core
 use Rattle.cx_core.specs.Typing.{CHome, function_with, outer_with}
 use Rattle.cx_mean.specs.Operands.{Frame as CFrame}
-use Rattle.lift_calls.specs.Frames.{FunctionNames, KeptTemporary, NamesApart}
+use Rattle.lift_calls.specs.Frames.{NamesApart}
 use Rattle.lift_calls.specs.Programs.{ProgramAgrees}
-use Rattle.lift_calls_entry.specs.Entry.{AllDiffer, IsLocalKept, IsStaticKept, NamesDiffer, all_locals}
+use Rattle.lift_calls_entry.specs.Entry.{EntryMeans}
 use Rattle.lift_does.specs.Agree.{AreKeptFrom, NamesMean}
 use Rattle.lift_does.specs.Outers.{OuterItem, TakesAll, is_variadic}
 use Rattle.lift_exprs.specs.Names.{params_of}
 use Rattle.lift_forms.specs.Places.{Kept}
-use Rattle.rs_text.specs.Tree.{Ty, Static, FunctionTree}
-use Rattle.rs_tree.specs.declared.ty.RPath.{RPath}
-use Rattle.whole_bodies.specs.Bodies.{ShapeOf, written_body}
+use Rattle.rs_text.specs.Tree.{Ty, FunctionTree}
+use Rattle.whole_bodies.specs.Bodies.{ShapeOf, copies_of_passed, written_body}
 use Rattle.build_flow_nodes.specs.Parts.{temporaries_in_stmt}
-use Rattle.whole_bodies.specs.Names.{locals_of, names_in}
+use Rattle.whole_bodies.specs.Names.{held_in_body, locals_of, names_in}
 use Rattle.whole_items.specs.Items.{function_tree, is_declared}
 use Rattle.whole_means.specs.Beginning.{StandUnitByUnit, first_images, first_statics}
 use Rattle.whole_means.specs.FunctionNames.{HasFewNames, kept_names}
+use Rattle.whole_means.specs.Layouts.{AreLaid}
 use Rattle.whole_means.specs.Settings.{modules_of, setting_of}
 use Rattle.whole_means.specs.Written.{IsNamed}
 use Rattle.whole_names.specs.Keys.{calls_of, is_bare_too, order_of}
 use Rattle.whole_names.specs.Kept.{LocalNames, NamedProgram, code_type, types_of}
 
--- the names of a module mean what they say, where those that a function keeps of objects are these
+-- the names with which a function is written mean what they say, where these are those that it keeps
 abbrev pub NamesMeanInCrate : Type 0
 NamesMeanInCrate =
-    (whole : NamedProgram) (shape : ShapeOf) (statics : CFrame) (unit : ℕ) (own : LocalNames) (home : CHome) (kept : FunctionNames) → IsNamed whole → home.program ≡ whole.program →
-    kept.types ≡ types_of whole → ((number : ℕ) → (names_in whole unit own).objects number ≡ kept.objects number) → NamesMean (setting_of whole shape statics) home (names_in whole unit own) kept
+    (whole : NamedProgram) (shape : ShapeOf) (statics : CFrame) (fun : CFun) (home : CHome) → IsNamed whole → home.program ≡ whole.program →
+    NamesMean (setting_of whole shape statics) home (names_in whole fun.unit (locals_of whole fun)) (kept_names whole fun)
 
 -- what the names of a function are
 pub record NamesOfBodies : Type 0 where
@@ -56,20 +56,11 @@ pub record ProgramsAgree : Type 0 where
 abbrev pub tree_of : NamedProgram → ShapeOf → CFun → FunctionTree
 tree_of whole shape fun = function_tree whole fun (written_body whole shape fun)
 
--- what the parameters and locals of a function are, whatever its body is
-pub record EntriesMean (whole : NamedProgram) (shape : ShapeOf) (statics : CFrame) (fun : CFun) : Type 0 where
-  pub differ : AllDiffer fun.params
-  pub names_differ : NamesDiffer (all_locals (tree_of whole shape fun))
-  pub kept : (number : ℕ) (it : Kept) → (kept_names whole fun).objects number ≡ Some it → IsStaticKept (setting_of whole shape statics) it ⊎ IsLocalKept (tree_of whole shape fun) it
-  pub statics_kept : (number : ℕ) (path : RPath) → (setting_of whole shape statics).objects number ≡ Some path →
-      (it : Kept) × ((kept_names whole fun).objects number ≡ Some it) × (it.place ≡ Static path.home path.name)
-  pub temporaries : (number : ℕ) (it : KeptTemporary) → (kept_names whole fun).temporaries number ≡ Some it → Contains (tree_of whole shape fun).locals (record { name = it.name; ty = it.ty })
-  pub zeros : (number : ℕ) (it : KeptTemporary) → (kept_names whole fun).zeros number ≡ Some it → Contains (tree_of whole shape fun).locals (record { name = it.name; ty = it.ty })
-  pub apart : NamesApart (kept_names whole fun)
-
+-- what a function is entered with, where its held temporaries have layouts
 abbrev pub EntriesMeanInCrate : Type 0
 EntriesMeanInCrate = (whole : NamedProgram) (shape : ShapeOf) (statics : CFrame) (fun : CFun) → IsNamed whole → Contains whole.program.functions fun → HasFewNames whole fun →
-    EntriesMean whole shape statics fun
+    AreLaid (modules_of whole shape) (held_in_body whole fun) →
+    EntryMeans (setting_of whole shape statics) fun (tree_of whole shape fun) (kept_names whole fun) (copies_of_passed whole fun)
 
 -- ---- external functions
 
