@@ -1,3 +1,6 @@
+pub mod Blocks
+pub mod Functions
 pub mod Names
 pub mod Order
+pub mod Outers
 pub mod Types

@@ -1,7 +1,8 @@
 -- What a written crate is made of: names of C that are identifiers, names of modules, and bodies that fit their functions (ISO C99, 6.4.2.1; the Rust Reference, "Items").
-use Rattle.std.specs.Prelude.{◌≡◌, ℕ, ◌<◌, true, List, length, IfSome, All, Some, slice_get}
+use Rattle.std.specs.Prelude.{◌≡◌, ℕ, ◌<◌, true, false, List, length, IfSome, All, Some, slice_get}
 use Rattle.std.specs.List.{list_all}
-use Rattle.cx_core.specs.Trees.{CFun, CMember, CObject, COuter, CProgram, CRecord, CRecordTag}
+use Rattle.cx_core.specs.Trees.{CFun, CMember, CObject, COuter, CProgram, CRecord, CRecordTag, CTyForm, function, listed, unlisted, form_of_type}
+use Rattle.cx_core.specs.ValidTypes.{MayVary}
 use Rattle.rs_items_sets.specs.LawsNames.{AreFewWith}
 use Rattle.rs_mean.specs.Typing.{body_ends, scope_of, stmts_typed, type_stands}
 use Rattle.rs_text.specs.Names.{is_module_name, is_word}
@@ -20,6 +21,15 @@ pub record HasWords (program : CProgram) : Type 0 where
   pub tags : All (λ (one : CRecordTag). IfSome one.tag (λ tag. is_word tag ≡ true)) program.types.record_tags
   pub members : (number : ℕ) (one : CRecord) → slice_get program.types.records number ≡ Some (Some one) →
       All (λ (member : CMember). IfSome member.name (λ name. is_word name ≡ true)) one.members
+
+-- further arguments follow at least one parameter (6.7.5p1)
+abbrev pub MayVaryForm : CTyForm → Type 0
+MayVaryForm (function result unlisted variadic) = variadic ≡ false
+MayVaryForm (function result (listed params) variadic) = MayVary params variadic
+MayVaryForm _ = Unit {0}
+
+abbrev pub OutersMayVary : CProgram → Type 0
+OutersMayVary program = All (λ (one : COuter). MayVaryForm (form_of_type one.type)) program.externals
 
 -- the names of modules: 1 to 64, each the name of a module
 pub record HasModuleNames (names : List (List ℕ)) : Type 0 where
