@@ -12,7 +12,7 @@ use Rattle.cx_core.specs.declared.program.Linkage.{Linkage}
 use Rattle.cx_core.specs.declared.program.Linkage.TheVariants.{External, Internal, Nothing}
 use Rattle.rs_items.specs.Types.{rust_type}
 use Rattle.rs_text.specs.declared.attribute.Attribute.TheVariants.{Mangled, NoMangle, ExportName}
-use Rattle.rs_text.specs.Names.{bare_name, is_identifier, is_word}
+use Rattle.rs_text.specs.Names.{bare_name, is_identifier, is_word, keywords, path_words}
 use Rattle.rs_text.specs.Tree.{LocalTree, ModuleTree, Pointer, Ty, Stmts, option_ty}
 use Rattle.rs_text.specs.Valid.{is_void, valid_attribute, valid_function, valid_local, valid_result, valid_stmts, valid_target, valid_ty}
 use Rattle.rs_items_sets.specs.Names.{rust_name}
@@ -32,6 +32,16 @@ use Rattle.whole_valid.proofs.Blocks.{IsBlockOf, of_definition}
 use Rattle.whole_valid.proofs.Names.{all_of, all_test, function_word, name_identifier, test_of, wanted_words}
 use Rattle.whole_valid.proofs.Types.{complete_valid, target_valid, value_valid}
 use Rattle.whole_valid.specs.Given.{BodyFits, HasModuleNames, HasWords}
+
+-- ---- names of their own
+
+block_identifier : is_identifier (codes "current_block") ≡ true
+unfolding path_words keywords
+block_identifier = refl
+
+initialiser_identifier : is_identifier (codes "run_static_initializers") ≡ true
+unfolding path_words keywords
+initialiser_identifier = refl
 
 -- ---- attributes
 
@@ -101,7 +111,7 @@ module _ (whole : NamedProgram) (is : IsNamed whole) (words : HasWords whole.pro
       by_test false (inr none) = absurd none
 
   params_words : (numbers : List ℕ) → AreWords (wanted_params program numbers)
-  params_words [] one there = absurd there
+  params_words [] = λ one there. absurd there
   params_words (number ∷ numbers) = both_words (wanted_param program number) (wanted_params program numbers) (param_words number) (params_words numbers)
 
   objects_words : (test : CObject → Bool) (fun : CFun) → AreWords (locals_that test program fun)
@@ -195,7 +205,7 @@ module _ (whole : NamedProgram) (is : IsNamed whole) (words : HasWords whole.pro
         by_test false (inr none) = absurd none
 
     params_own : (numbers : List ℕ) → ((number : ℕ) → Among numbers number → Among fun.params number) → AreOwn (wanted_params program numbers)
-    params_own [] all one here = absurd here
+    params_own [] all = λ one here. absurd here
     params_own (number ∷ numbers) all =
         both_own (wanted_param program number) (wanted_params program numbers) (param_own number (all number (inl refl))) (params_own numbers (λ other among. all other (inr among)))
 
@@ -261,8 +271,8 @@ module _ (whole : NamedProgram) (is : IsNamed whole) (words : HasWords whole.pro
     result_is = result_of_type fun.type typed.type_in
 
     local_is : (name : List ℕ) (t : Ty) → is_identifier name ≡ true → valid_ty t ≡ true → (one : LocalTree) → Among (named name t) one → valid_local one ≡ true
-    local_is name t identifier valid one (inl same) = ap valid_local (sym same) ∙ and_from (is_identifier name) (valid_ty t) identifier valid
-    local_is name t identifier valid one (inr none) = absurd none
+    local_is name t word valid one (inl same) = ap valid_local (sym same) ∙ and_from (is_identifier name) (valid_ty t) word valid
+    local_is name t word valid one (inr none) = absurd none
 
     target_pointer : (t : Ty) → valid_ty t ≡ true → valid_ty (Pointer t) ≡ true
     target_pointer t valid = by_void (is_void t)
@@ -273,39 +283,39 @@ module _ (whole : NamedProgram) (is : IsNamed whole) (words : HasWords whole.pro
 
     result_param_valid : (name : List ℕ) (result : Option CTy) → IfSome result (λ r. valid_target (rust_type (types_of whole) r) ≡ true) → is_identifier name ≡ true → (one : LocalTree) → Among (result_param whole name result) one →
         valid_local one ≡ true
-    result_param_valid name None valid identifier one here = absurd here
-    result_param_valid name (Some result) valid identifier one here = local_is name (Pointer (rust_type (types_of whole) result)) identifier valid one here
+    result_param_valid name None valid word one here = absurd here
+    result_param_valid name (Some result) valid word one here = local_is name (Pointer (rust_type (types_of whole) result)) word valid one here
 
     if_plain : (name : List ℕ) (number : ℕ) (t : Bool) → is_identifier name ≡ true → Among (fun.params ++ objects_in fun.body) number → (one : LocalTree) →
         Among (if t then object_local whole name number else []) one → valid_local one ≡ true
-    if_plain name number true identifier own one here = local_is name (type_of_object whole (object_with number program.objects)) identifier (object_valid number own) one here
-    if_plain name number false identifier own one here = absurd here
+    if_plain name number true word own one here = local_is name (type_of_object whole (object_with number program.objects)) word (object_valid number own) one here
+    if_plain name number false word own one here = absurd here
 
     if_no_plain : (name : List ℕ) (number : ℕ) (t : Bool) → is_identifier name ≡ true → Among (fun.params ++ objects_in fun.body) number → (one : LocalTree) →
         Among (if t then [] else object_local whole name number) one → valid_local one ≡ true
-    if_no_plain name number true identifier own one here = absurd here
-    if_no_plain name number false identifier own one here = local_is name (type_of_object whole (object_with number program.objects)) identifier (object_valid number own) one here
+    if_no_plain name number true word own one here = absurd here
+    if_no_plain name number false word own one here = local_is name (type_of_object whole (object_with number program.objects)) word (object_valid number own) one here
 
     param_valid : (name : List ℕ) (key : LocalKey) → is_identifier name ≡ true → IsOwn key → (one : LocalTree) → Among (param_by whole fun name key) one → valid_local one ≡ true
-    param_valid name a_result identifier own one here = result_param_valid name (result_of_form (form_of_type fun.type)) result_is identifier one here
-    param_valid name (a_passed number) identifier own one here =
-        local_is name (Pointer (type_of_object whole (object_with number program.objects))) identifier (target_pointer (type_of_object whole (object_with number program.objects)) (object_valid number own)) one here
-    param_valid name (a_local number) identifier own one here = if_plain name number (is_plain_param whole fun number) identifier own one here
-    param_valid name (a_temporary number) identifier own one here = absurd here
+    param_valid name a_result word own one here = result_param_valid name (result_of_form (form_of_type fun.type)) result_is word one here
+    param_valid name (a_passed number) word own one here =
+        local_is name (Pointer (type_of_object whole (object_with number program.objects))) word (target_pointer (type_of_object whole (object_with number program.objects)) (object_valid number own)) one here
+    param_valid name (a_local number) word own one here = if_plain name number (is_plain_param whole fun number) word own one here
+    param_valid name (a_temporary number) word own one here = absurd here
 
     temporary_valid : (name : List ℕ) (found : Option Ty) → is_identifier name ≡ true → ((t : Ty) → found ≡ Some t → valid_ty t ≡ true) → (one : LocalTree) → Among (temporary_named name found) one → valid_local one ≡ true
-    temporary_valid name None identifier valid one here = absurd here
-    temporary_valid name (Some t) identifier valid one here = local_is name t identifier (valid t refl) one here
+    temporary_valid name None word valid one here = absurd here
+    temporary_valid name (Some t) word valid one here = local_is name t word (valid t refl) one here
 
     local_valid : (name : List ℕ) (key : LocalKey) → is_identifier name ≡ true → IsOwn key → (one : LocalTree) → Among (local_by whole fun body name key) one → valid_local one ≡ true
-    local_valid name a_result identifier own one here = absurd here
-    local_valid name (a_passed number) identifier own one here = absurd here
-    local_valid name (a_local number) identifier own one here = if_no_plain name number (is_plain_param whole fun number) identifier own one here
-    local_valid name (a_temporary number) identifier own one here =
-        temporary_valid name (slice_get body.temporaries number) identifier (λ t at. test_of valid_ty body.temporaries t fits.temporaries_valid (among_at body.temporaries number t at)) one here
+    local_valid name a_result word own one here = absurd here
+    local_valid name (a_passed number) word own one here = absurd here
+    local_valid name (a_local number) word own one here = if_no_plain name number (is_plain_param whole fun number) word own one here
+    local_valid name (a_temporary number) word own one here =
+        temporary_valid name (slice_get body.temporaries number) word (λ t at. test_of valid_ty body.temporaries t fits.temporaries_valid (among_at body.temporaries number t at)) one here
 
     dispatch_valid : (t : Bool) (one : LocalTree) → Among (dispatch_local t) one → valid_local one ≡ true
-    dispatch_valid true one (inl same) = ap valid_local (sym same)
+    dispatch_valid true one (inl same) = ap valid_local (sym same) ∙ and_from (is_identifier (codes "current_block")) true block_identifier refl
     dispatch_valid true one (inr none) = absurd none
     dispatch_valid false one here = absurd here
 
@@ -351,4 +361,7 @@ module _ (whole : NamedProgram) (is : IsNamed whole) (words : HasWords whole.pro
         params_are) (written_valid (gives_record (form_of_type fun.type)) (result_of_form (form_of_type fun.type)) result_is)) locals_are) fits.valid
 
 pub initialiser_valid : (statements : Stmts) → valid_stmts statements ≡ true → valid_function (initialiser_tree statements) ≡ true
-initialiser_valid statements valid = valid
+initialiser_valid statements valid =
+    and_from (is_identifier (codes "run_static_initializers") && true && true && true) (valid_stmts statements)
+    (and_from (is_identifier (codes "run_static_initializers") && true && true) true (and_from (is_identifier (codes "run_static_initializers") && true) true
+    (and_from (is_identifier (codes "run_static_initializers")) true initialiser_identifier refl) refl) refl) valid

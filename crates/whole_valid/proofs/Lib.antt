@@ -3,4 +3,5 @@ pub mod Functions
 pub mod Names
 pub mod Order
 pub mod Outers
+pub mod Statics
 pub mod Types
