@@ -118,7 +118,7 @@ module _ (x : Around) where
         block = agrees.home.block;
         below = record { block = agrees.image; offset = sym begins };
         gives = λ w.
-            subst (λ (kept : Option Kept). GivesAt x.frame w (address_of (object_place (kept_or kept) (type_in x.names type))) (Pointer (type_in x.names type)) (Object (record { block = agrees.home.block; offset = 0 }))) (sym (x.means.objects number ∙ agrees.kept_is))
+            subst (λ (kept : Option Kept). GivesAt x.frame w (address_of (object_place (kept_or kept) (type_in x.names type))) (Pointer (type_in x.names type)) (Object (record { block = agrees.home.block; offset = 0 }))) (sym (x.means.objects number agrees.kept agrees.kept_is))
             (by w agrees.kept agrees.home (agrees.is_home.ty_is) (place_anywhere w agrees.kept.place agrees.home agrees.is_home.home_is) (same_type agrees.kept.ty (type_in x.names type)) refl);
       }
     where
