@@ -28,4 +28,5 @@ pub mod Statics
 pub mod Taking
 pub mod Things
 pub mod Together
+pub mod ValueTypes
 pub mod Whole

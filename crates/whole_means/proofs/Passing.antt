@@ -18,7 +18,7 @@ use Rattle.lift_exprs.specs.Objects.{object_at}
 use Rattle.lift_exprs.specs.Written.{copied}
 use Rattle.lift_forms.proofs.SameTypes.{same_itself}
 use Rattle.lift_forms.specs.Given.{address_of, pointed}
-use Rattle.lift_forms.specs.Places.{Kept, object_place, same_type}
+use Rattle.lift_forms.specs.Places.{Kept, object_place}
 use Rattle.lift_held.specs.Held.{is_record_form}
 use Rattle.rs_items.specs.Types.{rust_type}
 use Rattle.rs_items_rules.proofs.Types.{complete_fits}
