@@ -5,6 +5,7 @@ pub mod Callees
 pub mod Differ
 pub mod Entries
 pub mod Fields
+pub mod HeldLaid
 pub mod HeldTypes
 pub mod Items
 pub mod Keys
