@@ -1,17 +1,16 @@
 -- The temporaries of typed expressions and statements have layouts (ISO C99, 6.5; the Rust Reference, "Type layout").
-use Rattle.std.proofs.Common.{arith, ◌≡◌, ℕ, zero, suc, ◌==◌, ◌&&◌, ◌||◌, not, Bool, true, false, if◌then◌else◌, List, [], ◌∷◌, ◌++◌, Option, Some, None, IsSome, IfSome, refl, sym, ap, subst, ◌∙◌, ◌⊎◌, inl, inr}
+use Rattle.std.proofs.Common.{◌≡◌, ◌&&◌, ◌||◌, not, Bool, true, false, if◌then◌else◌, List, Option, Some, None, IsSome, refl, sym, ap, subst, ◌∙◌}
 use Rattle.cr_base.specs.declared.layout.Laid.{Laid}
-use Rattle.cx_core.specs.Conversions.{IsScalarType}
 use Rattle.cx_core.specs.Layouts.{extent, layouts_of}
-use Rattle.cx_core.specs.Trees.{CTy, ty, CTyForm, void, basic, enum_type, pointer, array, record_type, function, form_of_type, unqualified, CTypes, CProgram, CExpr, expr, CForm, whole, null, object, code, load, deref, member, address, convert, unary, binary, and, or, cond, assign, assign_by, step, call, call_by, comma, literal, CExprs, no_exprs, more_exprs, type_of}
-use Rattle.cx_core.specs.Typing.{CHome, IsLvalue, IsTyped}
+use Rattle.cx_core.specs.Trees.{CTy, ty, void, basic, enum_type, pointer, array, record_type, function, unqualified, CTypes, CProgram, CExpr, expr, CForm, whole, null, object, code, load, deref, member, address, convert, unary, binary, and, or, cond, assign, assign_by, step, call, call_by, comma, literal, type_of}
+use Rattle.cx_core.specs.Typing.{CHome, IsTyped}
 use Rattle.cx_core.specs.ValidTypes.{AreTypes, IsComplete}
 use Rattle.lift_exprs.specs.Names.{Names, type_in}
-use Rattle.lift_exprs.specs.Temporaries.{held_types, own_type}
+use Rattle.lift_exprs.specs.Temporaries.{own_type}
 use Rattle.lift_exprs.specs.Written.{held_type, kind_in, lvalue_kind, value_kind}
 use Rattle.lift_held.specs.Held.{is_always_held, is_held_form, is_lvalue, is_lvalue_form, is_named_form, is_record, is_steady_form, is_taken, is_void}
 use Rattle.lift_held.specs.declared.asked.Asked.{Asked}
-use Rattle.rs_text.specs.Tree.{Ty, Pointer, ModuleTree}
+use Rattle.rs_text.specs.Tree.{ModuleTree}
 use Rattle.whole_means.proofs.ValueTypes.{value_complete}
 use Rattle.whole_means.specs.Layouts.{AreLaid, IsLaid}
 
@@ -96,8 +95,7 @@ void_held_by_none home type place (comma first second) are typed is = refl
 void_held_by_none home type place (literal number puts) are typed is = refl
 
 module _ (program : CProgram) (types : AreTypes program.types) (modules : List ModuleTree) (names : Names)
-  (type_laid : (type : CTy) (laid : Laid) → extent (layouts_of program.types) type ≡ Some laid → IsLaid modules (type_in names type)) where
-
+    (type_laid : (type : CTy) (laid : Laid) → extent (layouts_of program.types) type ≡ Some laid → IsLaid modules (type_in names type)) where
   complete_laid : (type : CTy) (found : Option Laid) → extent (layouts_of program.types) type ≡ found → IsSome found → IsLaid modules (type_in names type)
   complete_laid type None is some = absurd cc
   complete_laid type (Some laid) is some = type_laid type laid is

@@ -1,10 +1,9 @@
 -- The value of a typed expression has a complete type, but where that is `void` (ISO C99, 6.3.2.1p2, 6.5.2.2p1, 6.5.16).
 use Rattle.std.proofs.Common.{◌≡◌, ℕ, Bool, true, false, Option, Some, None, IsSome, IfSome, refl, sym, ap, subst, ◌∙◌, ◌⊎◌, inl, inr}
 use Rattle.cx_core.specs.Conversions.{IsIntegerType, IsPromoted, IsScalarType}
-use Rattle.cx_core.specs.Layouts.{extent, layouts_of}
-use Rattle.cx_core.specs.Trees.{CTy, ty, CTyForm, void, basic, enum_type, pointer, array, record_type, function, form_of_type, is_const_type, unqualified, CTypes, CMember, CExpr, expr, CForm, whole, null, object, code, load, deref, member, address, convert, unary, binary, and, or, cond, assign, assign_by, step, call, call_by, comma, literal, CExprs, type_of}
-use Rattle.cx_core.specs.Typing.{CCallee, CHome, AreCommon, IsAddressOf, IsBinaryOf, IsCallBy, IsCalleeOf, IsCallOf, IsCodeOf, IsConversion, IsDifference, IsElementPointer, IsMoved, IsPointer, IsResult, IsTyped, IsUnaryOf, callee_with}
-use Rattle.cx_core.specs.ValidTypes.{AreTypes, IsComplete, IsMemberOf, IsResultForm, with_const}
+use Rattle.cx_core.specs.Trees.{CTy, ty, CTyForm, void, basic, enum_type, pointer, array, record_type, function, form_of_type, is_const_type, unqualified, CTypes, CExpr, expr, whole, null, object, code, load, deref, member, address, convert, unary, binary, and, or, cond, assign, assign_by, step, call, call_by, comma, literal, CExprs, type_of}
+use Rattle.cx_core.specs.Typing.{CCallee, CHome, IsAddressOf, IsBinaryOf, IsCallBy, IsCalleeOf, IsCallOf, IsCodeOf, IsConversion, IsElementPointer, IsMoved, IsPointer, IsResult, IsTyped, IsUnaryOf, callee_with}
+use Rattle.cx_core.specs.ValidTypes.{AreTypes, IsComplete, IsResultForm, with_const}
 use Rattle.cx_core.specs.declared.expr.Op1.{Op1}
 use Rattle.cx_core.specs.declared.expr.Op1.TheVariants as op1
 use Rattle.cx_core.specs.declared.expr.Op2.{Op2}
