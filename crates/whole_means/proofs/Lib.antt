@@ -20,6 +20,7 @@ pub mod Numbers
 pub mod Outers
 pub mod Outside
 pub mod ParamObjects
+pub mod OwnObjects
 pub mod Params
 pub mod Passing
 pub mod Records
