@@ -1,14 +1,18 @@
 -- Each object of a function's blocks has a local of its type (ISO C99, 6.2.4p5).
-use Rattle.std.proofs.Common.{◌≡◌, ℕ, ◌&&◌, Bool, true, false, List, [], ◌++◌, codes, filter, if◌then◌else◌, ◌∷◌, length, Option, Some, None, is_some, is_none, refl, ap, ◌∙◌}
+use Rattle.std.proofs.Common.{arith, length-append, map, ◌+◌, ◌==◌, ◌≡◌, ℕ, ◌&&◌, Bool, true, false, List, [], ◌++◌, codes, filter, if◌then◌else◌, ◌∷◌, length, Option, Some, None, is_some, is_none, refl, ap, ◌∙◌}
+use Rattle.std.proofs.lemmas.Option.{slice_get_within}
+use Rattle.std.specs.List.{list_any}
 use Rattle.cx_core.specs.Trees.{CObject, CFun, CProgram, form_of_type}
-use Rattle.lift_forms.specs.Places.{Kept}
+use Rattle.lift_calls.specs.Frames.{KeptTemporary}
+use Rattle.lift_exprs.specs.Names.{type_in}
 use Rattle.rs_items.specs.Types.{rust_type}
-use Rattle.rs_text.specs.Tree.{Local}
-use Rattle.whole_bodies.specs.Names.{own_names, temporaries_of}
+use Rattle.rs_text.specs.Tree.{Local, Ty}
+use Rattle.whole_bodies.specs.Names.{held_in_body, index_in, locals_of, module_names_in, names_in, object_type, own_names, temporaries_of, zero_name, zeroed_objects}
+use Rattle.whole_means.proofs.Entries.{index_at}
 use Rattle.whole_means.proofs.Lists.{Among, among_filter_in, among_left, among_map_in, among_right}
 use Rattle.whole_means.proofs.Things.{object_there}
-use Rattle.whole_means.proofs.Whole.{local_some, name_there}
-use Rattle.whole_means.specs.FunctionNames.{kept_by, kept_found, kept_names}
+use Rattle.whole_means.proofs.Whole.{local_some, name_there, temporary_named}
+use Rattle.whole_means.specs.FunctionNames.{kept_by, kept_found, kept_names, kept_zero, zero_number}
 use Rattle.whole_means.specs.Written.{IsNamed}
 use Rattle.whole_names.specs.FunctionNames.{WantedLocal, a_local, a_result, gives_record, is_local_of, locals_that, wanted_in, wanted_locals, wanted_object, wanted_params, wanted_temporaries}
 use Rattle.whole_names.specs.Kept.{NamedProgram, local_among, types_of}
@@ -58,3 +62,28 @@ module _ (whole : NamedProgram) (fun : CFun) where
       (x : List ℕ) × ((kept_names whole fun).objects o.object ≡ Some (record { place = Local x; ty = rust_type (types_of whole) o.type }))
   own_kept is o there local =
       let name = own_name o there local in (name.0, ap (kept_found whole fun) (object_there whole is o there) ∙ ap (kept_by whole o) name.1)
+
+  -- ---- zero bytes
+
+  -- an object to which zero bytes are copied has a temporary from which they come, of its type
+  pub record HasZeros (number : ℕ) : Type 0 where
+    pub zero : KeptTemporary
+    pub zero_is : (kept_names whole fun).zeros number ≡ Some zero
+    pub name_is : zero_name whole fun (own_names whole fun) number ≡ zero.name
+    pub ty_is : zero.ty ≡ rust_type (types_of whole) (object_type whole number)
+
+  pub has_zeros : (number : ℕ) → list_any (λ other. other == number) (zeroed_objects whole fun) ≡ true → HasZeros number
+  has_zeros number there =
+      let type_at : ℕ → Ty = λ n. type_in (module_names_in whole fun.unit) (object_type whole n) in
+      let numbers = zeroed_objects whole fun in
+      let held = held_in_body whole fun in
+      let within = slice_get_within (map type_at numbers) (index_in number numbers) (type_at number) (index_at type_at numbers number there) in
+      let count : length (temporaries_of whole fun) ≡ length held + length (map type_at numbers) = length-append held (map type_at numbers) in
+      let name = temporary_named whole fun (zero_number whole fun number) (omega (arith, within, count)) in
+      let x = (names_in whole fun.unit (locals_of whole fun)).temporary (zero_number whole fun number) in
+      record {
+        zero = record { name = x; ty = type_at number };
+        zero_is = ap (kept_zero whole fun number) name ∙ ap (λ (t : Bool). if t then Some (record { name = x; ty = type_at number }) else None) there;
+        name_is = ap (name_or []) name;
+        ty_is = refl;
+      }
