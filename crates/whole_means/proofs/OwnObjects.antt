@@ -50,12 +50,14 @@ module _ (whole : NamedProgram) (fun : CFun) where
   own_name o there local =
       let count = length (temporaries_of whole fun) in
       let result : List WantedLocal = if gives_record (form_of_type fun.type) then record { key = a_result; wanted = codes "ret" } ∷ [] else [] in
-      let found = local_among (a_local o.object) (own_names whole fun) in
-      (name_or [] found, name_there found (local_some (taken_names program fun.unit) (wanted_in program fun count) (a_local o.object)
-      (among_map_in (λ (one : WantedLocal). one.key) (wanted_in program fun count) (wanted_object o)
-      (among_left (wanted_locals program fun) (wanted_temporaries 0 count) (wanted_object o)
-      (among_right result (wanted_params program fun.params ++ (named ++ nameless)) (wanted_object o)
-      (among_right (wanted_params program fun.params) (named ++ nameless) (wanted_object o) (wanted_there o there local)))))))
+      let found = local_among (a_local o.object) (own_names whole fun) in (
+        name_or [] found,
+        name_there found (local_some (taken_names program fun.unit) (wanted_in program fun count) (a_local o.object)
+            (among_map_in (λ (one : WantedLocal). one.key) (wanted_in program fun count) (wanted_object o)
+            (among_left (wanted_locals program fun) (wanted_temporaries 0 count) (wanted_object o)
+            (among_right result (wanted_params program fun.params ++ (named ++ nameless)) (wanted_object o)
+            (among_right (wanted_params program fun.params) (named ++ nameless) (wanted_object o) (wanted_there o there local)))))),
+      )
 
   -- and is kept with it
   pub own_kept : (is : IsNamed whole) (o : CObject) → Among program.objects o → is_local_of fun o ≡ true →
