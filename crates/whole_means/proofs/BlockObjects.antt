@@ -1,5 +1,5 @@
 -- The objects of a function's blocks are complete (ISO C99, 6.7p7).
-use Rattle.std.proofs.Common.{◌≡◌, ℕ, ◌&&◌, not, Bool, true, false, if◌then◌else◌, List, [], ◌∷◌, ◌++◌, filter, Option, Some, None, IsSome, IfSome, refl, sym, subst, inl, inr}
+use Rattle.std.proofs.Common.{◌≡◌, ℕ, ◌&&◌, not, Bool, true, false, if◌then◌else◌, List, [], ◌∷◌, ◌++◌, filter, Option, Some, None, IsSome, IfSome, refl, subst, inl, inr}
 use Rattle.std.specs.List.{Contains}
 use Rattle.build_flow_nodes.specs.Parts.{is_copied, leaves_bits_of, zeroed_among, zeroed_at, zeroed_in, zeroed_in_else, zeroed_in_form, zeroed_of}
 use Rattle.cr_base.specs.declared.layout.Laid.{Laid}

@@ -67,7 +67,7 @@ both_numbers n m = by_test (n == m) (m == n) refl refl
     by_test false true e f = absurd (let h : true ≡ false = sym (number_self n) ∙ ap (λ k. n == k) (sym (number_same m n f)) ∙ e in cc)
 
 -- a number of a list is at its index
-index_at : (f : ℕ → Ty) (numbers : List ℕ) (number : ℕ) → list_any (λ other. other == number) numbers ≡ true → slice_get (map f numbers) (index_in number numbers) ≡ Some (f number)
+pub index_at : (f : ℕ → Ty) (numbers : List ℕ) (number : ℕ) → list_any (λ other. other == number) numbers ≡ true → slice_get (map f numbers) (index_in number numbers) ≡ Some (f number)
 index_at f [] number there = absurd cc
 index_at f (one ∷ numbers) number there = by_test (one == number) refl (index_at f numbers number)
   where

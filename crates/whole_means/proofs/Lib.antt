@@ -5,6 +5,7 @@ pub mod Callees
 pub mod Differ
 pub mod Entries
 pub mod Fields
+pub mod HeldLaid
 pub mod HeldTypes
 pub mod Items
 pub mod Keys
@@ -19,6 +20,7 @@ pub mod Numbers
 pub mod Outers
 pub mod Outside
 pub mod ParamObjects
+pub mod OwnObjects
 pub mod Params
 pub mod Passing
 pub mod Records
@@ -28,4 +30,5 @@ pub mod Statics
 pub mod Taking
 pub mod Things
 pub mod Together
+pub mod ValueTypes
 pub mod Whole

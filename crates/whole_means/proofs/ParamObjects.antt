@@ -1,19 +1,18 @@
 -- The parameters of a function of C: objects of types that are accessed as scalars, or as structures and unions (ISO C99, 6.7.5.3 and 6.9.1p7).
-use Rattle.std.proofs.Common.{◌≡◌, ℕ, Bool, true, false, List, [], ◌∷◌, Option, Some, None, Ok, IsSome, IfSome, refl, sym, ap, subst, ◌∙◌, inl, inr}
+use Rattle.std.proofs.Common.{◌≡◌, ℕ, Bool, true, false, List, [], ◌∷◌, Option, Some, None, Ok, IsSome, IfSome, refl, sym, ap, subst, inl, inr}
 use Rattle.cr_base.specs.declared.layout.Laid.{Laid}
 use Rattle.cr_base.specs.declared.scalar.Scalar.{Scalar}
 use Rattle.cx_core.specs.Conversions.{scalar_of}
 use Rattle.cx_core.specs.Layouts.{extent, layouts_of}
-use Rattle.cx_core.specs.Linked.{IsTypedObject, home_of}
+use Rattle.cx_core.specs.Linked.{home_of}
 use Rattle.cx_core.specs.Statements.{AreParams, AreParamsOf, IsDefinitionOf, IsParamObject}
 use Rattle.cx_core.specs.Trees.{CFun, CObject, CTy, ty, CTyForm, void, basic, enum_type, pointer, array, record_type, function, CParams, unlisted, listed, CTys, no_types, more_types, CProgram, form_of_type, unqualified}
-use Rattle.cx_core.specs.Typing.{CHome, object_with}
+use Rattle.cx_core.specs.Typing.{object_with}
 use Rattle.cx_core.specs.ValidTypes.{AreParamsIn, AreTypes, AreTypesIn, IsComplete, IsParamForm, IsResultForm, IsTypeIn}
 use Rattle.cx_mean.specs.Accesses.{kind_of, of_record, of_scalar, record_kind, scalar_kind}
 use Rattle.cx_mean.specs.Settings.{setting_of}
 use Rattle.cx_typed_work.proofs.Accesses.{IsAccess, IsScalarAccess, access_of}
 use Rattle.mem_bytes.specs.Coding.{IsScalar}
-use Rattle.whole_means.proofs.Lists.{Among, find_there}
 use Rattle.whole_names.specs.FunctionNames.{is_record}
 
 -- ---- parameters

@@ -1,34 +1,31 @@
 -- The parameters of a function of the crate, and the copies of structures and unions, are those of C, in order (ISO C99, 6.5.2.2p4 and 6.9.1p10).
-use Rattle.std.proofs.Common.{◌≡◌, ◌≢◌, ℕ, zero, suc, ◌<◌, ◌==◌, ◌&&◌, not, Bool, true, false, if◌then◌else◌, List, [], ◌∷◌, ◌++◌, map, filter, length, codes, Option, Some, None, Ok, is_some, is_none, refl, sym, ap, subst, ◌∙◌, ◌⊎◌, inl, inr, append_assoc}
-use Rattle.std.proofs.lemmas.Bool.{and_parts, not-true}
+use Rattle.std.proofs.Common.{◌≡◌, ◌≢◌, ℕ, ◌<◌, ◌==◌, ◌&&◌, not, Bool, true, false, if◌then◌else◌, List, [], ◌∷◌, ◌++◌, length, codes, Option, Some, None, is_some, refl, sym, ap, subst, ◌∙◌, inl, inr}
 use Rattle.std.proofs.lemmas.List.Elements.{All-contains}
 use Rattle.std.specs.List.{Contains, flat_map}
-use Rattle.cr_base.specs.declared.layout.Laid.{Laid}
 use Rattle.cx_core.specs.Layouts.{layouts_of}
 use Rattle.cx_core.specs.Linked.{IsTypedObject}
-use Rattle.cx_core.specs.Statements.{objects_in}
-use Rattle.cx_core.specs.Trees.{CFun, CObject, CTy, CTyForm, void, basic, enum_type, pointer, array, record_type, function, CProgram, form_of_type, unqualified}
+use Rattle.cx_core.specs.Trees.{CFun, CObject, CTy, CTyForm, void, basic, enum_type, pointer, array, record_type, function, CProgram, form_of_type}
 use Rattle.cx_core.specs.Typing.{object_with}
 use Rattle.cx_mean.specs.Operands.{Frame as CFrame}
 use Rattle.lift_calls.specs.Frames.{FunctionNames}
 use Rattle.lift_calls.specs.Programs.{Setting}
 use Rattle.lift_calls_entry.specs.Entry.{AllDiffer, AreParams, IsObjectLocal, IsPlainParam, IsRecordParam}
-use Rattle.lift_exprs.specs.Names.{Names, kept_or, type_in}
+use Rattle.lift_exprs.specs.Names.{Names, kept_or}
 use Rattle.lift_exprs.specs.Objects.{object_at}
 use Rattle.lift_exprs.specs.Written.{copied}
 use Rattle.lift_forms.proofs.SameTypes.{same_itself}
 use Rattle.lift_forms.specs.Given.{address_of, pointed}
-use Rattle.lift_forms.specs.Places.{Kept, object_place, same_type}
+use Rattle.lift_forms.specs.Places.{Kept, object_place}
 use Rattle.lift_held.specs.Held.{is_record_form}
 use Rattle.rs_items.specs.Types.{rust_type}
 use Rattle.rs_items_rules.proofs.Types.{complete_fits}
 use Rattle.rs_items_sets.specs.Names.{rust_name}
 use Rattle.rs_items_sets.specs.declared.scope.NameScope.TheVariants.{Function}
 use Rattle.rs_mean.specs.Layout.{laid_at}
-use Rattle.rs_text.specs.Tree.{Ty, Pointer, Local, AddressOf, Cast, Read, Expr, Place, Stmt, Stmts, LocalTree, FunctionTree, ModuleTree}
+use Rattle.rs_text.specs.Tree.{Ty, Pointer, Local, AddressOf, Cast, Read, Place, Stmt, Stmts, LocalTree}
 use Rattle.whole_bodies.specs.Bodies.{copy_of_passed}
-use Rattle.whole_bodies.specs.Names.{locals_of, names_in, object_type, own_names, type_of_found}
-use Rattle.whole_items.specs.Items.{WrittenBodies, is_param, is_plain_param, local_of, object_local, param_by, param_of, type_of_object}
+use Rattle.whole_bodies.specs.Names.{locals_of, names_in, own_names, type_of_found}
+use Rattle.whole_items.specs.Items.{WrittenBodies, is_param, is_plain_param, object_local, param_by, param_of, type_of_object}
 use Rattle.whole_means.proofs.Entries.{local_there, tree_with}
 use Rattle.whole_means.proofs.Keys.{number_same, number_self}
 use Rattle.whole_means.proofs.Layouts.{all_kept}
@@ -40,7 +37,7 @@ use Rattle.whole_means.proofs.Whole.{objects_are}
 use Rattle.whole_means.specs.FunctionNames.{kept_by, kept_found, kept_names}
 use Rattle.whole_means.specs.Settings.{setting_with}
 use Rattle.whole_means.specs.Written.{IsNamed}
-use Rattle.whole_names.specs.FunctionNames.{LocalKey, a_local, a_passed, LocalName, WantedLocal, is_record, locals_from, object_is_record, object_name, wanted_param, wanted_params}
+use Rattle.whole_names.specs.FunctionNames.{a_local, a_passed, LocalName, WantedLocal, is_record, locals_from, object_is_record, object_name, wanted_param, wanted_params}
 use Rattle.whole_names.specs.Kept.{NamedProgram, known_thing, local_among, no_locals, types_of}
 use Rattle.whole_names.specs.ModuleNames.{name_or}
 use Rattle.whole_items.specs.Items.{module_tree}
@@ -228,8 +225,7 @@ module _ (whole : NamedProgram) (is : IsNamed whole) (bodies : WrittenBodies) (f
     AreNamed list numbers = AreParams s kept locals numbers (params_in list) (copies_for numbers)
 
     module _ (number : ℕ) (numbers : List ℕ) (it : IsParamOf program number) (own_param : is_param fun.params number ≡ true) (apart : (other : ℕ) → Contains numbers other → number ≢ other)
-      (more : (taken : List (List ℕ)) → AreFound (rest_of taken numbers) numbers → AreNamed (rest_of taken numbers) numbers) where
-
+        (more : (taken : List (List ℕ)) → AreFound (rest_of taken numbers) numbers → AreNamed (rest_of taken numbers) numbers) where
       abbrev name : List ℕ
       name = object_name (codes "arg") (object_with number program.objects)
 
@@ -245,7 +241,8 @@ module _ (whole : NamedProgram) (is : IsNamed whole) (bodies : WrittenBodies) (f
           let here : local_among (a_local number) own ≡ Some x = (found number (inl refl)).0 ∙ ap (λ t. if t then Some x else local_among (a_local number) rest) (number_self number) in
           let others : AreFound rest numbers = λ other there. (
             (found other (inr there)).0 ∙ ap (λ t. if t then Some x else local_among (a_local other) rest) (not_it other there),
-            (found other (inr there)).1) in
+            (found other (inr there)).1,
+          ) in
           let param : param_by whole fun x (a_local number) ≡ record { name = x; ty = rust_type (types_of whole) it.one.type } ∷ [] = param_is number it x own_param plain in
           let copies : copies_for (number ∷ numbers) ≡ copies_for numbers = ap (λ (list : List Stmt). list ++ copies_for numbers) (no_copy number it plain) in
           subst (λ (list : List LocalTree). AreParams s kept locals (number ∷ numbers) (list ++ params_in rest) (copies_for (number ∷ numbers))) (sym param)
@@ -265,7 +262,8 @@ module _ (whole : NamedProgram) (is : IsNamed whole) (bodies : WrittenBodies) (f
           (found number (inl refl)).1 ∙ ap (λ t. if t then Some passed else local_among (a_passed number) (record { key = a_local number; name = x } ∷ rest)) (number_self number) in
           let others : AreFound rest numbers = λ other there. (
             (found other (inr there)).0 ∙ ap (λ t. if t then Some x else local_among (a_local other) rest) (not_it other there),
-            (found other (inr there)).1 ∙ ap (λ t. if t then Some passed else local_among (a_passed other) rest) (not_it other there)) in
+            (found other (inr there)).1 ∙ ap (λ t. if t then Some passed else local_among (a_passed other) rest) (not_it other there),
+          ) in
           let ty = rust_type (types_of whole) it.one.type in
           let param : param_by whole fun passed (a_passed number) ++ param_by whole fun x (a_local number) ≡ record { name = passed; ty = Pointer ty } ∷ [] = passed_is_param number it passed x whole_record in
           let copy : copy_of_passed whole fun number ≡ copied (Read (Local passed)) (AddressOf (Local x)) it.laid.size ∷ [] = copy_text number it passed x passed_is local_is whole_record in

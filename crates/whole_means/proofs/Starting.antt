@@ -1,12 +1,12 @@
 -- Each parameter and local of a function has a layout (ISO C99, 6.2.4p5; the Rust Reference, "Type layout").
-use Rattle.std.proofs.Common.{arith, ◌≡◌, ℕ, zero, suc, ◌<◌, ◌==◌, ◌&&◌, ◌||◌, not, Bool, true, false, if◌then◌else◌, List, [], ◌∷◌, ◌++◌, map, filter, length, codes, Option, Some, None, slice_get, is_some, is_none, refl, sym, ap, subst, ◌∙◌, ◌⊎◌, inl, inr}
+use Rattle.std.proofs.Common.{arith, ◌≡◌, ℕ, zero, suc, ◌==◌, ◌&&◌, ◌||◌, not, Bool, true, false, if◌then◌else◌, List, [], ◌∷◌, ◌++◌, map, filter, length, codes, Option, Some, None, slice_get, is_some, is_none, refl, sym, ap, subst, ◌∙◌, ◌⊎◌, inl, inr}
 use Rattle.std.proofs.lemmas.Bool.{and_parts}
 use Rattle.std.proofs.lemmas.List.Elements.{All-contains}
-use Rattle.std.specs.List.{Contains, flat_map, list_any}
+use Rattle.std.specs.List.{Contains, flat_map}
 use Rattle.cr_base.specs.declared.layout.Laid.{Laid}
 use Rattle.cx_core.specs.Layouts.{extent, layouts_of}
 use Rattle.cx_core.specs.Linked.{IsTypedFunction, home_of}
-use Rattle.cx_core.specs.Statements.{IsDefinitionOf, IsTypedStmt, CBody, body_of, objects_in}
+use Rattle.cx_core.specs.Statements.{IsDefinitionOf, IsTypedStmt, body_of, objects_in}
 use Rattle.cx_core.specs.Trees.{CFun, CObject, CTy, ty, void, basic, enum_type, pointer, array, record_type, function, CProgram, form_of_type}
 use Rattle.cx_core.specs.Typing.{object_with}
 use Rattle.cx_mean.specs.Operands.{Frame as CFrame}
@@ -17,7 +17,7 @@ use Rattle.rs_items.specs.Types.{rust_type}
 use Rattle.rs_items_rules.proofs.Types.{complete_fits}
 use Rattle.rs_items_sets.specs.Names.{rust_name}
 use Rattle.rs_items_sets.specs.declared.scope.NameScope.TheVariants.{Function}
-use Rattle.rs_mean.specs.Layout.{laid_at, laid_of}
+use Rattle.rs_mean.specs.Layout.{laid_at}
 use Rattle.rs_text.specs.Tree.{Ty, Pointer, LocalTree, FunctionTree, ModuleTree, Stmts}
 use Rattle.whole_bodies.specs.Names.{held_in_body, module_names_in, object_type, temporaries_of, type_of_found, zeroed_objects}
 use Rattle.whole_items.specs.Items.{WrittenBodies, count_of, dispatch_local, is_plain_param, local_by, local_of, module_tree, names_of_body, object_local, param_by, param_of, result_of_form, result_param, temporary_named, type_of_object}

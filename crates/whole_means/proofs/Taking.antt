@@ -8,7 +8,7 @@ use Rattle.cx_core.specs.Layouts.{extent, layouts_of}
 use Rattle.cx_core.specs.Linked.{IsTypedFunction, home_of}
 use Rattle.cx_core.specs.Statements.{IsDefinitionOf, objects_in}
 use Rattle.cx_core.specs.Trees.{CFun, CObject, CTy, ty, void, basic, enum_type, pointer, array, record_type, function, CProgram, form_of_type}
-use Rattle.cx_core.specs.Typing.{IsResult, object_with}
+use Rattle.cx_core.specs.Typing.{object_with}
 use Rattle.cx_mean.specs.Operands.{Frame as CFrame}
 use Rattle.lift_calls.specs.Calls.{result_laid}
 use Rattle.lift_calls.specs.Frames.{FunctionNames}
@@ -17,11 +17,11 @@ use Rattle.lift_calls_entry.specs.Entry.{AreParams, ResultParam}
 use Rattle.rs_items.specs.Types.{rust_type}
 use Rattle.rs_items_sets.specs.Names.{rust_name}
 use Rattle.rs_items_sets.specs.declared.scope.NameScope.TheVariants.{Function}
-use Rattle.rs_text.specs.Tree.{Ty, Pointer, LocalTree, FunctionTree, ModuleTree, Stmts}
+use Rattle.rs_text.specs.Tree.{Pointer, LocalTree, FunctionTree, Stmts}
 use Rattle.whole_bodies.specs.Bodies.{copies_of_passed}
 use Rattle.whole_bodies.specs.Names.{own_names, temporaries_of}
 use Rattle.whole_items.specs.Items.{WrittenBodies, module_tree, object_local, param_by, param_of, result_of_form, result_param}
-use Rattle.whole_means.proofs.Entries.{body_with, own_same, params_differ, tree_with}
+use Rattle.whole_means.proofs.Entries.{own_same, params_differ, tree_with}
 use Rattle.whole_means.proofs.Keys.{any_there, number_self}
 use Rattle.whole_means.proofs.Lists.{Among, among_cases, among_contains, among_filter, among_map}
 use Rattle.whole_means.proofs.Modules.{modules_by}
@@ -30,7 +30,7 @@ use Rattle.whole_means.proofs.Passing.{all_named}
 use Rattle.whole_means.specs.FunctionNames.{kept_names}
 use Rattle.whole_means.specs.Settings.{setting_with}
 use Rattle.whole_means.specs.Written.{IsNamed}
-use Rattle.whole_names.specs.FunctionNames.{a_local, a_passed, a_result, LocalName, WantedLocal, gives_record, is_among, is_local_of, is_record, locals_from, locals_that, object_is_record, object_name, wanted_object, wanted_param, wanted_params, wanted_temporaries}
+use Rattle.whole_names.specs.FunctionNames.{a_local, a_passed, a_result, LocalName, WantedLocal, gives_record, is_among, is_local_of, locals_from, locals_that, object_is_record, object_name, wanted_object, wanted_params, wanted_temporaries}
 use Rattle.whole_names.specs.Kept.{NamedProgram, local_among, types_of}
 use Rattle.whole_names.specs.ModuleNames.{taken_names}
 

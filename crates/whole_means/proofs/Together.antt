@@ -24,7 +24,7 @@ use Rattle.whole_means.specs.FunctionNames.{kept_names}
 use Rattle.whole_means.specs.Settings.{setting_with}
 use Rattle.whole_items.specs.Items.{WrittenBodies}
 use Rattle.rs_text.specs.Tree.{ModuleTree, no_stmts}
-use Rattle.std.proofs.Common.{◌≡◌, List, [], false, sym, subst, ◌∙◌}
+use Rattle.std.proofs.Common.{List, [], false, sym, subst, ◌∙◌}
 
 -- names don't depend on bodies
 no_bodies : WrittenBodies

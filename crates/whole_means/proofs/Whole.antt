@@ -78,7 +78,7 @@ names_mean whole shape statics fun home is program =
 
 -- ---- temporaries
 
-local_some : (taken : List (List ℕ)) (wanted : List WantedLocal) (key : LocalKey) → Among (map (λ (one : WantedLocal). one.key) wanted) key → IsSome (local_among key (locals_from taken wanted))
+pub local_some : (taken : List (List ℕ)) (wanted : List WantedLocal) (key : LocalKey) → Among (map (λ (one : WantedLocal). one.key) wanted) key → IsSome (local_among key (locals_from taken wanted))
 local_some taken [] key there = absurd there
 local_some taken (first ∷ wanted) key there =
     by_test (same_local key first.key) refl (local_some (taken ++ rust_name taken Function first.wanted ∷ []) wanted key) there
@@ -103,7 +103,7 @@ keys_append : (xs ys : List WantedLocal) → map (λ (one : WantedLocal). one.ke
 keys_append [] ys = refl
 keys_append (x ∷ xs) ys = ap (λ (rest : List LocalKey). x.key ∷ rest) (keys_append xs ys)
 
-name_there : (found : Option (List ℕ)) → IsSome found → found ≡ Some (name_or [] found)
+pub name_there : (found : Option (List ℕ)) → IsSome found → found ≡ Some (name_or [] found)
 name_there None is = absurd cc
 name_there (Some x) is = refl
 

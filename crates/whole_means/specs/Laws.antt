@@ -24,7 +24,7 @@ use Rattle.whole_means.specs.Layouts.{AreLaid}
 use Rattle.whole_means.specs.Settings.{modules_of, setting_of}
 use Rattle.whole_means.specs.Written.{IsNamed}
 use Rattle.whole_names.specs.Keys.{calls_of, is_bare_too, order_of}
-use Rattle.whole_names.specs.Kept.{LocalNames, NamedProgram, code_type, types_of}
+use Rattle.whole_names.specs.Kept.{LocalNames, NamedProgram, code_type}
 
 -- the names with which a function is written mean what they say, where these are those that it keeps
 abbrev pub NamesMeanInCrate : Type 0
