@@ -1,7 +1,9 @@
 pub mod Blocks
+pub mod Fields
 pub mod Functions
 pub mod Names
 pub mod Order
 pub mod Outers
+pub mod Records
 pub mod Statics
 pub mod Types
