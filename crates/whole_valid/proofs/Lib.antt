@@ -1,4 +1,5 @@
 pub mod Blocks
+pub mod Crate
 pub mod Fields
 pub mod Functions
 pub mod Names
