@@ -1,21 +1,21 @@
 -- The written crate is a crate of the subset (the Rust Reference, "Crates and source files").
-use Rattle.std.proofs.Common.{arith, ◌≡◌, ◌<◌, ℕ, zero, suc, ◌+◌, Bool, true, false, ◌&&◌, if◌then◌else◌, List, [], ◌∷◌, ◌++◌, codes, length, filter, map, ◌==◌, Option, Some, None, IfSome, IsSome, All, is_some, slice_get, refl, sym, ap, subst, ◌∙◌, ◌⊎◌, inl, inr}
+use Rattle.std.proofs.Common.{arith, ◌≡◌, ◌<◌, ℕ, zero, suc, ◌+◌, Bool, true, false, ◌&&◌, if◌then◌else◌, List, [], ◌∷◌, ◌++◌, codes, length, filter, map, ◌==◌, Option, Some, None, IsSome, slice_get, refl, sym, ap, subst, ◌∙◌, ◌⊎◌, inl, inr}
 use Rattle.std.proofs.lemmas.Bool.{and_from, and_parts}
-use Rattle.std.specs.List.{list_all, list_any}
+use Rattle.std.specs.List.{list_all}
 use Rattle.std.specs.Option.{option_flatten}
 use Rattle.std.specs.Str.{bytes_eq}
 use Rattle.cx_core.specs.Layouts.{CRow, layouts_of, row_at}
 use Rattle.cx_core.specs.Linked.{main_of, is_main}
-use Rattle.cx_core.specs.Trees.{CFun, CObject, CProgram, CPuts, CRecord}
+use Rattle.cx_core.specs.Trees.{CFun, CProgram, CRecord}
 use Rattle.rs_text.specs.Names.{is_module_name}
-use Rattle.rs_text.specs.Tree.{CrateTree, ExternItem, FunctionItem, ItemTree, ModuleTree, OuterTree, RecordItem, StaticItem}
-use Rattle.rs_text.specs.Valid.{all_differ, are_in_order, ends_with_initialiser, has_entry, is_function, valid_count, valid_crate, valid_function, valid_item, valid_items, valid_names, valid_outer, valid_record, valid_static}
+use Rattle.rs_text.specs.Tree.{ExternItem, FunctionItem, ItemTree, ModuleTree, OuterTree}
+use Rattle.rs_text.specs.Valid.{all_differ, are_in_order, ends_with_initialiser, has_entry, is_function, valid_count, valid_crate, valid_item, valid_items, valid_names, valid_outer, valid_record}
 use Rattle.cx_core.specs.declared.program.Linkage.{Linkage}
 use Rattle.cx_core.specs.declared.program.Linkage.TheVariants.{External, Internal, Nothing}
 use Rattle.whole_bodies.specs.Bodies.{ShapeOf, written_bodies}
 use Rattle.whole_bodies.specs.Crates.{entry_unit, modules_from}
 use Rattle.whole_items.specs.Items.{WrittenBodies, extern_items, function_items, function_tree, record_items, static_items, initialiser_tree, module_tree, outers_of}
-use Rattle.whole_means.proofs.Items.{Stands, function_item_there, item_stands, record_written, static_tree}
+use Rattle.whole_means.proofs.Items.{Stands, function_item_there, item_stands, record_written}
 use Rattle.whole_means.proofs.Items.Stands.{is_record, is_static, is_extern, is_function as is_function_item, is_initialiser}
 use Rattle.whole_means.proofs.Lists.{Among, among_cases, among_filter_in, among_map_in, find_there, texts_same}
 use Rattle.whole_means.proofs.Keys.{any_there, key_self, number_self}

@@ -1,22 +1,20 @@
 -- The fields of a written record are valid (ISO C99, 6.7.2.1; the Rust Reference, "Structs" and "Identifiers").
-use Rattle.std.proofs.Common.{arith, ◌≡◌, ◌<◌, ◌≤◌, ℕ, ◌+◌, ◌-◌, ◌*◌, ◌^◌, nat_le, nat_lt, Bool, true, false, ◌&&◌, if◌then◌else◌, List, [], ◌∷◌, ◌++◌, codes, length, length-append, option_map, Option, Some, None, IsSome, is_some, refl, sym, ap, subst, ◌∙◌, ◌⊎◌, inl, inr}
+use Rattle.std.proofs.Common.{arith, ◌≡◌, ◌<◌, ◌≤◌, ℕ, ◌+◌, ◌-◌, ◌*◌, ◌^◌, nat_le, nat_lt, Bool, true, false, if◌then◌else◌, List, [], ◌∷◌, codes, length, length-append, Option, Some, None, IsSome, is_some, refl, sym, ap, subst, ◌∙◌, ◌⊎◌, inl, inr}
 use Rattle.std.proofs.lemmas.Bool.{and_from}
 use Rattle.std.proofs.lemmas.Bool.Decides.{nat_tests}
-use Rattle.std.specs.List.{list_all}
-use Rattle.std.specs.Option.{option_and_then}
 use Rattle.cr_base.specs.Layout.{most_bytes}
 use Rattle.cr_base.specs.declared.layout.Front.{Front}
 use Rattle.cr_base.specs.declared.layout.Laid.{Laid}
 use Rattle.cr_base.specs.declared.layout.Spot.{Spot}
 use Rattle.cx_core.specs.Trees.{CMember, CRecord}
 use Rattle.rs_items.specs.Known.{Knows}
-use Rattle.rs_items.specs.Records.{FieldsWalk, PlacedMember, filled, member_name, no_fields, placed_member, placed_members, put_bytes, put_field, put_member, reached, record_walk, struct_end, struct_step, struct_walk, union_step, union_walk, whole_bytes}
+use Rattle.rs_items.specs.Records.{FieldsWalk, PlacedMember, member_name, no_fields, placed_members, put_bytes, put_field, put_member, record_walk, struct_end, struct_step, struct_walk, union_step, union_walk, whole_bytes}
 use Rattle.rs_items.specs.Types.{rust_type, type_names}
 use Rattle.rs_items_rules.proofs.Places.{placed_fewer}
 use Rattle.rs_items_sets.proofs.FirstFree.{names_first}
 use Rattle.rs_items_sets.specs.Names.{rust_name}
 use Rattle.rs_items_sets.specs.declared.scope.NameScope.TheVariants.{Fields}
-use Rattle.rs_mean.specs.Layout.{behind, even, front_after, laid_with, repeated, within_most}
+use Rattle.rs_mean.specs.Layout.{behind, front_after, laid_with}
 use Rattle.rs_text.specs.Names.{is_identifier, is_word}
 use Rattle.rs_text.specs.Tree.{Array, FieldTree, Integer, Ty}
 use Rattle.rs_text.specs.declared.integer.IntegerTy.TheVariants.{U8}

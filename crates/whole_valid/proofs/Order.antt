@@ -1,11 +1,11 @@
 -- The items of a module stand in the order of their kinds, and its initialiser stands last.
-use Rattle.std.proofs.Common.{arith, ◌≡◌, ℕ, ◌==◌, ◌≤◌, nat_le, Bool, true, false, ◌&&◌, if◌then◌else◌, List, [], ◌∷◌, ◌++◌, Option, Some, None, slice_get, refl, sym, ap, subst, ◌∙◌, ◌⊎◌, inl, inr}
+use Rattle.std.proofs.Common.{arith, ◌≡◌, ℕ, ◌==◌, ◌≤◌, nat_le, Bool, true, false, if◌then◌else◌, List, [], ◌∷◌, ◌++◌, Option, Some, None, slice_get, refl, subst, inl, inr}
 use Rattle.std.proofs.lemmas.Bool.{and_from, and_parts}
 use Rattle.std.proofs.lemmas.Bool.Decides.{nat_tests}
 use Rattle.std.specs.Option.{option_flatten}
 use Rattle.cx_core.specs.Layouts.{CRow, layouts_of, row_at}
 use Rattle.cx_core.specs.Trees.{CFun, CObject, CPuts, CRecord}
-use Rattle.rs_text.specs.Tree.{ExternItem, FunctionItem, ItemTree, OuterTree, RecordItem, StaticItem}
+use Rattle.rs_text.specs.Tree.{FunctionItem, ItemTree, OuterTree}
 use Rattle.rs_text.specs.Valid.{are_in_order, ends_with_initialiser, kind, next_kind}
 use Rattle.whole_items.specs.Items.{WrittenBodies, extern_items, function_items, function_of_unit, function_tree, initialiser_tree, module_tree, outers_of, record_items, record_items_of, record_with_row, static_items, static_of, static_with}
 use Rattle.whole_means.proofs.Lists.{Among, among_flat}

@@ -1,24 +1,23 @@
 -- The records of a module are valid (ISO C99, 6.7.2.1; the Rust Reference, "Structs", "Unions" and "The C representation").
 use Rattle.std.proofs.Common.{arith, ◌≡◌, ◌<◌, ℕ, ◌==◌, Bool, true, false, ◌&&◌, ◌||◌, if◌then◌else◌, nat_eq, nat_lt, List, [], ◌∷◌, Option, Some, None, IfSome, IsSome, IsTrue, All, is_some, slice_get, refl, sym, ap, subst, ◌∙◌, ◌⊎◌, inl, inr}
-use Rattle.std.proofs.lemmas.Bool.{and_from, and_parts}
+use Rattle.std.proofs.lemmas.Bool.{and_from}
 use Rattle.std.specs.List.{list_all, list_any}
 use Rattle.std.specs.Option.{option_and_then, option_flatten}
 use Rattle.cr_base.specs.Layout.{no_front}
 use Rattle.cr_base.specs.declared.layout.Front.{Front}
-use Rattle.cr_base.specs.declared.layout.Laid.{Laid}
-use Rattle.cx_core.specs.Layouts.{CRow, layouts_of, row_at}
-use Rattle.cx_core.specs.Trees.{CMember, CProgram, CRecord, ty, record_type}
+use Rattle.cx_core.specs.Layouts.{layouts_of}
+use Rattle.cx_core.specs.Trees.{CMember, CProgram, ty, record_type}
 use Rattle.cx_core.specs.ValidTypes.{IsMemberIn}
 use Rattle.cx_typed_runs.proofs.AlignedTypes.{types_aligned}
 use Rattle.cx_typed_work.proofs.Rows.{extent_whole, row_sized}
 use Rattle.mem_bytes.specs.Calls.{IsAlignment}
 use Rattle.rs_items.specs.Known.{Knows}
-use Rattle.rs_items.specs.Records.{fields_align, fields_walk, has_named_bits, member_name, raised_to, record_tree}
-use Rattle.rs_items.specs.Types.{TypeNames, rust_type, type_names}
+use Rattle.rs_items.specs.Records.{fields_align, has_named_bits, member_name, raised_to}
+use Rattle.rs_items.specs.Types.{TypeNames, rust_type}
 use Rattle.rs_items_rules.proofs.Rows.{row_laid}
 use Rattle.rs_mean.specs.Layout.{front_after, laid_at, laid_with, raised_by, record_laid}
 use Rattle.rs_text.specs.Names.{is_identifier, is_word}
-use Rattle.rs_text.specs.Tree.{FieldTree, ModuleTree, RecordTree}
+use Rattle.rs_text.specs.Tree.{ModuleTree, RecordTree}
 use Rattle.rs_text.specs.Valid.{valid_align, valid_field, valid_record, valid_ty}
 use Rattle.whole_items.specs.Items.{WrittenBodies, module_tree}
 use Rattle.whole_means.proofs.Fields.{types_same}
@@ -31,7 +30,7 @@ use Rattle.whole_means.proofs.Records.{IsDone, has_name, tree_named}
 use Rattle.whole_means.proofs.Rows.{row_in}
 use Rattle.whole_means.specs.Written.{IsNamed}
 use Rattle.whole_names.specs.Keys.{a_record}
-use Rattle.whole_names.specs.Kept.{NamedProgram, known_thing, name_in, no_locals, types_of}
+use Rattle.whole_names.specs.Kept.{NamedProgram, known_thing, no_locals}
 use Rattle.whole_valid.proofs.Fields.{MemberFits, field_laid, field_valid, fields_are}
 use Rattle.whole_valid.proofs.Names.{all_of, all_test, name_identifier}
 use Rattle.whole_valid.proofs.Types.{complete_valid}
