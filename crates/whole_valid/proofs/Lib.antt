@@ -2,6 +2,7 @@ pub mod Blocks
 pub mod Crate
 pub mod Fields
 pub mod Functions
+pub mod HasItems
 pub mod Names
 pub mod Order
 pub mod Outers
