@@ -1,13 +1,13 @@
 -- The functions of a module are valid where their bodies are (ISO C99, 6.9.1; the Rust Reference, "Functions").
-use Rattle.std.proofs.Common.{◌≡◌, ◌<◌, ℕ, zero, suc, ◌==◌, Bool, true, false, not, ◌&&◌, ◌||◌, if◌then◌else◌, List, [], ◌∷◌, ◌++◌, codes, filter, length, map, Option, Some, None, IfSome, IsSome, All, is_none, is_some, slice_get, refl, sym, ap, subst, ◌∙◌, ◌⊎◌, inl, inr}
+use Rattle.std.proofs.Common.{◌≡◌, ℕ, zero, suc, ◌==◌, Bool, true, false, not, ◌&&◌, ◌||◌, if◌then◌else◌, List, [], ◌∷◌, ◌++◌, codes, filter, map, Option, Some, None, IfSome, All, is_none, is_some, slice_get, refl, sym, ap, subst, ◌∙◌, ◌⊎◌, inl, inr}
 use Rattle.std.proofs.lemmas.Bool.{and_from, and_parts}
-use Rattle.std.specs.List.{flat_map, list_all, list_any}
+use Rattle.std.specs.List.{flat_map, list_all}
 use Rattle.std.specs.Str.{bytes_eq}
 use Rattle.cx_core.specs.Linked.{IsTypedFunction, IsTypedObject, home_of}
-use Rattle.cx_core.specs.Statements.{IsDefinitionOf, objects_in}
-use Rattle.cx_core.specs.Trees.{CFun, CObject, CProgram, CTy, ty, CTyForm, void, basic, enum_type, pointer, array, record_type, function, CParams, form_of_type}
+use Rattle.cx_core.specs.Statements.{objects_in}
+use Rattle.cx_core.specs.Trees.{CFun, CObject, CProgram, CTy, ty, CTyForm, void, basic, enum_type, pointer, array, record_type, function, form_of_type}
 use Rattle.cx_core.specs.Typing.{object_with}
-use Rattle.cx_core.specs.ValidTypes.{IsComplete, IsFormIn, IsTypeIn}
+use Rattle.cx_core.specs.ValidTypes.{IsFormIn, IsTypeIn}
 use Rattle.cx_core.specs.declared.program.Linkage.{Linkage}
 use Rattle.cx_core.specs.declared.program.Linkage.TheVariants.{External, Internal, Nothing}
 use Rattle.rs_items.specs.Types.{rust_type}
@@ -17,19 +17,19 @@ use Rattle.rs_text.specs.Tree.{LocalTree, ModuleTree, Pointer, Ty, Stmts, option
 use Rattle.rs_text.specs.Valid.{is_void, valid_attribute, valid_function, valid_local, valid_result, valid_stmts, valid_target, valid_ty}
 use Rattle.rs_items_sets.specs.Names.{rust_name}
 use Rattle.rs_items_sets.specs.declared.scope.NameScope.TheVariants.{Function}
-use Rattle.whole_items.specs.Items.{WrittenBodies, WrittenBody, attribute_of, count_of, dispatch_local, function_attribute, function_tree, initialiser_tree, is_plain_param, local_by, local_of, named, names_of_body, object_local, param_by, param_of, result_of_form, result_param, temporary_named, type_of_object, value_type, written_result}
+use Rattle.whole_items.specs.Items.{WrittenBody, attribute_of, count_of, dispatch_local, function_attribute, function_tree, initialiser_tree, is_plain_param, local_by, local_of, named, names_of_body, object_local, param_by, param_of, result_of_form, result_param, temporary_named, type_of_object, written_result}
 use Rattle.whole_means.proofs.Keys.{number_same}
 use Rattle.whole_means.proofs.Lists.{Among, among_at, among_cases, among_filter, among_flat, among_left, among_map, among_map_in, among_right, find_there}
-use Rattle.whole_means.proofs.Things.{function_named, object_there}
+use Rattle.whole_means.proofs.Things.{function_named}
 use Rattle.whole_means.specs.Written.{IsNamed}
 use Rattle.whole_names.proofs.Named.{of_functions}
-use Rattle.whole_names.specs.FunctionNames.{LocalKey, a_result, a_passed, a_local, a_temporary, LocalName, WantedLocal, gives_record, is_among, is_local_of, local_names, locals_from, locals_that, object_is_record, object_name, wanted_in, wanted_locals, wanted_object, wanted_param, wanted_params, wanted_temporaries}
+use Rattle.whole_names.specs.FunctionNames.{LocalKey, a_result, a_passed, a_local, a_temporary, LocalName, WantedLocal, gives_record, is_among, is_local_of, locals_from, locals_that, object_is_record, object_name, wanted_in, wanted_locals, wanted_object, wanted_param, wanted_params, wanted_temporaries}
 use Rattle.whole_names.specs.Keys.{a_function, is_entry}
 use Rattle.whole_names.specs.Kept.{NamedProgram, name_in, types_of}
 use Rattle.whole_names.specs.Laws.{names_of_locals, wanted_of_function}
 use Rattle.whole_names.specs.ModuleNames.{name_or, taken_names}
 use Rattle.whole_valid.proofs.Blocks.{IsBlockOf, of_definition}
-use Rattle.whole_valid.proofs.Names.{all_of, all_test, function_word, name_identifier, test_of, wanted_words}
+use Rattle.whole_valid.proofs.Names.{all_of, all_test, name_identifier, test_of, wanted_words}
 use Rattle.whole_valid.proofs.Types.{complete_valid, target_valid, value_valid}
 use Rattle.whole_valid.specs.Given.{BodyFits, HasModuleNames, HasWords}
 

@@ -1,7 +1,11 @@
 pub mod Blocks
+pub mod Crate
+pub mod Fields
 pub mod Functions
+pub mod HasItems
 pub mod Names
 pub mod Order
 pub mod Outers
+pub mod Records
 pub mod Statics
 pub mod Types

@@ -1,5 +1,5 @@
 -- The names of a module's items are identifiers where those of C are (ISO C99, 6.4.2.1; the Rust Reference, "Identifiers").
-use Rattle.std.proofs.Common.{◌≡◌, ℕ, ◌==◌, Bool, true, false, not, ◌&&◌, if◌then◌else◌, List, [], ◌∷◌, ◌++◌, codes, map, filter, find, Option, Some, None, IfSome, IsSome, is_some, All, refl, sym, ap, subst, ◌∙◌, ◌⊎◌, inl, inr, slice_get}
+use Rattle.std.proofs.Common.{◌≡◌, ℕ, ◌==◌, Bool, true, false, if◌then◌else◌, List, [], ◌∷◌, ◌++◌, codes, filter, find, Option, Some, None, IfSome, IsSome, is_some, All, refl, sym, ap, subst, ◌∙◌, ◌⊎◌, inl, inr, slice_get}
 use Rattle.std.proofs.lemmas.Bool.{and_from, and_parts}
 use Rattle.std.proofs.lemmas.List.Elements.{All-contains}
 use Rattle.std.specs.List.{list_all}
@@ -13,7 +13,7 @@ use Rattle.whole_means.proofs.Records.{IsDone, done_in}
 use Rattle.whole_means.proofs.Things.{object_there}
 use Rattle.whole_means.specs.Written.{IsNamed}
 use Rattle.whole_names.proofs.Named.{of_modules}
-use Rattle.whole_names.specs.Keys.{NameKey, a_bare_function, a_calloc, a_function, a_record, an_object, bare_functions, calls_of, entries_of, is_bare_too, is_block_static, is_defined_in, is_named_in, is_object_of, is_static_literal, is_text_of, key_of, module_keys, needs_calloc, objects_that, order_of, records_of, same_key, things_of}
+use Rattle.whole_names.specs.Keys.{NameKey, a_bare_function, a_calloc, a_record, an_object, bare_functions, calls_of, entries_of, is_bare_too, is_block_static, is_defined_in, is_named_in, is_object_of, is_static_literal, is_text_of, key_of, module_keys, needs_calloc, objects_that, order_of, records_of, same_key, things_of}
 use Rattle.whole_names.specs.Kept.{NamedProgram, name_in}
 use Rattle.whole_names.specs.Laws.{wanted_of_module}
 use Rattle.whole_names.specs.ModuleNames.{GivenName, entry_names, function_name, given_from, module_names, name_among, name_or, names_only, object_name, own_names, record_name, taken_names, wanted_name}

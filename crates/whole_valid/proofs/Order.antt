@@ -1,11 +1,11 @@
 -- The items of a module stand in the order of their kinds, and its initialiser stands last.
-use Rattle.std.proofs.Common.{arith, ◌≡◌, ℕ, ◌==◌, ◌≤◌, nat_le, Bool, true, false, ◌&&◌, if◌then◌else◌, List, [], ◌∷◌, ◌++◌, Option, Some, None, slice_get, refl, sym, ap, subst, ◌∙◌, ◌⊎◌, inl, inr}
+use Rattle.std.proofs.Common.{arith, ◌≡◌, ℕ, ◌==◌, ◌≤◌, nat_le, Bool, true, false, if◌then◌else◌, List, [], ◌∷◌, ◌++◌, Option, Some, None, slice_get, refl, subst, inl, inr}
 use Rattle.std.proofs.lemmas.Bool.{and_from, and_parts}
 use Rattle.std.proofs.lemmas.Bool.Decides.{nat_tests}
 use Rattle.std.specs.Option.{option_flatten}
 use Rattle.cx_core.specs.Layouts.{CRow, layouts_of, row_at}
 use Rattle.cx_core.specs.Trees.{CFun, CObject, CPuts, CRecord}
-use Rattle.rs_text.specs.Tree.{ExternItem, FunctionItem, ItemTree, OuterTree, RecordItem, StaticItem}
+use Rattle.rs_text.specs.Tree.{FunctionItem, ItemTree, OuterTree}
 use Rattle.rs_text.specs.Valid.{are_in_order, ends_with_initialiser, kind, next_kind}
 use Rattle.whole_items.specs.Items.{WrittenBodies, extern_items, function_items, function_of_unit, function_tree, initialiser_tree, module_tree, outers_of, record_items, record_items_of, record_with_row, static_items, static_of, static_with}
 use Rattle.whole_means.proofs.Lists.{Among, among_flat}
@@ -53,7 +53,7 @@ module _ (whole : NamedProgram) (bodies : WrittenBodies) (unit : ℕ) where
   record_of number None item there = absurd there
   record_of number (Some one) item there = record_by number one (row_at (layouts_of whole.program.types) number) item there
 
-  records_are : (item : ItemTree) → Among (record_items whole unit) item → IsOfKind 0 item
+  pub records_are : (item : ItemTree) → Among (record_items whole unit) item → IsOfKind 0 item
   records_are item there =
       let one = among_flat (λ number. record_items_of whole unit number (option_flatten (slice_get whole.program.types.records number))) (order_of whole.program unit).completed item there in
       record_of one.from (option_flatten (slice_get whole.program.types.records one.from)) item one.made
@@ -67,7 +67,7 @@ module _ (whole : NamedProgram) (bodies : WrittenBodies) (unit : ℕ) where
   static_if one true item there = static_by one one.puts item there
   static_if one false item there = absurd there
 
-  statics_are : (item : ItemTree) → Among (static_items whole unit) item → IsOfKind 1 item
+  pub statics_are : (item : ItemTree) → Among (static_items whole unit) item → IsOfKind 1 item
   statics_are item there =
       let one = among_flat (static_of whole unit) whole.program.objects item there in
       static_if one.from (one.from.unit == unit) item one.made
@@ -77,7 +77,7 @@ module _ (whole : NamedProgram) (bodies : WrittenBodies) (unit : ℕ) where
   function_if fun true item (inr none) = absurd none
   function_if fun false item there = absurd there
 
-  functions_are : (item : ItemTree) → Among (function_items whole bodies unit) item → IsOfKind 3 item
+  pub functions_are : (item : ItemTree) → Among (function_items whole bodies unit) item → IsOfKind 3 item
   functions_are item there =
       let one = among_flat (function_of_unit whole bodies unit) whole.program.functions item there in
       function_if one.from (one.from.unit == unit) item one.made

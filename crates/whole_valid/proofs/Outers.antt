@@ -1,5 +1,5 @@
 -- The external functions of a module are valid (ISO C99, 6.7.5.3; the Rust Reference, "External blocks").
-use Rattle.std.proofs.Common.{◌≡◌, ℕ, Bool, true, false, ◌&&◌, ◌||◌, if◌then◌else◌, List, [], ◌∷◌, map, codes, Option, Some, None, All, refl, sym, ap, subst, ◌∙◌, ◌⊎◌, inl, inr, eqb}
+use Rattle.std.proofs.Common.{◌≡◌, ℕ, Bool, true, false, ◌&&◌, if◌then◌else◌, List, [], ◌∷◌, map, codes, Option, Some, None, refl, sym, ap, ◌∙◌, inl, inr, eqb}
 use Rattle.std.proofs.lemmas.Bool.{and_from, and_parts}
 use Rattle.std.proofs.lemmas.List.Elements.{recursion_from_All}
 use Rattle.std.specs.List.{AllByRecursion, list_all}
@@ -13,9 +13,9 @@ use Rattle.cx_core.specs.Trees.{COuter, CProgram, CTy, ty, CTyForm, void, basic,
 use Rattle.cx_core.specs.Typing.{outer_with}
 use Rattle.rs_items.specs.Types.{TypeNames, basic_type, is_record, passed, rust_form, rust_params, rust_type, rust_types}
 use Rattle.rs_text.specs.Names.{bare_name, is_identifier, is_word}
-use Rattle.rs_text.specs.Tree.{OuterTree, Pointer, Ty, Tys, no_tys, more_tys, option_ty}
+use Rattle.rs_text.specs.Tree.{OuterTree, option_ty}
 use Rattle.rs_text.specs.Valid.{valid_outer, valid_result, valid_symbol, valid_target, valid_ty, valid_tys, valid_variadic}
-use Rattle.whole_items.specs.Items.{WrittenBodies, calloc_outer, link_name_of, outer_of_form, outers_of, tys_in, value_type, without_params}
+use Rattle.whole_items.specs.Items.{WrittenBodies, link_name_of, outer_of_form, outers_of, tys_in, value_type, without_params}
 use Rattle.whole_means.proofs.Items.{IsOuter, outer_stands}
 use Rattle.whole_means.proofs.Items.IsOuter.{declared, calloc, bare}
 use Rattle.whole_means.proofs.Lists.{Among, find_there}

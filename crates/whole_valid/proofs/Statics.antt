@@ -1,24 +1,22 @@
 -- The static objects of a module are valid (ISO C99, 6.4.5p5, 6.7.8; the Rust Reference, "Static items").
-use Rattle.std.proofs.Common.{arith, ◌≡◌, ◌<◌, ℕ, suc, ◌+◌, ◌^◌, ◌==◌, ℤ, pos, negsuc, Bool, true, false, ◌&&◌, ◌||◌, if◌then◌else◌, nat_eq, nat_lt, List, [], ◌∷◌, codes, length, option_map, Option, Some, None, IfSome, IsSome, All, is_some, refl, sym, ap, subst, ◌∙◌, ◌⊎◌, inl, inr}
-use Rattle.std.proofs.lemmas.Bool.{and_from, and_parts}
+use Rattle.std.proofs.Common.{arith, ◌≡◌, ℕ, suc, ◌==◌, ℤ, pos, negsuc, Bool, true, false, ◌&&◌, if◌then◌else◌, nat_eq, List, [], ◌∷◌, length, option_map, Option, Some, None, IfSome, IsSome, is_some, refl, sym, ap, subst, ◌∙◌}
+use Rattle.std.proofs.lemmas.Bool.{and_from}
 use Rattle.std.proofs.lemmas.Bool.Decides.{nat_tests}
 use Rattle.std.specs.List.{list_all}
 use Rattle.std.specs.Option.{option_and_then}
 use Rattle.cr_base.specs.Scalar.{IsInRange, converted}
 use Rattle.cr_base.specs.declared.scalar.Scalar.TheVariants.{Whole}
 use Rattle.cx_core.specs.Linked.{IsStatic, IsText, IsTypedObject, has_linkage, home_of}
-use Rattle.cx_core.specs.Texts.{HoldText, IsOneLonger, before_zero, bytes_from, followed, stored_byte, text_of_puts}
-use Rattle.cx_core.specs.Trees.{CExpr, expr, CForm, CObject, CProgram, CPut, put, CPuts, no_puts, more_puts, CTy, ty, CTyForm, void, basic, enum_type, pointer, array, record_type, function, form_of_type, whole as whole_form}
-use Rattle.cx_core.specs.declared.program.Linkage.{Linkage}
-use Rattle.cx_core.specs.declared.program.Linkage.TheVariants.{External, Internal, Nothing}
+use Rattle.cx_core.specs.Texts.{HoldText, before_zero, bytes_from, followed, stored_byte, text_of_puts}
+use Rattle.cx_core.specs.Trees.{expr, CForm, CObject, CProgram, CPut, put, CPuts, no_puts, more_puts, CTy, ty, CTyForm, void, basic, enum_type, pointer, array, record_type, function, form_of_type, whole as whole_form}
+use Rattle.cx_core.specs.declared.program.Linkage.TheVariants.{External}
 use Rattle.cx_core.specs.declared.ty.Basic.TheVariants.{Char}
 use Rattle.cx_typed_values.proofs.Ranges.{converted_in_range}
 use Rattle.rs_items.specs.Types.{rust_type, rust_form}
 use Rattle.rs_text.specs.Names.{is_identifier, is_word}
-use Rattle.rs_text.specs.Tree.{Ty, Array, Integer}
-use Rattle.rs_text.specs.declared.integer.IntegerTy.TheVariants.{I8}
+use Rattle.rs_text.specs.Tree.{Array}
 use Rattle.rs_text.specs.Valid.{is_value, valid_attribute, valid_static, valid_ty, valid_values}
-use Rattle.whole_items.specs.Items.{attribute_of, literal_value, put_value, stored_value, text_values, values_of}
+use Rattle.whole_items.specs.Items.{literal_value, put_value, text_values, values_of}
 use Rattle.whole_means.proofs.Items.{static_tree}
 use Rattle.whole_means.proofs.Lists.{Among}
 use Rattle.whole_means.proofs.Things.{object_named}

@@ -1,5 +1,5 @@
 -- The types of a written crate are types of the subset (ISO C99, 6.2.5, 6.7.5; the Rust Reference, "Type system").
-use Rattle.std.proofs.Common.{arith, ◌≡◌, ℕ, zero, suc, ◌*◌, ◌≤◌, ◌<◌, ◌^◌, nat_le, nat_lt, Bool, true, false, ◌&&◌, ◌||◌, if◌then◌else◌, List, [], ◌∷◌, Option, Some, None, IsSome, is_some, All, refl, sym, ap, subst, ◌∙◌, slice_get, get_or, length}
+use Rattle.std.proofs.Common.{arith, ◌≡◌, ℕ, zero, suc, ◌*◌, ◌≤◌, ◌<◌, ◌^◌, nat_le, nat_lt, Bool, true, false, ◌||◌, if◌then◌else◌, List, [], Option, Some, None, IsSome, is_some, refl, sym, ap, subst, ◌∙◌, slice_get, get_or, length}
 use Rattle.std.proofs.lemmas.Bool.{and_from, and_parts}
 use Rattle.std.proofs.lemmas.Bool.Decides.{nat_tests}
 use Rattle.std.proofs.lemmas.Option.{slice_get-get_or, slice_get_within}
@@ -8,23 +8,22 @@ use Rattle.std.specs.Option.{option_and_then, option_flatten}
 use Rattle.cr_base.specs.declared.layout.Laid.{Laid}
 use Rattle.cr_base.specs.Layout.{most_bytes}
 use Rattle.cx_core.specs.declared.ty.Basic.{Basic}
-use Rattle.cx_core.specs.declared.ty.Basic.TheVariants.{Truth, Char, SignedChar, UnsignedChar, Short, UnsignedShort, Int, Unsigned, Long, UnsignedLong, LongLong, UnsignedLongLong}
+use Rattle.cx_core.specs.declared.ty.Basic.TheVariants.{Truth}
 use Rattle.cx_core.specs.Layouts.{CRow, elements, extent, layouts_of, row_at, whole_extent, within_most}
 use Rattle.cx_core.specs.Trees.{CTy, ty, CTyForm, void, basic, enum_type, pointer, array, record_type, function, CParams, unlisted, listed, CTys, no_types, more_types, CRecord, CProgram, form_of_type}
-use Rattle.cx_core.specs.ValidTypes.{AreParamsIn, AreTypes, AreTypesIn, IsArrayOf, IsComplete, IsFormIn, IsParamForm, IsResultForm, IsTypeIn}
+use Rattle.cx_core.specs.ValidTypes.{AreParamsIn, AreTypes, AreTypesIn, IsArrayOf, IsComplete, IsParamForm, IsTypeIn}
 use Rattle.cx_typed_sizes.proofs.Bytes.{complete_has_byte}
-use Rattle.rs_items.specs.Types.{TypeNames, array_or_void, basic_type, code_type, is_record, passed, record_or_void, result_type, rust_form, rust_params, rust_pointer, rust_pointer_form, rust_type, rust_types, with_result}
+use Rattle.rs_items.specs.Types.{TypeNames, array_or_void, basic_type, code_type, is_record, passed, record_or_void, rust_params, rust_pointer, rust_type, rust_types}
 use Rattle.rs_text.specs.Names.{is_identifier, is_module_name, is_plain_identifier}
-use Rattle.rs_text.specs.Tree.{Ty, Integer, Boolean, Void, Pointer, Array, Code, Record, Tys, no_tys, more_tys, OptionTy, no_ty, some_ty, option_ty}
+use Rattle.rs_text.specs.Tree.{Ty, Integer, Boolean, Void, Pointer, Array, Code, Record, Tys, no_tys, more_tys, no_ty, some_ty, option_ty}
 use Rattle.rs_text.specs.Valid.{is_length, is_void, valid_path, valid_result, valid_target, valid_ty, valid_tys}
-use Rattle.rs_tree.specs.declared.ty.RPath.{RPath}
 use Rattle.whole_items.specs.Items.{tys_in, value_type}
-use Rattle.whole_means.proofs.Lists.{Among, among_at}
+use Rattle.whole_means.proofs.Lists.{among_at}
 use Rattle.whole_means.proofs.Rows.{completed_by}
 use Rattle.whole_means.proofs.Things.{record_named}
 use Rattle.whole_means.specs.Written.{IsNamed}
 use Rattle.whole_names.specs.Keys.{a_record}
-use Rattle.whole_names.specs.Kept.{NamedProgram, is_completed, module_of, name_in, path_if, record_path, record_unit, types_of, unit_or}
+use Rattle.whole_names.specs.Kept.{NamedProgram, module_of, name_in, path_if, record_unit, types_of, unit_or}
 use Rattle.whole_names.specs.ModuleNames.{name_or}
 use Rattle.whole_valid.proofs.Names.{all_of, name_identifier, test_of}
 use Rattle.whole_valid.specs.Given.{HasModuleNames, HasWords}
