@@ -53,8 +53,6 @@ group records
 record_rows=$rows
 group flows
 flow_rows=$rows
-group programs
-program_rows=$rows
 built c2rs || exit 1
 
 # The exit status of a unit, as gcc builds it.
@@ -323,26 +321,6 @@ random_flows() {
   fi
 }
 
-# Whole programs and their crates: the runs of both come to the same, and so does the crate as rustc builds it, and the program as gcc does.
-program_crates() {
-  compared 'programs and their crates' program_crates.py --rows "$program_rows" gcc rustc
-}
-
-# Random bodies with jumps: the body's own graph says where a crate may ask by a number where it goes on.
-random_bodies() {
-  compared 'bodies with jumps' random_bodies.py --rows "$program_rows"
-}
-
-# Random expressions with side effects: where one has a meaning, the crate has it, as it runs and as rustc builds it.
-random_effects() {
-  compared 'expressions with side effects' random_effects.py --rows "$program_rows" rustc
-}
-
-# Small programs of csmith.
-csmith_programs() {
-  compared 'programs of csmith' csmith_programs.py --rows "$program_rows" csmith gcc rustc
-}
-
 # Random records of C: a model of the ABI and gcc lay them out alike. The model's answers are rows of the gate.
 random_records() {
   local said
@@ -450,10 +428,6 @@ random_initialisers
 unit_mutants
 relooper_graphs
 random_flows
-program_crates
-random_bodies
-random_effects
-csmith_programs
 random_records
 record_items
 crate_names

@@ -29,11 +29,9 @@ pub(crate) enum Group {
     Records,
     /// Bodies of flows.
     Flows,
-    /// Whole programs and their crates.
-    Programs,
 }
 
-const GROUPS: [(&str, Group); 12] = [
+const GROUPS: [(&str, Group); 11] = [
     ("texts", Group::Texts),
     ("stores", Group::Stores),
     ("crates", Group::Crates),
@@ -45,7 +43,6 @@ const GROUPS: [(&str, Group); 12] = [
     ("forms", Group::Forms),
     ("records", Group::Records),
     ("flows", Group::Flows),
-    ("programs", Group::Programs),
 ];
 
 /// The group of the rows behind a row: the one that it names, or the one before.
@@ -81,7 +78,6 @@ pub(crate) fn answer<R: Files>(
         Group::Forms => answer_to(&form_rows::Stages, alloc, row),
         Group::Records => answer_to(&record_rows::Stages, alloc, row),
         Group::Flows => answer_to(&flow_rows::Stages, alloc, row),
-        Group::Programs => answer_to(&program_rows::Stages, alloc, row),
     }
 }
 

@@ -2,7 +2,7 @@
 //! that is empty or begins with `#` is written as it stands, and so is a line `= NAME`, behind which stand the rows of another group. A
 //! group is a library, which says the form of its rows: `texts` is `text_rows`, `stores` `store_rows`, `crates` `crate_rows`, `jobs`
 //! `job_rows`, `checks` `check_rows`, `runs` `c_run_rows`, `hosts` `host_rows`, `places` `place_rows`, `forms` `form_rows`, `records`
-//! `record_rows`, `flows` `flow_rows` and `programs` `program_rows`.
+//! `record_rows` and `flows` `flow_rows`.
 #![tactic(auto)]
 
 mod group;
